@@ -1,0 +1,1 @@
+// Part lists: the combinatorics of Faà di Bruno's formula.
