@@ -55,6 +55,12 @@ pub fn can_init(len: usize, n: usize, max: usize) -> bool
     if len <= n { n <= max * len } else { false }
 }
 
+fn smaller(m: usize, n: usize) -> usize
+    ensures { λ r. ⌜ r ≡ min m n ⌝ }
+{
+    if m < n { m } else { n }
+}
+
 // Fills the array with the greatest list of parts up to max whose sum is n.
 pub fn init(array: &mut [usize], n: usize, max: usize)
     requires { ⌜ length (now array) ≤ n ⌝ }
@@ -64,8 +70,7 @@ pub fn init(array: &mut [usize], n: usize, max: usize)
     if len == 0 {
         return;
     }
-    let most = n - (len - 1);
-    let first = if most < max { most } else { max };
+    let first = smaller(n - (len - 1), max);
     array[0] = first;
     init(&mut array[1..], n - first, first);
 }
@@ -130,13 +135,15 @@ pub fn over_runs(x: u64, list: &[usize]) -> u64
     let mut run = 1;
     let mut i = 1;
     while i < list.len() {
-        if list[i] == list[i - 1] {
+        let a = list[i - 1];
+        let b = list[i];
+        i += 1;
+        if b == a {
             run += 1;
         } else {
             rest = rest / factorial(run);
             run = 1;
         }
-        i += 1;
     }
     rest / factorial(run)
 }
