@@ -1,10 +1,11 @@
 -- `init` fills the array with the greatest list: its first part, and the greatest list of what is left. The measure is the array's length.
 -- Assumes nothing.
-use lib.ListN.{length}
+use lib.ListN.{length, set, length-set}
+use Rattle.partitions.proofs.Tail.{tailOf, tail-length, put-length, none-left, first-then}
 use mathlib.Core.Path.{_≡_, refl, sym, ap, _∙_}
 use native.Mathlib.Omega.{arith}
 use borrow.Author.Needs.{needs}
-use Prim.Native.Nat.{ℕ, _<_}
+use Prim.Native.Nat.{ℕ, _-_, _<_}
 use borrow.Fn.Kinds.{In}
 use borrow.Fn.PlainCycle.{Measures, is, falls, and}
 use Rattle.partitions.proofs.inner.init.Reads as init
@@ -29,7 +30,7 @@ init-returns : (t : ℕ) → init-lts.Need-returns (
   init-below t,
   init.Post,
 ) (init-at t) init.Post
-init-returns t c = ?
+init-returns t c = none-left (c .before .before .args .array .now) (c .before .before .args .n) (c .before .before .args .max) (c .if1 .taken)
 
 init-sub-smaller : (t : ℕ) → init-lts.Need-sub-smaller (
   smaller-reads.Asked,
@@ -69,7 +70,7 @@ init-sub-init : (t : ℕ) → init-lts.Need-sub-init (
   init-below t,
   init.Post,
 ) (init-at t) init.Post
-init-sub-init t c = search needs
+init-sub-init t c = simp length-set (omega arith)
 
 init-part-init-start : (t : ℕ) → init-lts.Need-part-init-start (
   smaller-reads.Asked,
@@ -77,7 +78,7 @@ init-part-init-start : (t : ℕ) → init-lts.Need-part-init-start (
   init-below t,
   init.Post,
 ) (init-at t) init.Post
-init-part-init-start t c = search needs
+init-part-init-start t c = simp length-set (omega arith)
 
 init-part-init-end : (t : ℕ) → init-lts.Need-part-init-end (
   smaller-reads.Asked,
@@ -101,7 +102,11 @@ init-init-requires : (t : ℕ) → init-lts.Need-init-requires (
   init-below t,
   init.Post,
 ) (init-at t) init.Post
-init-init-requires t c κs = ?
+init-init-requires t c κs =
+    let x = c .before .before .before .before .args .array .now in
+    let f = c .before .smaller .result in
+    let len : length (tailOf (set x 0 f)) ≡ length x - 1 = tail-length (set x 0 f) ∙ ap (λ (k : ℕ). k - 1) (length-set x 0 f) in
+    (omega arith, omega arith)
 
 init-same-length : (t : ℕ) → init-lts.Need-same-length (
   smaller-reads.Asked,
@@ -109,7 +114,10 @@ init-same-length : (t : ℕ) → init-lts.Need-same-length (
   init-below t,
   init.Post,
 ) (init-at t) init.Post
-init-same-length t c = ?
+init-same-length t c =
+    let x = c .before .before .before .before .before .before .before .args .array .now in
+    let f = c .before .before .before .before .smaller .result in
+    put-length (set x 0 f) (c .before .before .init .last .0) (rw length-set (omega arith)) (c .before .before .init .kept .0) ∙ length-set x 0 f
 
 init-returns-2 : (t : ℕ) → init-lts.Need-returns-2 (
   smaller-reads.Asked,
@@ -117,7 +125,9 @@ init-returns-2 : (t : ℕ) → init-lts.Need-returns-2 (
   init-below t,
   init.Post,
 ) (init-at t) init.Post
-init-returns-2 t c = ?
+init-returns-2 t c =
+    let a = c .before .before .before .before .before .before .before .args in
+    first-then (a .array .now) (a .n) (a .max) (c .before .before .before .before .smaller .result) (c .before .before .init .last .0) (omega arith) (c .before .before .before .before .smaller .ensures) (c .before .before .init .ensures)
 
 pub +init-spec : {M : Type 1} → statement M
 +init-spec = close μ-init λ t. init-lts.spec (
