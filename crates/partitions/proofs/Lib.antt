@@ -1,2 +1,3 @@
 pub mod Slices
 pub mod Tail
+pub mod Moves

@@ -1,7 +1,10 @@
 use mathlib.Core.Path.{_≡_, refl, sym, ap, _∙_}
 use native.Mathlib.Omega.{arith}
 use borrow.Author.Needs.{needs}
-use Prim.Native.Nat.{ℕ, _<_}
+use Prim.Native.Nat.{ℕ, _+_, _-_, _≤_, _<_}
+use lib.ListN.{length, set, length-set}
+use Rattle.partitions.proofs.Tail.{tailOf, tail-length, put-length}
+use Rattle.partitions.proofs.Moves.{no-tail, head-positive, head-small, tail-falls, tail-total, length-le, moved-tail, moved-none, moved-anew, sum-is, lowered, lowered-length}
 use borrow.Fn.Kinds.{In}
 use borrow.Fn.PlainCycle.{Measures, is, falls, and}
 use Rattle.partitions.proofs.inner.next.Reads as next
@@ -32,7 +35,8 @@ next-returns : (t : ℕ) → next-lts.Need-returns (
   init-reads.Asked,
   init-reads.Learnt,
 ) (next-at t) next.Post
-next-returns t c = search needs
+next-returns t c =
+    no-tail (c .before .before .args .array .now) (search needs)
 
 next-sub-total : (t : ℕ) → next-lts.Need-sub-total (
   total-reads.Asked,
@@ -116,7 +120,8 @@ next-sub-max : (t : ℕ) → next-lts.Need-sub-max (
   init-reads.Asked,
   init-reads.Learnt,
 ) (next-at t) next.Post
-next-sub-max t c = search needs
+next-sub-max t c =
+    head-positive (c .before .before .before .before .before .before .args .array .now) (omega arith) (c .before .before .before .before .before .before .pre .1 .0)
 
 next-sub-next : (t : ℕ) → next-lts.Need-sub-next (
   total-reads.Asked,
@@ -164,7 +169,10 @@ next-next-requires : (t : ℕ) → next-lts.Need-next-requires (
   init-reads.Asked,
   init-reads.Learnt,
 ) (next-at t) next.Post
-next-next-requires t c κs = search needs
+next-next-requires t c κs =
+    let x = c .before .before .before .before .before .before .before .args .array .now in
+    let p = c .before .before .before .before .before .before .before .pre .1 in
+    (omega (arith, tail-length x), (tail-falls x (omega arith) (p .0), omega (arith, tail-total x (omega arith) (p .0))))
 
 next-same-length : (t : ℕ) → next-lts.Need-same-length (
   total-reads.Asked,
@@ -188,7 +196,8 @@ next-returns-2 : (t : ℕ) → next-lts.Need-returns-2 (
   init-reads.Asked,
   init-reads.Learnt,
 ) (next-at t) next.Post
-next-returns-2 t c = search needs
+next-returns-2 t c =
+    moved-tail (c .before .before .before .before .before .before .before .before .before .before .before .args .array .now) (c .before .before .before .next .last .0) (omega arith) (c .before .before .before .next .ensures .1) (sym (c .before .before .before .next .ensures .0) ∙ c .if2 .taken)
 
 next-sub-can-init : (t : ℕ) → next-lts.Need-sub-can-init (
   total-reads.Asked,
@@ -212,7 +221,10 @@ next-can-init-requires : (t : ℕ) → next-lts.Need-can-init-requires (
   init-reads.Asked,
   init-reads.Learnt,
 ) (next-at t) next.Post
-next-can-init-requires t c κs = search needs
+next-can-init-requires t c κs =
+    let x = c .before .before .before .before .before .before .before .before .before .before .before .args .array .now in
+    let p = c .before .before .before .before .before .before .before .before .before .before .before .pre .1 in
+    (omega (arith, length-le 20 x (p .0)), omega (arith, head-small x (omega arith) (p .0)))
 
 next-slice-write-array : (t : ℕ) → next-lts.Need-slice-write-array (
   total-reads.Asked,
@@ -236,7 +248,9 @@ next-sub-init : (t : ℕ) → next-lts.Need-sub-init (
   init-reads.Asked,
   init-reads.Learnt,
 ) (next-at t) next.Post
-next-sub-init t c = search needs
+next-sub-init t c =
+    let x = c .before .before .before .before .before .before .before .before .before .before .before .before .before .args .array .now in
+    omega (arith, lowered-length x (c .before .before .before .before .before .next .last .0) (omega arith) (c .before .before .before .before .before .next .kept .0))
 
 next-part-init-start : (t : ℕ) → next-lts.Need-part-init-start (
   total-reads.Asked,
@@ -248,7 +262,9 @@ next-part-init-start : (t : ℕ) → next-lts.Need-part-init-start (
   init-reads.Asked,
   init-reads.Learnt,
 ) (next-at t) next.Post
-next-part-init-start t c = search needs
+next-part-init-start t c =
+    let x = c .before .before .before .before .before .before .before .before .before .before .before .before .before .args .array .now in
+    omega (arith, lowered-length x (c .before .before .before .before .before .next .last .0) (omega arith) (c .before .before .before .before .before .next .kept .0))
 
 next-part-init-end : (t : ℕ) → next-lts.Need-part-init-end (
   total-reads.Asked,
@@ -272,7 +288,11 @@ next-init-requires : (t : ℕ) → next-lts.Need-init-requires (
   init-reads.Asked,
   init-reads.Learnt,
 ) (next-at t) next.Post
-next-init-requires t c κs = search needs
+next-init-requires t c κs =
+    let x = c .before .before .before .before .before .before .before .before .before .before .before .before .before .before .args .array .now in
+    let p = c .before .before .before .before .before .before .before .before .before .before .before .before .before .before .pre .1 in
+    let ys = c .before .before .before .before .before .before .next .last .0 in
+    omega (arith, tail-length (lowered x ys), lowered-length x ys (omega arith) (c .before .before .before .before .before .before .next .kept .0), sum-is x (c .before .before .before .before .before .before .before .before .before .total .result) (omega arith) (p .0) (p .1) (c .before .before .before .before .before .before .before .before .before .total .ensures), tail-length x, length-le 20 (tailOf x) (tail-falls x (omega arith) (p .0)))
 
 next-same-length-2 : (t : ℕ) → next-lts.Need-same-length-2 (
   total-reads.Asked,
@@ -284,7 +304,11 @@ next-same-length-2 : (t : ℕ) → next-lts.Need-same-length-2 (
   init-reads.Asked,
   init-reads.Learnt,
 ) (next-at t) next.Post
-next-same-length-2 t c = search needs
+next-same-length-2 t c =
+    let x = c .before .before .before .before .before .before .before .before .before .before .before .before .before .before .before .before .before .args .array .now in
+    let ys = c .before .before .before .before .before .before .before .before .before .next .last .0 in
+    let long = lowered-length x ys (omega arith) (c .before .before .before .before .before .before .before .before .before .next .kept .0) in
+    put-length (lowered x ys) (c .before .before .init .last .0) (omega (arith, long)) (c .before .before .init .kept .0) ∙ long
 
 next-returns-3 : (t : ℕ) → next-lts.Need-returns-3 (
   total-reads.Asked,
@@ -296,7 +320,14 @@ next-returns-3 : (t : ℕ) → next-lts.Need-returns-3 (
   init-reads.Asked,
   init-reads.Learnt,
 ) (next-at t) next.Post
-next-returns-3 t c = search needs
+next-returns-3 t c =
+    let x = c .before .before .before .before .before .before .before .before .before .before .before .before .before .before .before .before .before .args .array .now in
+    let p = c .before .before .before .before .before .before .before .before .before .before .before .before .before .before .before .before .before .pre .1 in
+    moved-anew x (c .before .before .before .before .before .before .before .before .before .next .last .0) (c .before .before .init .last .0) (c .before .before .before .before .before .before .before .before .before .before .before .before .total .result + 1) (omega arith) (c .before .before .before .before .before .before .before .before .before .next .kept .0)
+    (sym (c .before .before .before .before .before .before .before .before .before .next .ensures .0) ∙ c .before .before .before .before .before .before .if2 .left)
+    (sum-is x (c .before .before .before .before .before .before .before .before .before .before .before .before .total .result) (omega arith) (p .0) (p .1) (c .before .before .before .before .before .before .before .before .before .before .before .before .total .ensures))
+    (sym (c .before .before .before .before .before .can-init .ensures) ∙ c .before .before .before .before .if3 .taken)
+    (c .before .before .init .ensures)
 
 next-same-length-3 : (t : ℕ) → next-lts.Need-same-length-3 (
   total-reads.Asked,
@@ -320,7 +351,13 @@ next-returns-4 : (t : ℕ) → next-lts.Need-returns-4 (
   init-reads.Asked,
   init-reads.Learnt,
 ) (next-at t) next.Post
-next-returns-4 t c = search needs
+next-returns-4 t c =
+    let x = c .before .before .before .before .before .before .before .before .before .before .before .before .before .args .array .now in
+    let p = c .before .before .before .before .before .before .before .before .before .before .before .before .before .pre .1 in
+    moved-none x (c .before .before .before .before .before .next .last .0) (c .before .before .before .before .before .before .before .before .total .result + 1) (omega arith) (c .before .before .before .before .before .next .ensures .1)
+    (sym (c .before .before .before .before .before .next .ensures .0) ∙ c .before .before .if2 .left)
+    (sum-is x (c .before .before .before .before .before .before .before .before .total .result) (omega arith) (p .0) (p .1) (c .before .before .before .before .before .before .before .before .total .ensures))
+    (sym (c .before .can-init .ensures) ∙ c .if3 .left)
 
 pub +next-spec : {M : Type 1} → statement M
 +next-spec = close μ-next λ t. next-lts.spec (

@@ -65,11 +65,18 @@ loop-again-2 : tie.Need-loop-again-2 Inv-loop μ-loop
 loop-again-2 c =
     let l = c .before .before .before .before .before .loop in
     let list = c .before .before .before .before .before .before .before .args .list .now in
-    let rest = runsFrom (getD list (l .i + 1 - 1) 0) 1 (drop (l .i + 1) list) in
-    (search needs, (search needs, (search needs,
-    ap (λ (f : ℕ). divide (l .rest / f) rest) (c .factorial .ensures)
-    ∙ divide-first (l .rest) (l .run) rest
-    ∙ ap (divide (l .rest)) (sym (run-over (getD list (l .i - 1) 0) (l .run) list (l .i) (search needs) (c .before .if1 .left))) ∙ l .inv .1 .1 .1)))
+    let rest = runsFrom (getD list (l .i + 1 - 1) 0) 1 (drop (l .i + 1) list) in (
+      search needs,
+      (
+        search needs,
+        (
+          search needs,
+          ap (λ (f : ℕ). divide (l .rest / f) rest) (c .factorial .ensures)
+              ∙ divide-first (l .rest) (l .run) rest
+              ∙ ap (divide (l .rest)) (sym (run-over (getD list (l .i - 1) 0) (l .run) list (l .i) (search needs) (c .before .if1 .left))) ∙ l .inv .1 .1 .1,
+        ),
+      ),
+    )
 
 factorial-requires-2 : tie.Need-factorial-requires-2 Inv-loop μ-loop
 factorial-requires-2 c κs = search needs
