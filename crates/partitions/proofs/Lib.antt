@@ -1,0 +1,3 @@
+pub mod Tests
+pub mod Down
+pub mod Lists
