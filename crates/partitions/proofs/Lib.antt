@@ -1,3 +1,5 @@
 pub mod Tests
 pub mod Down
 pub mod Lists
+pub mod Member
+pub mod Successor

@@ -15,7 +15,7 @@ pub data Every (P : List ℕ → Type 0) : List (List ℕ) → Type 0 where
   nil : Every P []
   and : {x : List ℕ} {xs : List (List ℕ)} → P x → Every P xs → Every P (x ∷ xs)
 
-every-append : {P : List ℕ → Type 0} {xs ys : List (List ℕ)} → Every P xs → Every P ys → Every P (xs ++ ys)
+pub every-append : {P : List ℕ → Type 0} {xs ys : List (List ℕ)} → Every P xs → Every P ys → Every P (xs ++ ys)
 every-append nil q = q
 every-append (and p ps) q = and p (every-append ps q)
 
@@ -23,7 +23,7 @@ every-map : {P Q : List ℕ → Type 0} (f : List ℕ → List ℕ) {xs : List (
 every-map f h nil = nil
 every-map f h (and p ps) = and (h _ p) (every-map f h ps)
 
-every-weaken : {P Q : List ℕ → Type 0} {xs : List (List ℕ)} → ((l : List ℕ) → P l → Q l) → Every P xs → Every Q xs
+pub every-weaken : {P Q : List ℕ → Type 0} {xs : List (List ℕ)} → ((l : List ℕ) → P l → Q l) → Every P xs → Every Q xs
 every-weaken h nil = nil
 every-weaken h (and p ps) = and (h _ p) (every-weaken h ps)
 
