@@ -3,3 +3,4 @@ pub mod Down
 pub mod Lists
 pub mod Member
 pub mod Successor
+pub mod Walked
