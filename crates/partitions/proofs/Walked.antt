@@ -18,7 +18,7 @@ use Rattle.partitions.specs.declared.Stepped.{Stepped}
 use Rattle.partitions.proofs.Tests.{by-leb, by-eqb}
 use Rattle.partitions.proofs.Lists.{Is}
 use Rattle.partitions.proofs.Member.{from-is, from-head, from-here}
-use Rattle.partitions.proofs.Successor.{first, by-next, next-is}
+use Rattle.partitions.proofs.Successor.{first, greatest-length, by-next, next-is}
 
 -- ---- the range
 pub in-range : (order len : ℕ) → 1 ≤ len → len ≤ order → order ≤ 20 → refusal order len ≡ 0
@@ -37,17 +37,17 @@ range-of order len =
     (λ g. by-leb (suc order) len (λ b. Path ℕ (cond b 3 0) 0 → InRange order len) (λ _ e. absurd (suc-ne-zero 2 e)) (λ f _. (omega arith, omega arith, omega arith))))
 
 -- ---- the start
+least-times : (order len : ℕ) → 1 ≤ len → order ≤ order * len
+least-times order zero h = absurd (omega arith)
+least-times order (suc len) h = omega arith
+
 pub started-is : (order len : ℕ) → refusal order len ≡ 0 →
     started order len ≡ record { refusal = 0; walk = record { order = order; len = len; current = padded (greatest len order order); end = false } }
 unfolding started
 started-is order len e =
     let h = range-of order len e in
-    let f = first len order order (h .1) (below order len (h .0)) in
+    let f = first len order order (h .1) (least-times order len (h .0)) in
     ap (startedBy order len) e ∙ ap (startedAt order len) (f .1)
-  where
-    below : (order len : ℕ) → 1 ≤ len → order ≤ order * len
-    below order zero h = absurd (omega arith)
-    below order (suc len) h = omega arith
 
 -- ---- a step
 pub stepped-range : (w : CompositionIter) → refusal (w .order) (w .len) ≡ 0 → stepped w ≡ cond (w .end) (atEnd w) (handed w (remaining w))
@@ -138,7 +138,7 @@ module _ (w : CompositionIter) (e : refusal (w .order) (w .len) ≡ 0) (f : w .e
       g (λ _ _ i _. stepped-first w l [] e i) (λ s _ _ _ _ h. absurd (true≢false h)) remains
 
 -- ---- what a step's answer says
-answer : List ℕ → Composition
+abbrev pub answer : List ℕ → Composition
 answer l = record { refusal = 0; ended = false; parts = padded l }
 
 data Says (w : CompositionIter) : Stepped → Type 0 where
@@ -159,3 +159,80 @@ says w = by (refusal (w .order) (w .len))
     by : (c : ℕ) → Says w (steppedBy w c)
     by zero = one (w .end) (from (take (w .len) (w .current)) (lists (w .order) (w .len))) (remaining w) refl refl
     by (suc c) = none c
+
+pub step-gives : (w : CompositionIter) → stepped w .item .refusal ≡ 0 → stepped w .item .ended ≡ false →
+    (l : List ℕ) × (ls : List (List ℕ)) × (remaining w ≡ l ∷ ls) × (padded l ≡ stepped w .item .parts) × (remaining (stepped w .walk) ≡ ls)
+step-gives w = read (says w)
+  where
+    read : {s : Stepped} → Says w s → s .item .refusal ≡ 0 → s .item .ended ≡ false →
+        (l : List ℕ) × (ls : List (List ℕ)) × (remaining w ≡ l ∷ ls) × (padded l ≡ s .item .parts) × (remaining (s .walk) ≡ ls)
+    read (none c) e f = absurd (suc-ne-zero c e)
+    read (over r) e f = absurd (true≢false f)
+    read (gives {l = l} {ls = ls} r) e f = (l, ls, r, refl, moved-remains w l ls r)
+
+pub step-ends : (w : CompositionIter) → stepped w .item .refusal ≡ 0 → stepped w .item .ended ≡ true → remaining w ≡ []
+step-ends w = read (says w)
+  where
+    read : {s : Stepped} → Says w s → s .item .refusal ≡ 0 → s .item .ended ≡ true → remaining w ≡ []
+    read (none c) e f = absurd (suc-ne-zero c e)
+    read (over r) e f = r
+    read (gives r) e f = absurd (true≢false (sym f))
+
+-- ---- the walk from its start to its end
+-- after the start all lists remain
+pub started-remains : (order len : ℕ) → refusal order len ≡ 0 → remaining (started order len .walk) ≡ lists order len
+unfolding remaining
+started-remains order len e =
+    let h = range-of order len e in
+    let f = first len order order (h .1) (least-times order len (h .0)) in
+    ap (λ s. remaining (s .walk)) (started-is order len e)
+    ∙ ap (λ x. from x (lists order len)) (take-append len (greatest len order order) (replicate (20 - length (greatest len order order)) 0) (greatest-length len order order))
+    ∙ ap (from (greatest len order order)) (f .1)
+    ∙ from-here (greatest len order order) (f .0)
+    ∙ sym (f .1)
+
+-- the walk after n steps, and what these hand out
+unfoldable pub walked : ℕ → CompositionIter → CompositionIter
+walked zero w = w
+walked (suc n) w = walked n (stepped w .walk)
+
+unfoldable pub items : ℕ → CompositionIter → List Composition
+items zero w = []
+items (suc n) w = stepped w .item ∷ items n (stepped w .walk)
+
+moved-range : (w : CompositionIter) (ls : List (List ℕ)) → refusal (w .order) (w .len) ≡ 0 → refusal (moved w ls .order) (moved w ls .len) ≡ 0
+moved-range w [] e = e
+moved-range w (l ∷ ls) e = e
+
+moved-end : (w : CompositionIter) (ls : List (List ℕ)) → ls ≡ [] → moved w ls .end ≡ true
+moved-end w [] e = refl
+moved-end w (l ∷ ls) e = absurd (nil≢cons (sym e))
+
+whole : (w : CompositionIter) (ls : List (List ℕ)) → refusal (w .order) (w .len) ≡ 0 → remaining w ≡ ls → (ls ≡ [] → w .end ≡ true) →
+    (items (length ls) w ≡ map answer ls) × (stepped (walked (length ls) w) ≡ atEnd (walked (length ls) w))
+unfolding walked items
+whole w [] e f g = (refl, stepped-end w e (g refl))
+whole w (l ∷ ls) e f g =
+    let s = stepped-first w l ls e f in
+    let i = whole (moved w ls) ls (moved-range w ls e) (moved-remains w l ls f) (moved-end w ls) in (
+      ap (λ x. x .item ∷ items (length ls) (x .walk)) s ∙ ap (λ x. answer l ∷ x) (i .0),
+      subst (λ x. stepped (walked (length ls) (x .walk)) ≡ atEnd (walked (length ls) (x .walk))) (sym s) (i .1),
+    )
+
+-- for 1 ≤ len ≤ order ≤ 20 (`in-range`): the steps hand out the lists in their order, each once, and the step after them says that the walk has ended
+module _ (order len : ℕ) (e : refusal order len ≡ 0) where
+  through : (items (length (lists order len)) (started order len .walk) ≡ map answer (lists order len))
+      × (stepped (walked (length (lists order len)) (started order len .walk)) ≡ atEnd (walked (length (lists order len)) (started order len .walk)))
+  through =
+      let h = range-of order len e in
+      let f = first len order order (h .1) (least-times order len (h .0)) in
+      whole (started order len .walk) (lists order len)
+      (ap (λ s. refusal (s .walk .order) (s .walk .len)) (started-is order len e) ∙ e)
+      (started-remains order len e)
+      (λ z. absurd (nil≢cons (sym z ∙ f .1)))
+
+  pub walk-gives : items (length (lists order len)) (started order len .walk) ≡ map answer (lists order len)
+  walk-gives = through .0
+
+  pub walk-ends : stepped (walked (length (lists order len)) (started order len .walk)) .item .ended ≡ true
+  walk-ends = ap (λ s. s .item .ended) (through .1)
