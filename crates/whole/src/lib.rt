@@ -47,7 +47,7 @@ pub fn sub(a: i64, b: i64) -> Whole
     }
 }
 
-fn magnitude(a: i64) -> u64
+pub fn magnitude(a: i64) -> u64
     ensures { λ r. ⌜ r ≡ natAbs a ⌝ }
 {
     if a < 0 { (-1 - a) as u64 + 1 } else { a as u64 }
