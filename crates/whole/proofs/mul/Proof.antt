@@ -9,7 +9,8 @@ use mir.Val.{SFits}
 use mir.Facts.{toZ-ofZ}
 use borrow.Author.Needs.{needs}
 use Rattle.whole.specs.Inner.{room}
-use Rattle.whole.proofs.Ints.{raw-fits, raw-value, mul-in, mul-out, mul-small, mul-test}
+use Rattle.whole.proofs.Range.{raw-fits, raw-value}
+use Rattle.whole.proofs.Products.{mul-in, mul-out, mul-small, mul-test}
 use Rattle.whole.proofs.mul.Statement.{statement}
 use Rattle.whole.proofs.mul.Tie as tie
 
