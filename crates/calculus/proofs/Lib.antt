@@ -1,4 +1,6 @@
 pub mod Figures
+pub mod Related
+pub mod Rising
 pub mod Ints
 pub mod Ring
 pub mod Sums

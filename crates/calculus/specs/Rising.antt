@@ -16,11 +16,11 @@ module _ {X : Type 0} (blank : X) where
   rising step m = step (before step m) m
 
 -- Entries of two indices, the first rising, then the second: the rows rise, and so do the entries of each row.
-module _ {X : Type 0} (blank : X) where
-  -- the rows, with q in the place of row m
-  abbrev pub withRow : (ℕ → ℕ → X) → ℕ → (ℕ → X) → ℕ → ℕ → X
-  withRow rows m q i j = cond (eqb i m) (q j) (rows i j)
+-- the rows, with q in the place of row m
+abbrev pub withRow : {X : Type 0} → (ℕ → ℕ → X) → ℕ → (ℕ → X) → ℕ → ℕ → X
+withRow rows m q i j = cond (eqb i m) (q j) (rows i j)
 
+module _ {X : Type 0} (blank : X) where
   -- the row m, from the rows before it
   abbrev pub risingRow : ((ℕ → ℕ → X) → ℕ → ℕ → X) → (ℕ → ℕ → X) → ℕ → ℕ → X
   risingRow step rows m = rising blank (λ q n. step (withRow rows m q) m n)
