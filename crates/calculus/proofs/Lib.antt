@@ -1,6 +1,9 @@
 pub mod Figures
 pub mod Related
 pub mod Rising
+pub mod Alike
+pub mod CarryAlike
+pub mod UpTo
 pub mod Ints
 pub mod Ring
 pub mod Sums

@@ -14,16 +14,19 @@ unfoldable pub digits : ℕ → List ℕ → ℕ → List ℕ
 digits d [] mask = []
 digits d (a ∷ l) mask = mask % d ∷ digits d l (mask / d)
 
-module _ {S A : Type 0} (M : Module S A) (d : ℕ) (c : ℕ → ℕ → S) (entry : List ℕ → A) where
-  -- the curve's coordinate k is c k; the field's derivative, once by each variable of a list, is the list's entry.
-  -- x times, for each part in turn, the derivative of the part's order of the coordinate that its digit names
+-- x times, for each part in turn, the derivative of the part's order of the coordinate that its digit names; the coordinate k is c k
+module _ {S : Type 0} (K : Kind S) (d : ℕ) (c : ℕ → ℕ → S) where
   unfoldable pub factors : S → List ℕ → ℕ → S
   factors x [] mask = x
-  factors x (a ∷ l) mask = factors (M .scalars .times x (c (mask % d) a)) l (mask / d)
+  factors x (a ∷ l) mask = factors (K .times x (c (mask % d) a)) l (mask / d)
 
-  -- over all masks
+-- the field's derivative, once by each variable of a list, is the list's entry
+module _ {S A : Type 0} (M : Module S A) (d : ℕ) (c : ℕ → ℕ → S) (entry : List ℕ → A) where
+  -- over all masks, the entry times the factors
   abbrev pub tensor : List ℕ → A
-  tensor l = inTurn (M .plus) (M .nought) (λ mask. M .scale (entry (digits d l mask)) (factors (M .scalars .one) l mask)) (d ^ length l)
+  tensor l =
+      let K = M .scalars in
+      inTurn (M .plus) (M .nought) (λ mask. M .scale (entry (digits d l mask)) (factors K d c (K .one) l mask)) (d ^ length l)
 
   abbrev pub summand : List ℕ → A
   summand l = M .scale (tensor l) (M .scalars .ofNat (multiplicity l))
