@@ -4,3 +4,7 @@ pub mod Lists
 pub mod Member
 pub mod Successor
 pub mod Walked
+pub mod Out
+pub mod Mult
+pub mod Runs
+pub mod Exact
