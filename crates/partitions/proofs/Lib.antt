@@ -8,3 +8,4 @@ pub mod Out
 pub mod Mult
 pub mod Runs
 pub mod Exact
+pub mod Stirling
