@@ -8,4 +8,6 @@ pub mod Out
 pub mod Mult
 pub mod Runs
 pub mod Exact
+pub mod Triangle
 pub mod Stirling
+pub mod Figures

@@ -1,40 +1,16 @@
--- The Stirling numbers of the second kind: the table of them, and that they count what the part lists count, to order 20.
+-- The multiplicities of the part lists of an order and a len add up to the Stirling number of the second kind, to order 20.
 -- Assumes nothing.
-use mathlib.Core.Path.{_≡_, refl, sym, _∙_, ap, ap₂, subst}
-use mathlib.Core.Bool.{Bool, true, false, cond}
-use mathlib.Core.List.{List, [], _∷_, _++_}
-use Prim.Native.Nat.{ℕ, zero, suc, _+_, _*_, _/_, _≤_, _<_}
+use mathlib.Core.Path.{_≡_, sym, _∙_, subst}
+use mathlib.Core.Bool.{Bool, true, false}
+use Prim.Native.Nat.{ℕ, zero, suc, _≤_, _<_}
 use native.Mathlib.Omega.{arith}
 use lib.Dec.{T, eqb, eqb→eq}
-use native.Mathlib.Nat.{add-zero, zero-add}
-use lib.ListN.{length, getD}
+use lib.ListN.{getD}
 use Rattle.partitions.specs.Parts.{total, parts, lists, fact, divide, runsFrom, runs, multiplicity}
 use Rattle.partitions.specs.Count.{stirling, totalCount}
 use Rattle.partitions.proofs.Tests.{by-eqb}
+use Rattle.partitions.proofs.Triangle.{row, row-is}
 
--- S(n, 0), S(n, 1), .. by the recurrence: the entries after the first, from those of the order before, s k first
-abbrev up : ℕ → List ℕ → List ℕ
-up k [] = []
-up k (a ∷ r) = (suc k * getD r 0 0 + a) ∷ up (suc k) r
-
-abbrev row : ℕ → List ℕ
-row zero = 1 ∷ []
-row (suc n) = 0 ∷ up 0 (row n)
-
-up-is : (k : ℕ) (l : List ℕ) (i : ℕ) → getD (up k l) i 0 ≡ suc (k + i) * getD l (suc i) 0 + getD l i 0
-up-is k [] i = omega arith
-up-is k (a ∷ r) zero = ap (λ x. suc x * getD r 0 0 + a) (sym (add-zero k))
-up-is k (a ∷ r) (suc i) = up-is (suc k) r i ∙ ap (λ x. suc x * getD r (suc i) 0 + getD r i 0) (omega arith)
-
-pub row-is : (n k : ℕ) → getD (row n) k 0 ≡ stirling n k
-unfolding stirling
-row-is zero zero = refl
-row-is zero (suc k) = refl
-row-is (suc n) zero = refl
-row-is (suc n) (suc k) =
-    up-is 0 (row n) k ∙ ap (λ x. suc x * getD (row n) (suc k) 0 + getD (row n) k 0) (zero-add k) ∙ ap₂ (λ (x y : ℕ). suc k * x + y) (row-is n (suc k)) (row-is n k)
-
--- ---- tests below a bound
 abbrev both : Bool → Bool → Bool
 both true b = b
 both false b = false
