@@ -3,13 +3,12 @@
 use mathlib.Core.Path.{_≡_, refl, sym, _∙_, ap, subst}
 use mathlib.Core.Bool.{true}
 use mathlib.Core.List.{List, [], _∷_, _++_}
-use Prim.Native.Nat.{ℕ, zero, suc, _+_, _*_, _/_, _%_, _^_, _≤_, _<_}
+use Prim.Native.Nat.{ℕ, zero, suc, _*_, _/_, _%_, _^_, _≤_, _<_}
 use native.Mathlib.Omega.{arith}
 use native.Mathlib.Nat.{mul-div-cancel, mul-mod-left, mul-le-mul, mul-assoc, le-refl, le-trans, div-le-self, lt-of-le-of-lt}
 use lib.Dec.{lit<}
 use Rattle.partitions.specs.Parts.{total, fact, divide, runs, multiplicity}
 use Rattle.partitions.specs.Count.{isList}
-use Rattle.partitions.proofs.Tests.{by-leb}
 use Rattle.partitions.proofs.Down.{Down}
 use Rattle.partitions.proofs.Member.{list-down}
 use Rattle.partitions.proofs.Out.{fact-pos, down-pos}

@@ -1,7 +1,7 @@
 -- The figures of the part lists, by computation.
 -- Assumes nothing.
 use mathlib.Core.Path.{_≡_, refl}
-use mathlib.Core.List.{List, [], _∷_, map}
+use mathlib.Core.List.{[], _∷_, map}
 use lib.ListN.{replicate}
 use Rattle.partitions.specs.Parts.{total, fact, parts, lists, divide, runsFrom, runs, multiplicity}
 use Rattle.partitions.specs.Count.{totalCount, stirling}
