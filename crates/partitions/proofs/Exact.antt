@@ -7,13 +7,14 @@ use Prim.Native.Nat.{ℕ, zero, suc, _*_, _/_, _%_, _^_, _≤_, _<_}
 use native.Mathlib.Omega.{arith}
 use native.Mathlib.Nat.{mul-div-cancel, mul-mod-left, mul-le-mul, mul-assoc, le-refl, le-trans, div-le-self, lt-of-le-of-lt}
 use lib.Dec.{lit<}
+use lib.ListN.{length, getD}
 use Rattle.partitions.specs.Parts.{total, fact, divide, runs, multiplicity}
 use Rattle.partitions.specs.Count.{isList}
-use Rattle.partitions.proofs.Down.{Down}
+use Rattle.partitions.proofs.Down.{Down, long}
 use Rattle.partitions.proofs.Member.{list-down}
 use Rattle.partitions.proofs.Out.{fact-pos, down-pos}
 use Rattle.partitions.proofs.Mult.{weight-divides}
-use Rattle.partitions.proofs.Runs.{facts, facts-weight}
+use Rattle.partitions.proofs.Runs.{facts, facts-weight, run-most}
 
 -- ---- factorials
 pub fact-most : (a b : ℕ) → a ≤ b → fact a ≤ fact b
@@ -90,3 +91,10 @@ list-exactly l e = down-exactly (list-down l e)
 
 pub list-exact : (l : List ℕ) → isList l ≡ true → multiplicity l * facts (l ++ runs l) ≡ fact (total l)
 list-exact l e = down-exact (list-down l e)
+
+-- ---- the numbers whose factorials are taken are at most the sum
+pub list-long : (l : List ℕ) → isList l ≡ true → length l ≤ total l
+list-long l e = long (list-down l e)
+
+pub list-run : (l : List ℕ) (i : ℕ) → isList l ≡ true → getD (runs l) i 0 ≤ total l
+list-run l i e = le-trans (run-most l i) (list-long l e)

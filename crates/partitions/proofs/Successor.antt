@@ -62,7 +62,9 @@ parts-suc k m n = refl
 
 group-yes : (k m n : ℕ) → suc m ≤ n → first-group k m n ≡ map (λ l. suc m ∷ l) (parts k (suc m) (n - suc m))
 unfolding first-group
-group-yes k m n h = by-leb (suc m) n (λ b. cond b (map (λ l. suc m ∷ l) (parts k (suc m) (n - suc m))) [] ≡ map (λ l. suc m ∷ l) (parts k (suc m) (n - suc m))) (λ _. refl) (λ g. absurd (omega arith))
+group-yes k m n h =
+    by-leb (suc m) n (λ b. cond b (map (λ l. suc m ∷ l) (parts k (suc m) (n - suc m))) [] ≡ map (λ l. suc m ∷ l) (parts k (suc m) (n - suc m)))
+    (λ _. refl) (λ g. absurd (omega arith))
 
 group-none : (k m n : ℕ) → n < suc m + k → first-group k m n ≡ []
 unfolding first-group
