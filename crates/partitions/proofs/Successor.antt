@@ -268,7 +268,8 @@ pub next-length : (l : List ℕ) → length (nextOf l) ≡ length l
 unfolding nextOf
 next-length [] = refl
 next-length (a ∷ t) =
-    each (a ∷ nextOf t) ((a - 1) ∷ greatest (length t) (total t + 1) (a - 1)) (a ∷ t) (hasNext t) (canInit (length t) (total t + 1) (a - 1)) (ap suc (next-length t)) (ap suc (greatest-length (length t) _ _)) refl
+    each (a ∷ nextOf t) ((a - 1) ∷ greatest (length t) (total t + 1) (a - 1)) (a ∷ t) (hasNext t) (canInit (length t) (total t + 1) (a - 1))
+    (ap suc (next-length t)) (ap suc (greatest-length (length t) _ _)) refl
   where
     each : (x y z : List ℕ) {n : ℕ} (b c : Bool) → length x ≡ n → length y ≡ n → length z ≡ n → length (cond b x (cond c y z)) ≡ n
     each x y z true c p q r = p
