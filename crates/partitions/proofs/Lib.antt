@@ -14,3 +14,5 @@ pub mod Exact
 pub mod Triangle
 pub mod Stirling
 pub mod Figures
+pub mod Counted
+pub mod Front

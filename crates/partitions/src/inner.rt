@@ -2,9 +2,10 @@
 ghost use mathlib.Core.Path.{_≡_};
 ghost use mathlib.Core.Bool.{true};
 ghost use Prim.Native.Nat.{_≤_, _<_, _*_, min};
-ghost use lib.ListN.{length};
+ghost use lib.ListN.{length, take};
 ghost use Rattle.partitions.specs.Parts.{total as sum, fact, divide, runs};
 ghost use Rattle.partitions.specs.Count.{falls as Falls};
+ghost use Rattle.partitions.specs.Walk.{padded};
 ghost use Rattle.partitions.specs.Steps.{canInit, greatest, hasNext, nextOf};
 
 // The sum of the parts, or 21 where it is greater than 20.
@@ -45,6 +46,20 @@ pub fn falls(list: &[usize], max: usize) -> bool
         i += 1;
     }
     true
+}
+
+// The first len parts of an array, with zeros past them.
+pub fn front(array: &[usize; 20], len: usize) -> [usize; 20]
+    requires { ⌜ len ≤ 20 ⌝ }
+    ensures { λ r. ⌜ r ≡ padded (take len (now (array .entry))) ⌝ }
+{
+    let mut parts = [0usize; 20];
+    let mut i = 0;
+    while i < len {
+        parts[i] = array[i];
+        i += 1;
+    }
+    parts
 }
 
 // Whether there is a list of len parts from 1 to max with the sum n.
