@@ -169,6 +169,40 @@ every-weaken p q f (z ∷ l) h =
     let s = both-true (p z) (every p l) h in
     true-both (q z) (every q l) (f z (s .0)) (every-weaken p q f l (s .1))
 
+-- ---- what an operation adds to the histories of its two numbers
+module _ (f : ℤ → ℤ → ℤ) (es : ℤ → ℤ → List Event) (s t : Traced) where
+  pub verdict-then : verdict (then f es s t .history) ≡ orElse (verdict (s .history)) (orElse (verdict (t .history)) (verdict (es (s .value) (t .value))))
+  verdict-then =
+      verdict-append (s .history) (t .history ++ es (s .value) (t .value))
+      ∙ ap (orElse (verdict (s .history))) (verdict-append (t .history) (es (s .value) (t .value)))
+
+  pub numbers-then : numbers (then f es s t .history) ≡ numbers (s .history) ++ (numbers (t .history) ++ numbers (es (s .value) (t .value)))
+  numbers-then =
+      numbers-append (s .history) (t .history ++ es (s .value) (t .value))
+      ∙ ap (λ (l : List ℤ). numbers (s .history) ++ l) (numbers-append (t .history) (es (s .value) (t .value)))
+
+  pub exact-then : exact (s .history) ≡ true → exact (t .history) ≡ true → exact (es (s .value) (t .value)) ≡ true → exact (then f es s t .history) ≡ true
+  exact-then hs ht he =
+      exact-append (s .history) (t .history ++ es (s .value) (t .value))
+      ∙ true-both (exact (s .history)) (exact (t .history ++ es (s .value) (t .value))) hs
+      (exact-append (t .history) (es (s .value) (t .value)) ∙ true-both (exact (t .history)) (exact (es (s .value) (t .value))) ht he)
+
+pub exact-one : (z : ℤ) → exact (forms z ∷ []) ≡ true
+unfolding exact
+exact-one z = refl
+
+pub exact-division : (x y : ℤ) → eqb (natAbs y) 0 ≡ false → eqb (natAbs (remZ x y)) 0 ≡ true → exact (divides x y ∷ (forms (quotZ x y) ∷ [])) ≡ true
+unfolding exact
+exact-division x y h k = rw (h, k)
+
+pub numbers-one : (z : ℤ) → numbers (forms z ∷ []) ≡ z ∷ []
+unfolding numbers
+numbers-one z = refl
+
+pub numbers-division : (x y : ℤ) → numbers (divides x y ∷ (forms (quotZ x y) ∷ [])) ≡ quotZ x y ∷ []
+unfolding numbers
+numbers-division x y = refl
+
 -- ---- where every division is exact, a history is refused exactly where a number that it forms is out of range, and then by 9
 one-more : (t u : Bool) → orElse (cond t 0 9) (cond u 0 9) ≡ cond (cond t u false) 0 9
 one-more true u = refl
@@ -209,6 +243,13 @@ settle-exact t e =
     ap (λ (n : ℕ). settleBy n (t .value)) (verdict-exact (t .history) e) ∙ settle-cond (every inRange (numbers (t .history))) (t .value)
 
 -- ---- what a verdict says of its history
+or-zero : (a b : ℕ) → orElse a b ≡ 0 → (a ≡ 0) × (b ≡ 0)
+or-zero zero b e = (refl, e)
+or-zero (suc a) b e = absurd (lt-irrefl 0 (omega (arith, e)))
+
+pub verdict-parts : (h k : List Event) → verdict (h ++ k) ≡ 0 → (verdict h ≡ 0) × (verdict k ≡ 0)
+verdict-parts h k e = or-zero (verdict h) (verdict k) (sym (verdict-append h k) ∙ e)
+
 zero-first : (t : Bool) (v : ℕ) → orElse (cond t 0 9) v ≡ 0 → (t ≡ true) × (v ≡ 0)
 zero-first true v e = (refl, e)
 zero-first false v e = absurd (lt-irrefl 0 (omega (arith, e)))
