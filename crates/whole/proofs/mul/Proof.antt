@@ -1,7 +1,6 @@
 -- `whole::mul` meets its contract. Assumes nothing.
-use mathlib.Core.Path.{_≡_, sym, ap, ap₂, _∙_}
-use mathlib.Core.Bool.{Bool, true, false}
-use Prim.Native.Nat.{ℕ, _*_}
+use mathlib.Core.Path.{_≡_, sym, ap, _∙_}
+use Prim.Native.Nat.{_*_}
 use lib.Dec.{leb}
 use lib.IntN.{ℤ, _*ℤ_, natAbs}
 use mir.Syntax.{w64}
