@@ -19,17 +19,15 @@ pub fn add(a: i64, b: i64) -> Whole
 {
     if b < 0 {
         if a < -9223372036854775808 - b {
-            Whole::Refused(9)
-        } else {
-            Whole::Value(a + b)
+            return Whole::Refused(9);
         }
     } else {
         if 9223372036854775807 - b < a {
-            Whole::Refused(9)
-        } else {
-            Whole::Value(a + b)
+            return Whole::Refused(9);
         }
     }
+    let sum = a + b;
+    Whole::Value(sum)
 }
 
 pub fn sub(a: i64, b: i64) -> Whole
@@ -37,17 +35,15 @@ pub fn sub(a: i64, b: i64) -> Whole
 {
     if b < 0 {
         if 9223372036854775807 + b < a {
-            Whole::Refused(9)
-        } else {
-            Whole::Value(a - b)
+            return Whole::Refused(9);
         }
     } else {
         if a < -9223372036854775808 + b {
-            Whole::Refused(9)
-        } else {
-            Whole::Value(a - b)
+            return Whole::Refused(9);
         }
     }
+    let difference = a - b;
+    Whole::Value(difference)
 }
 
 // An unsigned number, since that of -2^63 is no signed one.
