@@ -87,11 +87,13 @@ pub fn mul(a: i64, b: i64) -> Whole
 {
     if small(a) {
         if small(b) {
-            return Whole::Value(a * b);
+            let product = a * b;
+            return Whole::Value(product);
         }
     }
     if fits(magnitude(a), magnitude(b), limit(a, b)) {
-        Whole::Value(a * b)
+        let product = a * b;
+        Whole::Value(product)
     } else {
         Whole::Refused(9)
     }
@@ -107,8 +109,10 @@ pub fn div(a: i64, b: i64) -> Whole
     if b == -1 {
         return sub(0, a);
     }
-    if a % b == 0 {
-        Whole::Value(a / b)
+    let remainder = a % b;
+    if remainder == 0 {
+        let quotient = a / b;
+        Whole::Value(quotient)
     } else {
         Whole::Refused(8)
     }
