@@ -15,4 +15,5 @@ pub mod Triangle
 pub mod Stirling
 pub mod Figures
 pub mod Counted
-pub mod Front
+pub mod Pad
+pub mod Stepping

@@ -2,7 +2,7 @@
 ghost use mathlib.Core.Path.{_≡_};
 ghost use mathlib.Core.Bool.{true};
 ghost use Prim.Native.Nat.{_≤_, _<_, _*_, min};
-ghost use lib.ListN.{length, take};
+ghost use lib.ListN.{length};
 ghost use Rattle.partitions.specs.Parts.{total as sum, fact, divide, runs};
 ghost use Rattle.partitions.specs.Count.{falls as Falls};
 ghost use Rattle.partitions.specs.Walk.{padded};
@@ -48,15 +48,15 @@ pub fn falls(list: &[usize], max: usize) -> bool
     true
 }
 
-// The first len parts of an array, with zeros past them.
-pub fn front(array: &[usize; 20], len: usize) -> [usize; 20]
-    requires { ⌜ len ≤ 20 ⌝ }
-    ensures { λ r. ⌜ r ≡ padded (take len (now (array .entry))) ⌝ }
+// A list in an array, with zeros past it.
+pub fn pad(list: &[usize]) -> [usize; 20]
+    requires { ⌜ length (now list) ≤ 20 ⌝ }
+    ensures { λ r. ⌜ r ≡ padded (now (list .entry)) ⌝ }
 {
     let mut parts = [0usize; 20];
     let mut i = 0;
-    while i < len {
-        parts[i] = array[i];
+    while i < list.len() {
+        parts[i] = list[i];
         i += 1;
     }
     parts

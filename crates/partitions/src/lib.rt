@@ -1,9 +1,7 @@
 // Part lists: the combinatorics of Faà di Bruno's formula. A part list of an order and a len is a nonincreasing list of len positive parts whose
 // sum is the order.
 ghost use mathlib.Core.Path.{_≡_};
-ghost use Prim.Native.Nat.{_≤_};
-ghost use lib.ListN.{take};
-ghost use Rattle.partitions.specs.Walk.{refusal as refusalOf, padded, blank as blankWalk, started, refused as refusedBy, atEnd, stepped};
+ghost use Rattle.partitions.specs.Walk.{refusal as refusalOf, blank as blankWalk, started, refused as refusedBy, atEnd, stepped};
 ghost use Rattle.partitions.specs.Count.{counted, factorialOf, stirlingOf};
 
 mod inner;
@@ -138,7 +136,7 @@ impl CompositionIter {
         if !inner::falls(&current[..len], order) {
             return refused(3, self);
         }
-        let parts = inner::front(&current, len);
+        let parts = inner::pad(&current[..len]);
         let item = Composition {
             refusal: 0,
             ended: false,

@@ -57,7 +57,7 @@ returns-4 : tie.Need-returns-4
 unfolding multiplicity
 returns-4 c =
     let l = c .before .before .before .before .before .before .before .before .before .before .args .list .now in
-    let n : c .before .before .before .before .before .before .before .before .before .total .result ≡ total l = omega arith in
+    let n : c .before .before .before .before .before .before .before .before .total .result ≡ total l = omega arith in
     sym (counted-by l true (omega arith) (sym (list-test l (omega arith)) ∙ sym (c .before .before .before .before .falls .ensures) ∙ not-false _ (c .before .before .before .if3 .left))
     ∙ ap Value (sym (c .over-runs .ensures ∙ ap (λ (x : ℕ). divide x (runs l)) (c .before .over-parts .ensures ∙ ap (λ (x : ℕ). divide x l) (c .before .before .factorial .ensures ∙ ap fact n)))))
 
