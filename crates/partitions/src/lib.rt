@@ -2,9 +2,12 @@
 // sum is the order.
 ghost use mathlib.Core.Path.{_≡_};
 ghost use Rattle.partitions.specs.Walk.{refusal as refusalOf, blank as blankWalk, started, refused as refusedBy, atEnd, stepped};
-ghost use Rattle.partitions.specs.Count.{counted, factorialOf, stirlingOf};
+ghost use Rattle.partitions.specs.Count.{counted, factorialOf};
 
 mod inner;
+mod table;
+
+pub use table::stirling_number;
 
 // A walk over the part lists of an order and a len. Anybody may write the fields: each step tests them.
 pub struct CompositionIter {
