@@ -94,5 +94,5 @@ module _ {A B : Type 0} (R : A → B → Type 0) (K : Kind A) (L : Kind B) (r : 
 
     pub surface-quotient-alike : SurfacesAlike R n (Surface.quotient K a c) (Surface.quotient L b d)
     surface-quotient-alike =
-        risingRows-alike R (K .nought) (L .nought) (Surface.quotientEntry K a c) (Surface.quotientEntry L b d) n
+        risingRows-alike (λ i j. R) (K .nought) (L .nought) (Surface.quotientEntry K a c) (Surface.quotientEntry L b d) n
         (λ i j l f g above left. r .over _ _ _ _ (surface-owed-alike i j l f g above left) (q 0 0 (omega arith)))

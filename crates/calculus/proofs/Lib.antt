@@ -4,6 +4,7 @@ pub mod Rising
 pub mod Alike
 pub mod CarryAlike
 pub mod UpTo
+pub mod Plain
 pub mod Ints
 pub mod Ring
 pub mod Sums
@@ -23,6 +24,7 @@ pub mod Tensor
 pub mod Carried
 pub mod Algebra
 pub mod Fields
+pub mod Division
 pub mod Quotient
 pub mod Agree
 pub mod Entries
