@@ -21,7 +21,7 @@ digits-length d [] mask = refl
 digits-length d (a ∷ l) mask = rw (digits-length d l (mask / d)) refl
 
 pub ones-le : (l : List ℕ) (mask : ℕ) → ones (digits 2 l mask) ≤ length l
-unfolding ones digits
+unfolding digits
 ones-le [] mask = omega arith
 ones-le (a ∷ l) mask = omega (arith, ones-le l (mask / 2))
 

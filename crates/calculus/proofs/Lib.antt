@@ -28,4 +28,6 @@ pub mod Division
 pub mod Quotient
 pub mod Agree
 pub mod Entries
+pub mod Masks
 pub mod Closed
+pub mod Laws
