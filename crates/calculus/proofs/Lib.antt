@@ -2,6 +2,7 @@ pub mod Figures
 pub mod Layers
 pub mod Graded
 pub mod Filling
+pub mod SurfaceFilling
 pub mod Related
 pub mod Rising
 pub mod Alike
