@@ -4,7 +4,7 @@ use mathlib.Core.Path.{_≡_, refl, sym, _∙_, ap, ap₂, subst}
 use Prim.Native.Nat.{ℕ, zero, suc, _+_, _*_, _/_, _≤_, _<_}
 use native.Mathlib.Omega.{arith}
 use Rattle.calculus.specs.Graded.{triangle, index, after, place}
-use Rattle.calculus.proofs.Layers.{layer-below, layer-only, layer-same, layer-place}
+use Rattle.calculus.proofs.Layers.{size-mono, layer-below, layer-only, layer-same, layer-place}
 
 pub triangle-suc : (n : ℕ) → triangle (suc n) ≡ triangle n + suc n
 unfolding triangle
@@ -24,6 +24,11 @@ index-only N i j h = layer-only triangle suc triangle-suc N (i + j) i (rw (index
 pub index-231 : (i j : ℕ) → i + j ≤ 20 → index i j < 231
 unfolding triangle
 index-231 i j l = index-below 20 i j l
+
+-- a jet of order N fits where one of order 20 does
+pub room-231 : (N : ℕ) → N ≤ 20 → triangle (suc N) ≤ 231
+unfolding triangle
+room-231 N l = size-mono triangle suc triangle-suc (suc N) 21 (omega arith)
 
 -- no two share a place
 module _ (i j k l : ℕ) (e : index i j ≡ index k l) where

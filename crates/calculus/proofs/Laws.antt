@@ -1,26 +1,26 @@
 -- The laws of carrying along a curve, at the integers: it keeps sums, differences, products and exact quotients. First for surfaces, in the
 -- forms that contracts cite; then for fields of any number of variables. Assumes nothing.
-use mathlib.Core.Path.{_≡_, refl, sym, _∙_, ap, ap₂, fun-ext}
+use mathlib.Core.Path.{_≡_, refl, sym, _∙_, ap, ap₂, subst, fun-ext}
 use Prim.Native.Nat.{ℕ, suc, _+_, _≤_}
 use lib.IntN.{ℤ, pos, _*ℤ_}
 use lib.Signed.{remZ}
 use Rattle.calculus.specs.Kind.{regular, plain}
 use Rattle.calculus.specs.Curve
 use Rattle.calculus.specs.Surface
-use Rattle.calculus.specs.Carry.{coordinates, fieldDerivatives, compositeDerivatives}
+use Rattle.calculus.specs.Carry.{digits, coordinates, fieldDerivatives, compositeDerivatives}
 use Rattle.calculus.proofs.Ints.{_⊕_, _⊗_, neg, sum}
 use Rattle.calculus.proofs.Jets.{curveMul}
 use Rattle.calculus.proofs.Space.{carry}
 use Rattle.calculus.proofs.Jet.{Jet, derive, value, jets, Same}
-use Rattle.calculus.proofs.UpTo.{CurvesAgree, SurfacesAgree, compositeDerivatives-upto}
+use Rattle.calculus.proofs.CarryAlike.{digits-length}
+use Rattle.calculus.proofs.UpTo.{CurvesAgree, SurfacesAgree, fieldDerivatives-upto, compositeDerivatives-upto}
 use Rattle.calculus.proofs.Plain.{curve-product, surface-product, along, entryOf, carry-is}
 use Rattle.calculus.proofs.Masks.{surface-is}
 use Rattle.calculus.proofs.Curves.{curveMul-is, ·-comm}
 use Rattle.calculus.proofs.Carried.{chain}
 use Rattle.calculus.proofs.Algebra.{carry-plus, carry-minus, carry-times}
 use Rattle.calculus.proofs.Fields.{plus, minus, times, algebra, times-comm}
-use Rattle.calculus.proofs.Agree.{carry-cong}
-use Rattle.calculus.proofs.Entries.{agree}
+use Rattle.calculus.proofs.Entries.{same-entries}
 use Rattle.calculus.proofs.Closed.{surface-times}
 use Rattle.calculus.proofs.Division.{rem-exact}
 use Rattle.calculus.proofs.Quotient.{exact-product, quotient-factor, dividend-factor, surface-exact-product}
@@ -78,7 +78,9 @@ module _ (d : ℕ) (c : ℕ → ℕ → ℤ) where
       ∙ sym (curve-product (λ i. c k (suc i)) (along-curve (derive d k s)) n)))
 
   pub field-upto : (n : ℕ) (s t : Jet d) → Same d n s t → CurvesAgree n (along-curve s) (along-curve t)
-  field-upto n s t h m l = carry-is (jets d) c s m ∙ carry-cong (jets d) c (agree d n s t h) m l ∙ sym (carry-is (jets d) c t m)
+  field-upto n s t h =
+      fieldDerivatives-upto (regular plain) n d (entryOf (jets d) s) (entryOf (jets d) t) (λ k i l. refl)
+      (λ l mask k. same-entries d n s t h (digits d l mask) (subst (λ x. x ≤ n) (sym (digits-length d l mask)) k))
 
   -- num = q · den up to the order n: then every division of the carried jets is exact, and their quotient is q carried
   module _ (n : ℕ) (num q den : Jet d) (h : Same d n num (times d q den)) (z : ¬ (value d den ≡ pos 0)) where

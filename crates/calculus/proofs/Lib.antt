@@ -30,7 +30,6 @@ pub mod Algebra
 pub mod Fields
 pub mod Division
 pub mod Quotient
-pub mod Agree
 pub mod Entries
 pub mod Masks
 pub mod Closed
