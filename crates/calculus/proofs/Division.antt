@@ -1,6 +1,6 @@
 -- Division of integers where it is exact. Assumes nothing.
 use mathlib.Core.Path.{_≡_, refl, sym, _∙_, ap}
-use Prim.Native.Nat.{ℕ, zero, suc, _+_, _*_, _/_, _%_}
+use Prim.Native.Nat.{ℕ, zero, suc, _*_, _/_, _%_}
 use native.Mathlib.Omega.{arith}
 use native.Mathlib.Nat.{mul-div-cancel, zero-div, mul-mod-left, div-add-mod', zero-mul}
 use lib.IntN.{ℤ, pos, negsuc, negℤ, natAbs}

@@ -1,7 +1,7 @@
 -- Document 01's figures that the definitions alone give, at the integers. Assumes nothing.
 use mathlib.Core.Path.{_≡_, refl}
 use mathlib.Core.List.{List, [], _∷_}
-use Prim.Native.Nat.{ℕ, zero, suc}
+use Prim.Native.Nat.{ℕ}
 use lib.IntN.{ℤ, pos}
 use lib.ListN.{getD}
 use Rattle.partitions.specs.Parts.{total, fact, parts, divide, runsFrom, runs, multiplicity}

@@ -1,7 +1,7 @@
 -- The graded index of a surface's entries: which are below (N + 1)(N + 2)/2, no two share a place, and a total order's run is consecutive.
 -- Assumes nothing.
-use mathlib.Core.Path.{_≡_, refl, sym, _∙_, ap, ap₂, subst}
-use Prim.Native.Nat.{ℕ, zero, suc, _+_, _*_, _/_, _≤_, _<_}
+use mathlib.Core.Path.{_≡_, refl, sym, _∙_, ap}
+use Prim.Native.Nat.{ℕ, zero, suc, _+_, _≤_, _<_}
 use native.Mathlib.Omega.{arith}
 use Rattle.calculus.specs.Graded.{triangle, index, after, place}
 use Rattle.calculus.proofs.Layers.{size-mono, layer-below, layer-only, layer-same, layer-place}

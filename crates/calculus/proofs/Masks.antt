@@ -1,12 +1,11 @@
 -- A surface's entry by bits is the derivative by the variables that the bits name, so its carry is the general one at two variables.
 -- Assumes nothing.
-use mathlib.Core.Path.{_≡_, refl, sym, _∙_, ap, ap₂, fun-ext}
+use mathlib.Core.Path.{_≡_, refl, sym, _∙_, ap₂}
 use mathlib.Core.List.{List, [], _∷_}
 use Prim.Native.Nat.{ℕ, zero, suc, _+_, _-_, _/_, _%_, _≤_, _<_}
 use native.Mathlib.Omega.{arith}
 use native.Mathlib.Nat.{le-refl}
 use lib.ListN.{length}
-use lib.IntN.{ℤ}
 use Rattle.calculus.specs.Kind.{regular, plain}
 use Rattle.calculus.specs.Carry.{digits, ones, surfaceEntry, coordinates, compositeDerivatives}
 use Rattle.calculus.proofs.Jets.{Curve, Surface}

@@ -1,13 +1,12 @@
 -- At the integers the folds are finite sums, and the formulas are the sums that the laws are proved of. Assumes nothing.
 use mathlib.Core.Path.{_≡_, refl, sym, _∙_, ap, ap₂, fun-ext}
 use mathlib.Core.List.{List, [], _∷_}
-use Prim.Native.Nat.{ℕ, zero, suc, _+_, _-_, _*_, _/_, _%_, _^_}
+use Prim.Native.Nat.{ℕ, zero, suc, _/_, _%_, _^_}
 use lib.IntN.{ℤ, pos, _+ℤ_, _-ℤ_, _*ℤ_}
 use lib.ListN.{length}
 use Rattle.partitions.specs.Parts.{lists, multiplicity}
 use Rattle.calculus.specs.Kind.{regular, plain}
 use Rattle.calculus.specs.InTurn.{inTurn, inRows, alongList}
-use Rattle.calculus.specs.Choose.{choose}
 use Rattle.calculus.specs.Curve
 use Rattle.calculus.specs.Surface
 use Rattle.calculus.specs.Carry

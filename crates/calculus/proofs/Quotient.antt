@@ -1,7 +1,7 @@
 -- Quotients of jets of integers. Where every division along the way is exact, the divisor times the quotient is what was divided; and where
 -- that is a product with the divisor, every division is exact and the quotient is the other factor. Assumes nothing.
 use mathlib.Core.Path.{_≡_, refl, sym, _∙_, ap, ap₂}
-use Prim.Native.Nat.{ℕ, zero, suc, _+_, _-_, _*_, _≤_, _<_}
+use Prim.Native.Nat.{ℕ, suc, _+_, _*_, _≤_, _<_}
 use native.Mathlib.Omega.{arith}
 use native.Mathlib.Nat.{sub-zero}
 use lib.IntN.{ℤ, pos, _*ℤ_}

@@ -1,5 +1,5 @@
 -- Jets that agree up to an order give results that agree up to it: the relational laws at equality. Assumes nothing.
-use mathlib.Core.Path.{_≡_, refl, ap₂}
+use mathlib.Core.Path.{_≡_, ap₂}
 use mathlib.Core.List.{List}
 use Prim.Native.Nat.{ℕ, _+_, _≤_}
 use lib.ListN.{length}
