@@ -95,6 +95,10 @@ module _ (d : ℕ) (c : ℕ → ℕ → ℤ) where
     unfolding along
     field-dividend = dividend-factor n (along-curve num) (along-curve den) (along-curve q) factor z
 
+    pub field-remainder : (m : ℕ) → m ≤ n → remZ (Curve.dividend plain (along-curve num) (along-curve den) m) (along-curve den 0) ≡ pos 0
+    unfolding _⊗_
+    field-remainder m l = ap (λ x. remZ x (along-curve den 0)) (field-dividend m l) ∙ rem-exact (along-curve q m) (along-curve den 0)
+
 -- ---- a surface along the curve (u, v)
 module _ (u v : ℕ → ℤ) where
   abbrev pub carried : (ℕ → ℕ → ℤ) → ℕ → ℤ

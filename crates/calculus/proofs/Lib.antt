@@ -1,4 +1,5 @@
 pub mod Figures
+pub mod Rows
 pub mod Layers
 pub mod Graded
 pub mod Filling
