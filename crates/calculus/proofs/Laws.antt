@@ -1,5 +1,5 @@
--- The laws of carrying along a curve, at the integers: it keeps sums, differences, products and exact quotients. First for surfaces, in the
--- forms that contracts cite; then for fields of any number of variables. Assumes nothing.
+-- The laws of the formulas at the integers. Carrying along a curve keeps sums, differences, products and exact quotients: for fields of any
+-- number of variables, and for surfaces in the forms that contracts cite. Assumes nothing.
 use mathlib.Core.Path.{_≡_, refl, sym, _∙_, ap, ap₂, subst, fun-ext}
 use Prim.Native.Nat.{ℕ, suc, _+_, _≤_}
 use lib.IntN.{ℤ, pos, _*ℤ_}
