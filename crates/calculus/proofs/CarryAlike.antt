@@ -21,9 +21,14 @@ digits-length d [] mask = refl
 digits-length d (a ∷ l) mask = rw (digits-length d l (mask / d)) refl
 
 pub ones-le : (l : List ℕ) (mask : ℕ) → ones (digits 2 l mask) ≤ length l
-unfolding digits
+unfolding ones digits
 ones-le [] mask = omega arith
 ones-le (a ∷ l) mask = omega (arith, ones-le l (mask / 2))
+
+-- at order 0 a carried jet has the surface's [0][0]
+pub composite-zero : {S A : Type 0} (M : Module S A) (u v : ℕ → S) (s : ℕ → ℕ → A) → compositeDerivatives M u v s 0 ≡ s 0 0
+unfolding ones
+composite-zero M u v s = refl
 
 module _ {S T A B : Type 0} (P : S → T → Type 0) (R : A → B → Type 0) (M : Module S A) (N : Module T B) (r : RelatedModules P R M N) (n : ℕ) where
   -- any number of variables: the coordinates, and the entries that masks name
