@@ -19,13 +19,10 @@ pub mod Ring
 pub mod Sums
 pub mod Division
 -- part lists and their multiplicities
-pub mod Tests
 pub mod Binom
 pub mod Desc
 pub mod Out
 pub mod Mult
-pub mod Runs
-pub mod Lists
 -- jets of integers in any number of variables, and the chain rule
 pub mod Jets
 pub mod Curves
