@@ -209,12 +209,10 @@ pub fn two_spheres(t: f64, order: usize) -> Given {
 }
 
 /// A straight edge along x between the planes z = 0 and y = 0, with the given jet of the radius; nothing here is rounded for small whole numbers.
+/// Inward: the determinant of tangent and normals is 1 and the centre lies on the side away from the normals; else it is -1.
 pub fn two_planes(t: f64, radius: &[f64], inward: bool) -> Given {
     let order = radius.len() - 1;
-    let r = radius[0];
-    let line = |n: usize| if n == 0 { t } else if n == 1 { 1.0 } else { 0.0 };
-    let edge = (0..=order).flat_map(|n| [line(n), 0.0, 0.0]).collect();
-    let (center, p0, p1) = ([t, r, r], [t, r, 0.0], [t, 0.0, r]);
+    let (x, y, z) = ([1.0, 0.0, 0.0], [0.0, 1.0, 0.0], [0.0, 0.0, 1.0]);
     let plane = |u: [f64; 3], v: [f64; 3], p: [f64; 3]| {
         surface_by(order, 3, |i, j, k| match (i, j) {
             (0, 0) => p[k],
@@ -223,16 +221,24 @@ pub fn two_planes(t: f64, radius: &[f64], inward: bool) -> Given {
             _ => 0.0,
         })
     };
-    let (x, y, z) = ([1.0, 0.0, 0.0], [0.0, 1.0, 0.0], [0.0, 0.0, 1.0]);
-    // Surface 0 is z = 0 by x and y, surface 1 is y = 0 by z and x: the determinant of tangent and normals is 1 or -1.
-    let normals = if inward { [z, y].concat() } else { [y, z].concat() };
-    let (surface0, surface1) = (plane(x, y, p0), plane(z, x, p1));
-    let (circle, feet, surface0, surface1) = if inward {
-        (circle(center, p0, p1), vec![t, r, r, t], surface0, surface1)
-    } else {
-        (circle(center, p1, p0), vec![r, t, t, r], surface1, surface0)
-    };
-    Given { circle, feet, normals, edge, radius: radius.to_vec(), surface0, surface1 }
+    let r = if inward { -radius[0] } else { radius[0] };
+    // The feet on z = 0, by x and y, and on y = 0, by z and x; the normals are z and y.
+    let (on_z, on_y) = ([t, r, 0.0], [t, 0.0, r]);
+    let mut sides = [(on_z, [t, r], z, plane(x, y, on_z)), (on_y, [r, t], y, plane(z, x, on_y))];
+    if inward {
+        sides.reverse();
+    }
+    let [(p0, uv0, n0, surface0), (p1, uv1, n1, surface1)] = sides;
+    let line = |n: usize| if n == 0 { t } else if n == 1 { 1.0 } else { 0.0 };
+    Given {
+        circle: circle([t, r, r], p0, p1),
+        feet: [uv0, uv1].concat(),
+        normals: [n0, n1].concat(),
+        edge: (0..=order).flat_map(|n| [line(n), 0.0, 0.0]).collect(),
+        radius: radius.to_vec(),
+        surface0,
+        surface1,
+    }
 }
 
 /// Jets of one order and one flavour, with unit normals: no fillet, but everything is defined.
