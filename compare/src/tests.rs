@@ -342,7 +342,7 @@ fn products_and_carries_give_no_minus_zero() {
     assert_bits(&curve_combinatorial_derivatives(Product::Floats, &[MINUS], &[1.0]).unwrap(), &[0.0]);
     assert_bits(&surface_combinatorial_derivatives(Product::Floats, &[MINUS], &[1.0]).unwrap(), &[0.0]);
     // The carried entry 0 is a copy; the others are sums from zero.
-    assert_bits(&composite_derivatives(Kind::Floats, &[MINUS, 0.0, MINUS], &[0.0, 0.0, 1.0, 0.0]).unwrap(), &[MINUS, 0.0]);
+    assert_bits(&composite_derivatives(Kind::Floats, &[MINUS; 3], &[0.0, 0.0, 1.0, 1.0]).unwrap(), &[MINUS, 0.0]);
 }
 
 #[test]
@@ -434,8 +434,18 @@ fn the_cosine_is_clamped_from_above_only() {
     };
     let below = vder_info(&contacts([2.0, 0.0, 0.0], [-2.0, 1.0, 0.0]), &[1.0, 0.0], 0.5).unwrap();
     assert_eq!((below.cosine, below.angle), (-4.0, vec![0.5]));
-    let no_number = vder_info(&contacts([1.0e200, 0.0, 0.0], [1.0e200, 1.0e-300, 0.0]), &[1.0e200, 0.0], 0.5).unwrap();
+    let no_number = vder_info(&contacts([1.0e200, 0.0, 0.0], [-1.0e200, 1.0e-300, 0.0]), &[1.0e200, 0.0], 0.5).unwrap();
     assert_eq!((no_number.cosine, no_number.axis), (1.0, vec![0.0, 0.0, 1.0]));
+}
+
+#[test]
+fn zero_determinants_and_divisors_are_seen() {
+    let mut given = crate::inputs::two_planes(0.0, &[1.0, 1.0, 0.0], false);
+    given.normals.copy_within(0..3, 3);
+    assert_eq!((sub_center_contacts_ders(&given, 1), refused()), (None, 6));
+    // At n = 0 no determinant is formed.
+    assert!(sub_center_contacts_ders(&given, 0).is_some() && refused() == 0);
+    assert_eq!((curve_rational_derivatives(Kind::Floats, &[4.0], &[0.0]), refused()), (Some(vec![f64::INFINITY]), 7));
 }
 
 #[test]
