@@ -3,14 +3,20 @@
 use crate::oracle::{surface_count, Given};
 
 /// Splitmix64 (Steele, Lea and Flood).
-pub struct Random(u64);
+pub struct Random {
+    state: u64,
+    far: bool,
+}
 
 impl Random {
-    pub fn new(seed: u64) -> Self { Random(seed) }
+    pub fn new(seed: u64) -> Self { Random { state: seed, far: false } }
+
+    /// Gives orders up to 20 now and then: for long runs.
+    pub fn far(seed: u64) -> Self { Random { state: seed, far: true } }
 
     pub fn bits(&mut self) -> u64 {
-        self.0 = self.0.wrapping_add(0x9E3779B97F4A7C15);
-        let z = (self.0 ^ (self.0 >> 30)).wrapping_mul(0xBF58476D1CE4E5B9);
+        self.state = self.state.wrapping_add(0x9E3779B97F4A7C15);
+        let z = (self.state ^ (self.state >> 30)).wrapping_mul(0xBF58476D1CE4E5B9);
         let z = (z ^ (z >> 27)).wrapping_mul(0x94D049BB133111EB);
         z ^ (z >> 31)
     }
@@ -66,8 +72,19 @@ impl Random {
 
     pub fn flavour(&mut self) -> Flavour { self.pick(&FLAVOURS) }
 
-    /// An order: mostly small, now and then up to 8.
+    fn goes_far(&mut self) -> bool { self.far && self.below(32) == 0 }
+
+    /// The n of a fillet: below 4; at most 19.
+    pub fn fillet_order(&mut self) -> usize {
+        let bound = if self.goes_far() { 20 } else { 4 };
+        self.below(bound)
+    }
+
+    /// An order: mostly small, now and then up to 8; at most 20.
     pub fn order(&mut self) -> usize {
+        if self.goes_far() {
+            return 9 + self.below(12);
+        }
         match self.below(10) {
             0..=6 => self.below(5),
             7 | 8 => 2 + self.below(4),
@@ -246,7 +263,7 @@ pub fn any_fillet(random: &mut Random, flavour: Flavour, order: usize) -> Given 
     let mut radius = random.list(flavour, order + 1);
     radius[0] = radius[0].abs();
     Given {
-        circle: [random.list(flavour, 3), random.axis(), vec![random.within(0.0, 3.14)], random.list(flavour, 6)].concat(),
+        circle: [random.list(flavour, 3), random.axis(), vec![random.within(0.0, 3.0)], random.list(flavour, 6)].concat(),
         feet: random.floats(4),
         normals: [random.axis(), random.axis()].concat(),
         edge: random.list(flavour, (order + 1) * 3),

@@ -21,8 +21,7 @@ pub fn stored(operation: &Operation, file: &str, side: Side) -> (usize, Vec<Stri
 }
 
 /// Works `count` random cases by the source and by `side`: the lines in which they differ.
-pub fn random(operation: &Operation, seed: u64, count: usize, side: Side) -> Vec<String> {
-    let mut random = Random::new(seed);
+pub fn random(operation: &Operation, mut random: Random, count: usize, side: Side) -> Vec<String> {
     let differs = |_| {
         let case = (operation.random)(&mut random);
         let (rust, found) = ((operation.rust)(&case).text(), side(&case).text());

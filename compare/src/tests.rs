@@ -125,8 +125,8 @@ fn products_and_quotients_of_the_figures() {
     let product = curve_combinatorial_derivatives(Product::Floats, &[1.0, 2.0, 3.0], &[4.0, 5.0, 6.0]).unwrap();
     assert_eq!(product, [4.0, 13.0, 38.0]);
     assert_eq!(curve_rational_derivatives(Kind::Floats, &product, &[1.0, 2.0, 3.0]).unwrap(), [4.0, 5.0, 6.0]);
-    for order in 0..3 {
-        assert_eq!(curve_combinatorial_derivative(Product::Floats, &[1.0, 2.0, 3.0], &[4.0, 5.0, 6.0], order).unwrap(), [product[order]]);
+    for (order, entry) in product.iter().enumerate() {
+        assert_eq!(curve_combinatorial_derivative(Product::Floats, &[1.0, 2.0, 3.0], &[4.0, 5.0, 6.0], order).unwrap(), [*entry]);
     }
 }
 
@@ -220,7 +220,7 @@ fn rotation_derivatives_are_derivatives() {
     const EPS: f64 = 1.0e-4;
     let mut random = Random::new(3);
     for _ in 0..2_000 {
-        let (u, v, angle) = (random.within(0.0, 6.28), random.within(-1.0, 1.0), random.within(0.0, 6.28));
+        let (u, v, angle) = (random.within(0.0, 6.0), random.within(-1.0, 1.0), random.within(0.0, 6.0));
         let r = (1.0 - v * v).sqrt();
         let axis = [r * u.cos(), r * u.sin(), v];
         let orders: [usize; 4] = std::array::from_fn(|_| random.below(5));
@@ -472,7 +472,7 @@ fn a_wrong_answer_is_found() {
     assert_eq!(crate::runs::stored(&operation, "# a note\n3 2 1 1 = 0 6\n", &operation.rust), (1, vec![]));
     assert_eq!(crate::runs::stored(&operation, "3 2 1 1 = 0 7\n3 2 1 = 0 6\n", &operation.rust).1.len(), 2);
     let mute = |_: &[crate::cases::Item]| crate::cases::Answer { refusal: 200, items: vec![] };
-    assert_eq!(crate::runs::random(&operation, 1, 10, &mute).len(), 10);
+    assert_eq!(crate::runs::random(&operation, Random::new(1), 10, &mute).len(), 10);
 }
 
 /// An answer depends on its case alone: nothing is left over from the calls before.
@@ -486,6 +486,6 @@ fn answers_follow_from_the_case() {
             (before.rust)(&other);
             (operation.rust)(case)
         };
-        assert!(crate::runs::random(operation, 5, 40, &side).is_empty(), "{}", operation.name);
+        assert!(crate::runs::random(operation, Random::new(5), 40, &side).is_empty(), "{}", operation.name);
     }
 }
