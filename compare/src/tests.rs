@@ -489,3 +489,12 @@ fn answers_follow_from_the_case() {
         assert!(crate::runs::random(operation, Random::new(5), 40, &side).is_empty(), "{}", operation.name);
     }
 }
+
+/// Many cases, orders to 20 among them: the source answers each that passes the checks, and twice the same.
+#[test]
+#[ignore = "long"]
+fn long_runs_are_settled() {
+    for operation in crate::cases::operations() {
+        assert!(crate::runs::random(&operation, Random::far(9), 1_000, &operation.rust).is_empty(), "{}", operation.name);
+    }
+}

@@ -1,5 +1,6 @@
 //! Cases of rotations, centre and contacts, axis and angle, and partials (source files 000 to 002).
 
+use super::jets::at_orders;
 use super::*;
 use crate::inputs::*;
 use crate::oracle::{AxisAngle, Contacts, Given};
@@ -33,6 +34,16 @@ fn rot_der_n() -> Operation {
             fixed.push([orders.map(Whole).to_vec(), vec![Floats(vec![0.48, -0.6, 0.64]), Floats(vec![0.28, 0.96])]].concat());
         }
     }
+    // Zeros of both signs, in the branches of order 0 and 1.
+    for turns in 0..4 {
+        for orders in [[0, 0, 0, turns], [1, 0, 0, turns], [0, 1, 0, turns], [0, 0, 1, turns]] {
+            for pair in [vec![1.0, 0.0], vec![0.0, 1.0], vec![-0.0, -1.0]] {
+                fixed.push([orders.map(Whole).to_vec(), vec![Floats(vec![0.0, -0.0, 1.0]), Floats(pair)]].concat());
+            }
+        }
+    }
+    // Twice the axis is formed first: 2 * 3 units times a half is 3 units, but 3 units times a half is rounded.
+    fixed.push([[1, 0, 0, 0].map(Whole).to_vec(), vec![Floats(vec![f64::from_bits(3), 0.0, 0.0]), Floats(vec![0.0, 0.5])]].concat());
     for orders in [[20, 0, 0, 0], [21, 0, 0, 0], [0, 0, 21, 0], [0, 0, 0, 20], [0, 0, 0, 21], [0, 0, 0, u64::MAX], [u64::MAX, 1, 1, 1]] {
         fixed.push([orders.map(Whole).to_vec(), vec![Floats(vec![0.0, 0.0, 1.0]), Floats(vec![0.0, 1.0])]].concat());
     }
@@ -331,7 +342,14 @@ fn partial(name: &str, n: usize, rust: Partial) -> Operation {
         given: "the five jets of the centre and contacts, jet of the axis, jet of the angle, then u, sine and cosine",
         answer: "vector",
         stored: 160,
-        fixed: Vec::new(),
+        // Zeros of both signs and ones throughout.
+        fixed: at_orders(13, &[n; 40], |random, n| {
+            let mut zeros = |count: usize| random.list(Flavour::Zeros, count);
+            let contacts =
+                Contacts { center: zeros(3 * n + 3), contact0: zeros(3 * n + 6), contact1: zeros(3 * n + 6), uv0: zeros(2 * n + 4), uv1: zeros(2 * n + 4) };
+            let info = items_of(&[jet(curve(3), &zeros(3 * n + 3)), jet(curve(1), &zeros(n + 1))]);
+            [contacts_items(contacts), info, vec![Floats(zeros(3))]].concat()
+        }),
         random: Box::new(move |random| {
             let (contacts, radius) = random_contacts(random, n);
             let (s, c) = random.pair();
@@ -421,7 +439,17 @@ fn contact_circle_derivative_n() -> Operation {
         given: "n, circle, sine and cosine",
         answer: "vector",
         stored: 160,
-        fixed: Vec::new(),
+        // The centre times zero is added from order 1 on: with an angle of zero it decides the sign of a zero.
+        fixed: [0, 1, 2, 3, 4]
+            .iter()
+            .flat_map(|n| {
+                [1.0, -1.0].map(|side: f64| {
+                    let (center, point) = ([side, -side, 0.0], [0.0; 3]);
+                    let circle = [&center[..], &[0.0, 0.0, 1.0], &[0.0], &point, &point].concat();
+                    vec![Whole(*n), Floats(circle), Floats(vec![0.0, 1.0])]
+                })
+            })
+            .collect(),
         random: Box::new(|random| {
             let n = random.pick(&[0, 0, 1, 1, 2, 3, 4, 5, 6, 7, 12, 19, 20, 21]);
             let mut circle = random_fillet(random, 1).circle;

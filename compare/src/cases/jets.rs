@@ -49,8 +49,8 @@ fn two_jets(random: &mut Random, forms: (Form, Form)) -> Vec<Jet> {
 
 // Operations on jets.
 
-/// A quick case at each of the high orders, in numbers that neither overflow nor vanish.
-fn high_orders(seed: u64, orders: &[usize], make: impl Fn(&mut Random, usize) -> Vec<Item>) -> Vec<Vec<Item>> {
+/// A case at each of these orders.
+pub(super) fn at_orders(seed: u64, orders: &[usize], make: impl Fn(&mut Random, usize) -> Vec<Item>) -> Vec<Vec<Item>> {
     let mut random = Random::new(seed);
     orders.iter().map(|order| make(&mut random, *order)).collect()
 }
@@ -63,7 +63,7 @@ fn of_two(name: &str, stored: usize, forms: (Form, Form, Form), rust: impl Fn(&[
         given: "jet a, jet b",
         answer: "jet",
         stored,
-        fixed: high_orders(7, &[0, 1, 12, 20], |random, order| {
+        fixed: at_orders(7, &[0, 1, 12, 20], |random, order| {
             items_of(&[random_jet(random, f, order, Flavour::Unit), random_jet(random, g, order, Flavour::Unit)])
         }),
         random: Box::new(move |random| items_of(&two_jets(random, (f, g)))),
@@ -98,7 +98,7 @@ fn of_one(
         given: "jet",
         answer: "jet",
         stored,
-        fixed: high_orders(8, &[0, 1, 12, 20], |random, order| items_of(&[random_jet(random, f, order, Flavour::Unit)])),
+        fixed: at_orders(8, &[0, 1, 12, 20], |random, order| items_of(&[random_jet(random, f, order, Flavour::Unit)])),
         random: Box::new(move |random| {
             let (order, flavour) = (random.order(), random.flavour());
             let jets = vec![random_jet(random, f, order, flavour)];
@@ -129,7 +129,7 @@ fn entry_of_two(name: &str, stored: usize, forms: (Form, Form), rust: impl Fn(&[
         given: if f.surface { "jet a, jet b, order by u, order by v" } else { "jet a, jet b, order" },
         answer: "entry",
         stored,
-        fixed: high_orders(9, &[0, 1, 12, 20], |random, order| {
+        fixed: at_orders(9, &[0, 1, 12, 20], |random, order| {
             let jets = [random_jet(random, f, order, Flavour::Unit), random_jet(random, g, order, Flavour::Unit)];
             [items_of(&jets), orders(random, order)].concat()
         }),
@@ -180,7 +180,7 @@ fn carry(name: &str, stored: usize, kind: Kind, whole: bool) -> Operation {
                 let list: Vec<f64> = [5.0, 3.0, 6.0, 2.0, 4.0, 1.0].iter().flat_map(entry).collect();
                 [items_of(&[jet(f, &list), jet(curve(2), &[0.0, 0.0, 1.0, 2.0, 2.0, 1.0])]), vec![Whole(2)]].concat()
             }],
-            high_orders(10, &[0, 1, 12, 20], |random, order| {
+            at_orders(10, &[0, 1, 12, 20], |random, order| {
                 let jets = [random_jet(random, f, order, Flavour::Unit), random_jet(random, curve(2), order, Flavour::Unit)];
                 [items_of(&jets), vec![Whole(order as u64)]].concat()
             }),
