@@ -1,10 +1,10 @@
 #!/usr/bin/env python3
-"""Works the stored answers of the Rust again from document 01's formulas, written here a second time, and compares every bit.
+"""Works the stored answers of the Rust again from formulas written a second time, and compares every bit.
 
 Run in the repository's root:  python3 compare/document.py data/rust_answers
 
-Python's floats are IEEE 754 binary64. Nothing here is taken from the library or from compare's Rust. Only answered cases are worked: refusals are
-left to compare. Long carries (order above 10) are skipped. Each function says in which order its terms are formed.
+The formulas are document 01's; where it leaves the order of terms to the source, that order was read off the source. Python's floats are IEEE 754
+binary64. Only answered cases are worked: refusals are left to compare. Carries of order above 10 and centres of n above 8 are skipped.
 """
 
 import math
