@@ -332,7 +332,7 @@ fn pieces_of_the_fillet_agree() {
     }
 }
 
-// Where the source and the public formula part: README.md lists each of these with its smallest input.
+// Where the source and the public formula part: README.md lists each of these with a small input.
 
 const MINUS: f64 = -0.0;
 const TWO_52: f64 = 4503599627370496.0;
