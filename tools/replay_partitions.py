@@ -3,12 +3,14 @@
 
 Run in the repository's root:  python3 tools/replay_partitions.py > crates/replay_partitions/stdout
 
-Nothing here is taken from the library: the lists are picked out of all tuples of positive numbers by size and sorted, a multiplicity is counted as
-a number of ways to split a set, and both are held to published tables (the numbers of partitions, A000041 and A008284 of the On-Line Encyclopedia
-of Integer Sequences; the Stirling numbers of the second kind, A008277, and their row sums, the Bell numbers, A000110). A record is written as
-order, len, whether it is at its end, and its array; a step as refusal, whether the walk has ended, and the array handed out; an array of 20 without
-the zeros at its end. `rN` is refusal N of document 01: 1 an order above 20, 3 what is no part list, or no len of its order. The cases stand in
-crates/replay_partitions/src/main.rt too.
+Nothing here is taken from the library: the lists are found part by part and sorted, to order 8 held to a choice out of all tuples; a multiplicity
+is counted as a number of ways to split a set into blocks. Both are held to recurrences over the whole triangle, and to published rows: the numbers
+of partitions (A000041 and A008284 of the On-Line Encyclopedia of Integer Sequences), the Stirling numbers of the second kind (A008277) and their
+sums, the Bell numbers (A000110).
+
+A record is written as order, len, whether it is at its end, and its array; a step as refusal, whether the walk has ended, and the array handed out;
+an array of 20 without the zeros at its end. `rN` is refusal N of document 01: 1 an order above 20, 3 what is no part list, or no len of its order.
+The cases stand in crates/replay_partitions/src/main.rt too.
 """
 
 from functools import lru_cache
@@ -41,6 +43,27 @@ def ways(parts):
         comb(n - 1, a - 1) * ways(parts[: parts.index(a)] + parts[parts.index(a) + 1 :])
         for a in sorted(set(parts))
     )
+
+
+# ---- recurrences, over the whole triangle
+@lru_cache(None)
+def partition_number(n, k):
+    if n <= 0 or k <= 0:
+        return int(n == 0 and k == 0)
+    return partition_number(n - 1, k - 1) + partition_number(n - k, k)
+
+
+@lru_cache(None)
+def stirling(n, k):
+    if n == 0 or k == 0:
+        return int(n == 0 and k == 0)
+    return k * stirling(n - 1, k) + stirling(n - 1, k - 1)
+
+
+for n in range(21):
+    for k in range(n + 1):
+        assert len(lists(n, k)) == partition_number(n, k)
+        assert sum(map(ways, lists(n, k))) == stirling(n, k)
 
 
 # ---- published numbers
