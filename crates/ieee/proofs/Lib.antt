@@ -1,3 +1,6 @@
 pub mod Tests
 pub mod Finite
+pub mod Isqrt
 pub mod Recurrence
+pub mod Scaled
+pub mod Rounded

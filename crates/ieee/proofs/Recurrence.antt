@@ -1,11 +1,12 @@
 -- The digit-by-digit recurrence of `digits`: what holds before each turn, and that a turn keeps it. Assumes nothing.
 use mathlib.Core.Path.{_≡_, refl, sym, ap, _∙_, subst}
 use Prim.Native.Nat.{ℕ, suc, _+_, _-_, _*_, _/_, _%_, _^_, _≤_, _<_}
-use native.Mathlib.Nat.{le-antisymm, mul-one, mul-assoc, mul-mul-mul-comm, mul-add, add-mul, lt-of-lt-of-le, pow-suc}
+use native.Mathlib.Nat.{le-antisymm, lt-of-lt-of-le, mul-assoc, mul-mul-mul-comm, pow-suc}
 use native.Mathlib.Numerals.{add-one, add-one-le}
 use native.Mathlib.Omega.{arith}
 use lib.Dec.{lit<}
 use lib.Pow.{pow-mono}
+use Rattle.ieee.proofs.Isqrt.{square-more}
 
 -- after i turns over w: the digits of w that were taken are root * root + rest, and those that are left stand at the top of `left`
 pub record State (w root rest left i : ℕ) : Type 0 where
@@ -28,9 +29,6 @@ twos i = ap (λ (x : ℕ). 2 ^ x) (add-one i) ∙ pow-suc 2 i
 
 double : (r : ℕ) → r * 2 * (r * 2) ≡ r * r * 4
 double r = mul-mul-mul-comm r 2 r 2
-
-odd-square : (a : ℕ) → (a + 1) * (a + 1) ≡ a * a + (a * 2 + 1)
-odd-square a = add-mul a 1 (a + 1) ∙ omega (arith, mul-add a a 1, mul-one a)
 
 kept : (w r s l i p : ℕ) → r * r ≡ p → (p + s) * 2 ^ 64 + l ≡ w * 4 ^ i → (r * 2 * (r * 2) + (s * 4 + l / 2 ^ 62)) * 2 ^ 64 + l * 2 ^ 2 % 2 ^ 64 ≡ w * 4 ^ (i + 1)
 kept w r s l i p e h =
@@ -73,7 +71,7 @@ module _ (w r s l i : ℕ) (h : State w r s l i) (more : i < 53) where
         digits = bound-odd;
         small = lt-of-lt-of-le bound-odd (pow-mono (add-one-le more));
         below = omega arith;
-        value = omega (arith, odd-square (r * 2), kept w r s l i (r * r) refl (h .value));
+        value = omega (arith, square-more (r * 2), kept w r s l i (r * r) refl (h .value));
       }
 
 pub starts : (w : ℕ) → w < 2 ^ 64 → State w 0 0 w 0
