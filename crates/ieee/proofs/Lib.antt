@@ -4,3 +4,5 @@ pub mod Isqrt
 pub mod Recurrence
 pub mod Scaled
 pub mod Rounded
+pub mod Assembled
+pub mod Fields
