@@ -6,3 +6,4 @@ pub mod Scaled
 pub mod Rounded
 pub mod Assembled
 pub mod Fields
+pub mod Units
