@@ -7,3 +7,4 @@ pub mod Rounded
 pub mod Assembled
 pub mod Fields
 pub mod Units
+pub mod Cases
