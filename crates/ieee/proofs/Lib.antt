@@ -8,3 +8,4 @@ pub mod Assembled
 pub mod Fields
 pub mod Units
 pub mod Cases
+pub mod Examples

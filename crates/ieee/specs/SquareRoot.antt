@@ -13,12 +13,14 @@ rootDigits (suc k) n = let r = 2 * rootDigits k (n / 4) in cond (leb ((r + 1) * 
 
 -- the integer square root: the largest r with r * r ≤ n
 unfoldable pub isqrt : ℕ → ℕ
+unfolding rootDigits size
 isqrt n = rootDigits (size n) n
 
 -- The value nearest to √s, in units of the smallest value, for an s of two digits or more for each that the format keeps.
 -- A number of z digits has a root of z / 2, rounded up: 53 are kept, q, and k dropped. Where √s lies against the middle of
 -- q and q + 1 times 2 ^ k is told by the squares.
 unfoldable pub nearestRoot : ℕ → Float
+unfolding isqrt size units
 nearestRoot s =
     let k = (size s + 1) / 2 - prec binary64 in
     let q = isqrt (s / 4 ^ k) in
@@ -26,9 +28,11 @@ nearestRoot s =
 
 -- the root of n times the smallest value, 2 ^ -1074: √(n * 2 ^ -1074) = √(n * 2 ^ 1074) * 2 ^ -1074
 unfoldable pub rootOf : ℕ → Float
+unfolding nearestRoot
 rootOf n = nearestRoot (n * 2 ^ low binary64)
 
 unfoldable pub squareRoot : Float → Float
+unfolding rootOf
 squareRoot nan = nan
 squareRoot (inf true) = nan
 squareRoot (inf false) = inf false
