@@ -8,4 +8,7 @@ pub mod Assembled
 pub mod Fields
 pub mod Units
 pub mod Cases
+pub mod Middle
+pub mod Counted
+pub mod Laws
 pub mod Examples

@@ -1,2 +1,3 @@
 pub mod SquareRoot
 pub mod Answer
+pub mod Nearest
