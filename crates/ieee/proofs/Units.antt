@@ -27,7 +27,7 @@ between true root l h = omega arith
 between false root l h = omega arith
 
 -- a number whose square is so large has 53 digits
-full : (root rest r : ℕ) → root * root + rest ≡ r → rest ≤ 2 * root → 2 ^ 104 ≤ r → 2 ^ 52 ≤ root
+pub full : (root rest r : ℕ) → root * root + rest ≡ r → rest ≤ 2 * root → 2 ^ 104 ≤ r → 2 ^ 52 ≤ root
 full root rest r e h l =
     le-of-suc-le-suc
     (lt-of-not-le (λ (g : suc root ≤ 2 ^ 52).
