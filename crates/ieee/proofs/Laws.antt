@@ -1,17 +1,19 @@
 -- The laws of the square root. `root-is-nearest`: no value of binary64 is as near to the exact root as the defined one, so a tie never comes up.
--- `root-fits`: the defined root is a value of binary64. `root-finite`: it is finite where the operand is finite and not negative. Assumes nothing.
+-- `root-fits`: the defined root is a value of binary64. `root-positive`, `root-finite`: when it is positive, and when finite. Assumes nothing.
 use mathlib.Core.Path.{_≡_, refl, sym, ap, _∙_, subst}
-use mathlib.Core.Bool.{Bool, true, false, not, cond, true≢false}
-use Prim.Native.Nat.{ℕ, zero, suc, _+_, _-_, _*_, _/_, _%_, _^_, _≤_, _<_}
-use native.Mathlib.Nat.{le-trans, le-of-eq, lt-of-le-of-lt, lt-of-lt-of-le, lt-of-not-le, not-le-of-lt, add-sub-of-le, add-mul, mul-add, mul-comm, mul-assoc, mul-left-comm, mul-right-comm, mul-le-mul, mul-pos, mul-lt-mul-of-pos-right, lt-of-mul-lt-mul-right, mod-lt}
+use mathlib.Core.Bool.{Bool, true, false, not, _&&_}
+use Prim.Native.Nat.{ℕ, zero, suc, _+_, _-_, _*_, _/_, _%_, _^_, _≤_, _<_, zero-le}
+use native.Mathlib.Nat.{zero-lt-suc, zero-mul, le-trans, le-of-eq, lt-of-le-of-lt, lt-of-lt-of-le, lt-of-not-le, not-le-of-lt, add-sub-of-le, add-mul, mul-add, mul-comm, mul-assoc, mul-left-comm, mul-right-comm, mul-le-mul, mul-pos, mul-lt-mul-of-pos-right, lt-of-mul-lt-mul-right, mod-lt}
 use native.Mathlib.Omega.{arith}
+use borrow.Author.Tests.{lt-ltb, le-ltb}
 use lib.Dec.{T, ltb, lt→ltb}
 use lib.IntN.{ℤ}
 use lib.Pow.{pow-add, pow-pos}
 use lib.Count.{leadingZeros}
-use lib.Ieee.{Float, nan, inf, fin, binary64, units, fits, lt}
+use lib.Ieee
+use lib.Ieee.{Float, nan, inf, fin, binary64, up, down, units, fits, lt, ofBits}
 use lib.Ieee.Exact.{HasValue, units-val}
-use lib.Ieee.Fits.{nan-fits, inf-fits}
+use lib.Ieee.Fits.{nan-fits, inf-fits, up-pos}
 use lib.Ieee.Positive.{positive, num, den, den-pos, value→cross, positive-of-value}
 use lib.Ieee.Scale.{finite}
 use Rattle.ieee.specs.SquareRoot.{isqrt, squareRoot}
@@ -162,3 +164,48 @@ module _ (x : Float) (f : T (fits binary64 x)) (p : T (positive x)) (n : ℕ) (d
         (above-middle (r x f p) (q x f p) (rest x f p) (whole x f p) (below x f p) large (k x f p) n (other n d g .places) (other n d g .narrow)
         (lt-counts z y v u (other n d g .value) (root-value x f p) l)),
   )
+
+-- ---- which values it takes
+is-positive : (m : ℕ) (e : ℤ) → T (positive (fin false (suc m) e))
+is-positive m e = lt→ltb 0 (suc m) (zero-lt-suc m)
+
+pub root-fits : (x : Float) → T (fits binary64 x) → T (fits binary64 (squareRoot x))
+unfolding squareRoot
+root-fits nan f = nan-fits binary64
+root-fits (inf true) f = nan-fits binary64
+root-fits (inf false) f = inf-fits binary64 false
+root-fits (fin s zero e) f = f
+root-fits (fin true (suc m) e) f = nan-fits binary64
+root-fits (fin false (suc m) e) f = positive-root-fits (fin false (suc m) e) f (is-positive m e)
+
+pub root-positive : (x : Float) → T (fits binary64 x) → T (positive x) → T (positive (squareRoot x))
+root-positive x f p =
+    positive-of-value (squareRoot x) (up-or-down (q x f p) (rest x f p) * 2 ^ k x f p) (2 ^ 1074) (root-value x f p)
+    (mul-pos (lt-of-lt-of-le (pow-pos 52) (ends x f p .0)) (pow-pos (k x f p)))
+
+of-positive : (x : Float) → T (positive x) → finite x ≡ true
+of-positive nan p = absurd p
+of-positive (inf s) p = absurd p
+of-positive (fin s m e) p = refl
+
+zero-size : (a : ℕ) → 0 * a * 1 ≡ 0
+zero-size a = omega arith
+
+some-size : (a b m : ℕ) → 0 < suc m * a → 0 < suc m * a * 1 + 0 * b
+some-size a b m h = omega arith
+
+zeros-below : (s : Bool) (a b : ℕ) → a ≡ 0 → b ≡ 0 → Ieee.below s a false b ≡ false
+zeros-below true a b e g = ap (λ (y : ℕ). ltb 0 (y + b)) e ∙ ap (λ (y : ℕ). ltb 0 (0 + y)) g
+zeros-below false a b e g = ap (λ (y : ℕ). ltb y b) e ∙ ap (λ (y : ℕ). ltb 0 y) g
+
+-- it is finite exactly where the operand is finite and not below zero
+pub root-finite : (x : Float) → T (fits binary64 x) → finite (squareRoot x) ≡ (finite x && not (lt x (ofBits binary64 0)))
+unfolding squareRoot lt ofBits
+root-finite nan f = refl
+root-finite (inf true) f = refl
+root-finite (inf false) f = refl
+root-finite (fin s zero e) f = sym (ap not (zeros-below s (0 * up e * 1) (0 * down e) (zero-size (up e)) (zero-mul (down e))))
+root-finite (fin true (suc m) e) f = sym (ap not (lt-ltb 0 (suc m * up e * 1 + 0 * down e) (some-size (up e) (down e) m (mul-pos (zero-lt-suc m) (up-pos e)))))
+root-finite (fin false (suc m) e) f =
+    of-positive (squareRoot (fin false (suc m) e)) (root-positive (fin false (suc m) e) f (is-positive m e))
+    ∙ sym (ap not (le-ltb (suc m * up e * 1) (0 * down e) (le-trans (le-of-eq (zero-mul (down e))) zero-le)))
