@@ -6,8 +6,6 @@ use borrow.Author.Needs.{needs}
 use Rattle.ieee.proofs.Recurrence.{State, starts, stays, takes, ends, renamed}
 use Rattle.ieee.proofs.root.digits.Statement.{statement}
 use Rattle.ieee.proofs.root.digits.Tie as tie
-use Rattle.ieee.proofs.root.digits.Reads as reads
-use Rattle.ieee.proofs.root.digits.Lts as lts
 
 abbrev Inv-loop : tie.InvT-loop
 Inv-loop w root₀ rest₀ left₀ i₀ root rest left i = State w root rest left i
