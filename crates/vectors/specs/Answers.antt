@@ -1,0 +1,1 @@
+-- What a tool maker's function on vectors answers. Assumes nothing.
