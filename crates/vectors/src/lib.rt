@@ -2,10 +2,12 @@
 // them; the functions of `answers` refuse.
 ghost use mathlib.Core.Path.{_≡_};
 ghost use mathlib.Core.Bool.{_&&_};
-ghost use lib.Ieee.Scale.{finite};
 ghost use Rattle.vectors.specs.Vectors.{sum, difference, negative, multiple, quotient, dot, dot2, cross, magnitude};
 ghost use Rattle.vectors.specs.Matrices.{determinant2, inverse2, negative2, image2};
 ghost use Rattle.vectors.specs.Matrices.{transposed, determinant3, inverse3, image3, sum3, multiple3};
+ghost use Rattle.vectors.specs.Answers.{finiteVector, finiteMatrix2, finiteMatrix3};
+
+pub mod answers;
 
 pub struct Vector2 {
     pub x: f64,
@@ -33,6 +35,29 @@ pub struct Matrix3 {
     pub c2: Vector3,
 }
 
+// A vector, or the number of a refusal.
+pub enum VectorAnswer {
+    Value(Vector3),
+    Refused(u8),
+}
+
+// A matrix beside its refusal number, which is 0 where it is answered.
+pub struct Matrix2Answer {
+    pub refusal: u8,
+    pub matrix: Matrix2,
+}
+
+pub struct Matrix3Answer {
+    pub refusal: u8,
+    pub matrix: Matrix3,
+}
+
+fn both(p: bool, q: bool) -> bool
+    ensures { λ r. ⌜ r ≡ (p && q) ⌝ }
+{
+    if p { q } else { false }
+}
+
 impl Vector2 {
     pub fn dot(self, b: Vector2) -> f64
         ensures { λ r. ⌜ r ≡ dot2 self b ⌝ }
@@ -42,6 +67,13 @@ impl Vector2 {
 }
 
 impl Vector3 {
+    pub fn is_finite(self) -> bool
+        ensures { λ r. ⌜ r ≡ finiteVector self ⌝ }
+    {
+        let xy = both(ieee::is_finite(self.x), ieee::is_finite(self.y));
+        both(xy, ieee::is_finite(self.z))
+    }
+
     pub fn add(self, b: Vector3) -> Vector3
         ensures { λ r. ⌜ r ≡ sum self b ⌝ }
     {
@@ -116,6 +148,14 @@ impl Vector3 {
 }
 
 impl Matrix2 {
+    pub fn is_finite(self) -> bool
+        ensures { λ r. ⌜ r ≡ finiteMatrix2 self ⌝ }
+    {
+        let ab = both(ieee::is_finite(self.a), ieee::is_finite(self.b));
+        let abc = both(ab, ieee::is_finite(self.c));
+        both(abc, ieee::is_finite(self.d))
+    }
+
     pub fn determinant(self) -> f64
         ensures { λ r. ⌜ r ≡ determinant2 self ⌝ }
     {
@@ -156,6 +196,16 @@ impl Matrix2 {
 }
 
 impl Matrix3 {
+    pub fn is_finite(self) -> bool
+        ensures { λ r. ⌜ r ≡ finiteMatrix3 self ⌝ }
+    {
+        let a = self.c0;
+        let b = self.c1;
+        let c = self.c2;
+        let ab = both(a.is_finite(), b.is_finite());
+        both(ab, c.is_finite())
+    }
+
     pub fn transpose(self) -> Matrix3
         ensures { λ r. ⌜ r ≡ transposed self ⌝ }
     {
