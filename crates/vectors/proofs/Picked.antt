@@ -1,5 +1,5 @@
 -- What the answers' definitions pick, from which way each test goes. Assumes nothing.
-use mathlib.Core.Path.{_≡_, _∙_}
+use mathlib.Core.Path.{_≡_}
 use mathlib.Core.Bool.{Bool, true, false, _&&_, cond}
 use lib.Ieee.{Float}
 use Rattle.vectors.specs.Answers.{vectorFrom, realFrom}
@@ -14,11 +14,8 @@ vector-from e f = λ i. vectorFrom (e i) (f i)
 pub real-from : {p p' : Bool} {y y' : Float} → p ≡ p' → y ≡ y' → realFrom p y ≡ realFrom p' y'
 real-from e f = λ i. realFrom (e i) (f i)
 
--- one test in the other: a where the first fails, b where both pass, c where the second fails
+-- one test in the other: b where both pass, c where only the first does
 module _ {X : Type 0} {p q : Bool} (a b c : X) where
-  pub neither : p ≡ false → cond p (cond q b c) a ≡ a
-  neither e = λ i. cond (e i) (cond q b c) a
-
   pub inner : p ≡ true → q ≡ true → cond p (cond q b c) a ≡ b
   inner e f = λ i. cond (e i) (cond (f i) b c) a
 

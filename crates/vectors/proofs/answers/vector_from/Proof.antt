@@ -2,7 +2,7 @@
 use borrow.Author.Needs.{needs}
 use mathlib.Core.Path.{sym, _∙_}
 use Rattle.vectors.specs.declared.VectorAnswer.the-variants.{Value, Refused}
-use Rattle.vectors.proofs.Picked.{neither, inner, outer}
+use Rattle.vectors.proofs.Picked.{inner, outer}
 use Rattle.vectors.proofs.answers.vector_from.Statement.{statement}
 use Rattle.vectors.proofs.answers.vector_from.Tie as tie
 
