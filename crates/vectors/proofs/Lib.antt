@@ -1,2 +1,3 @@
 pub mod Alike
 pub mod Picked
+pub mod Examples

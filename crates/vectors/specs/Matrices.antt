@@ -1,7 +1,7 @@
 -- Matrices of binary64 floats, in document 01's order of operations ("Vectors"): each operation is rounded. Assumes nothing.
 use lib.Ieee
-use lib.Ieee.{Float, binary64, ofBits}
-use Rattle.vectors.specs.Vectors.{plus, minus, times, over, pair, vector, sum, multiple, quotient, dot, dot2, cross}
+use lib.Ieee.{Float}
+use Rattle.vectors.specs.Vectors.{minus, times, over, pair, vector, sum, multiple, quotient, dot, dot2, cross}
 use Rattle.vectors.specs.declared.Vector2.{Vector2}
 use Rattle.vectors.specs.declared.Vector3.{Vector3}
 use Rattle.vectors.specs.declared.Matrix2.{Matrix2}

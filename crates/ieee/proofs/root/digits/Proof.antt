@@ -1,6 +1,5 @@
 -- `root::digits` meets its contract: each turn keeps the recurrence's `State`. Assumes nothing.
-use Prim.Native.Nat.{ℕ, suc, _+_, _-_, _≤_, _<_}
-use native.Mathlib.Omega.{arith}
+use Prim.Native.Nat.{_-_}
 use mathlib.Core.Logic.{⊎-elim}
 use borrow.Author.Needs.{needs}
 use Rattle.ieee.proofs.Recurrence.{State, starts, stays, takes, ends, renamed}

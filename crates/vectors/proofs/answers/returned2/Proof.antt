@@ -2,7 +2,6 @@
 use mathlib.Core.Path.{sym, _∙_}
 use Rattle.ieee.proofs.Tests.{first, second}
 use Rattle.vectors.specs.Answers.{refused2 as refusedBy}
-use Rattle.vectors.specs.declared.Matrix2Answer.{Matrix2Answer}
 use Rattle.vectors.proofs.answers.returned2.Statement.{statement}
 use Rattle.vectors.proofs.answers.returned2.Tie as tie
 

@@ -2,7 +2,6 @@
 use mathlib.Core.Path.{sym, _∙_}
 use Rattle.ieee.proofs.Tests.{first, second}
 use Rattle.vectors.specs.Answers.{refused3 as refusedBy}
-use Rattle.vectors.specs.declared.Matrix3Answer.{Matrix3Answer}
 use Rattle.vectors.proofs.answers.returned3.Statement.{statement}
 use Rattle.vectors.proofs.answers.returned3.Tie as tie
 

@@ -6,7 +6,6 @@ use lib.Ieee.Scale.{finite}
 use Rattle.ieee.proofs.Tests.{second}
 use Rattle.vectors.specs.Vectors.{quotient}
 use Rattle.vectors.specs.Answers.{nought, finiteVector, returnedVector}
-use Rattle.vectors.specs.declared.VectorAnswer.{VectorAnswer}
 use Rattle.vectors.specs.declared.VectorAnswer.the-variants.{Refused}
 use Rattle.vectors.proofs.Picked.{both, inner, outer}
 use Rattle.vectors.proofs.answers.vector_quotient.Statement.{statement}
