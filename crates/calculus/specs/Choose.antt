@@ -3,6 +3,8 @@ use mathlib.Core.Path.{_≡_}
 use mathlib.Core.List.{List}
 use Prim.Native.Nat.{ℕ, zero, suc, _+_, _<_}
 use lib.ListN.{length, getD}
+use Rattle.calculus.specs.Graded.{graded}
+use Rattle.calculus.specs.Array.{listed}
 
 unfoldable pub choose : ℕ → ℕ → ℕ
 choose zero zero = 1
@@ -14,3 +16,7 @@ choose (suc n) (suc k) = choose n k + choose n (suc k)
 pub record Row (w : ℕ) (c : List ℕ) (m : ℕ) : Type 0 where
   pub long : length c ≡ w
   pub all : (i : ℕ) → i < w → getD c i 0 ≡ choose m i
+
+-- the coefficients of the orders 0 to 20, order after order: [i][j] is the i-th of the order i + j
+abbrev pub binomialTable : List ℕ
+binomialTable = listed (graded (λ i j. choose (i + j) i)) 0 231
