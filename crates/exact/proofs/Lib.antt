@@ -4,3 +4,6 @@ pub mod Progress
 pub mod Earlier
 pub mod Writing
 pub mod Places
+pub mod Same
+pub mod Judged
+pub mod Figures
