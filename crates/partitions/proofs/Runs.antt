@@ -1,20 +1,20 @@
--- The multiplicity by runs of equal parts is the one by counts, at nonincreasing lists.
+-- The factorials of the parts and of the runs of equal parts make the weight, at nonincreasing lists; and the runs' bounds.
 -- Assumes nothing.
 use mathlib.Core.Path.{_≡_, refl, sym, _∙_, ap, ap₂, subst}
 use mathlib.Core.Bool.{cond}
 use mathlib.Core.List.{List, [], _∷_}
-use Prim.Native.Nat.{ℕ, suc, _+_, _*_, _/_, _<_}
+use Prim.Native.Nat.{ℕ, zero, suc, _+_, _*_, _/_, _≤_, _<_}
 use native.Mathlib.Omega.{arith}
 use native.Mathlib.Numerals.{one-add}
-use native.Mathlib.Nat.{div-div-eq-div-mul, div-one, mul-div-cancel, add-zero}
-use Rattle.partitions.specs.Parts.{total, fact, divide, runsFrom, runs, multiplicity}
-use Rattle.calculus.proofs.Tests.{by-eqb, eqb-no}
-use Rattle.calculus.proofs.Desc.{Down, none, one}
-use Rattle.calculus.proofs.Out.{count, weight, fact-pos}
-use Rattle.calculus.proofs.Mult.{mult}
+use native.Mathlib.Nat.{mul-div-cancel, add-zero}
+use lib.ListN.{length, getD}
+use Rattle.partitions.specs.Parts.{fact, runsFrom, runs}
+use Rattle.partitions.proofs.Tests.{by-eqb, eqb-no}
+use Rattle.partitions.proofs.Down.{Down, none, one}
+use Rattle.partitions.proofs.Out.{count, weight, fact-pos}
 
 -- the product of the factorials, and of the counts of each part among those from it on
-facts : List ℕ → ℕ
+unfoldable pub facts : List ℕ → ℕ
 facts [] = 1
 facts (a ∷ l) = fact a * facts l
 
@@ -26,11 +26,6 @@ weight-is : (l : List ℕ) → facts l * counts l ≡ weight l
 unfolding facts counts weight
 weight-is [] = refl
 weight-is (a ∷ l) = omega (arith, ap (λ x. (fact a * suc (count a l)) * x) (weight-is l))
-
-divide-is : (n : ℕ) (l : List ℕ) → divide n l ≡ n / facts l
-unfolding divide facts
-divide-is n [] = sym (div-one n)
-divide-is n (a ∷ l) = divide-is (n / fact a) l ∙ div-div-eq-div-mul n (fact a) (facts l)
 
 count-above : {m : ℕ} {l : List ℕ} (v : ℕ) → Down m l → m < v → count v l ≡ 0
 unfolding count
@@ -76,10 +71,36 @@ unfolding runs facts counts
 runs-is none = refl
 runs-is (one {a = a} {l = l} h d) = first-run (facts (runsFrom (suc a) 1 l)) (count (suc a) l) (counts l) (runs-from 1 d)
 
-pub multiplicity-is : {m : ℕ} {l : List ℕ} → Down m l → multiplicity l ≡ mult l
-unfolding multiplicity mult
-multiplicity-is {m} {l} d =
-    divide-is (divide (fact (total l)) l) (runs l)
-    ∙ ap₂ (λ (x y : ℕ). x / y) (divide-is (fact (total l)) l) (runs-is d)
-    ∙ div-div-eq-div-mul (fact (total l)) (facts l) (counts l)
-    ∙ ap (λ x. fact (total l) / x) (weight-is l)
+pub facts-weight : {m : ℕ} {l : List ℕ} → Down m l → facts l * facts (runs l) ≡ weight l
+facts-weight {m} {l} d = ap (λ x. facts l * x) (runs-is d) ∙ weight-is l
+
+-- ---- no run is longer than the list, and there are no more runs than parts
+run-from-most : (a k : ℕ) (l : List ℕ) (i : ℕ) → 1 ≤ k → getD (runsFrom a k l) i 0 ≤ k + length l
+unfolding runsFrom
+run-from-most a k [] zero h = omega arith
+run-from-most a k [] (suc i) h = omega arith
+run-from-most a k (b ∷ l) i h =
+    by-eqb b a (λ t. getD (cond t (runsFrom a (suc k) l) (k ∷ runsFrom b 1 l)) i 0 ≤ k + suc (length l))
+    (λ _. omega (arith, run-from-most a (suc k) l i (omega arith)))
+    (λ _. other i (λ j. run-from-most b 1 l j (omega arith)))
+  where
+    other : (i : ℕ) → ((j : ℕ) → getD (runsFrom b 1 l) j 0 ≤ 1 + length l) → getD (k ∷ runsFrom b 1 l) i 0 ≤ k + suc (length l)
+    other zero f = omega arith
+    other (suc i) f = omega (arith, f i)
+
+pub run-most : (l : List ℕ) (i : ℕ) → getD (runs l) i 0 ≤ length l
+unfolding runs
+run-most [] i = omega arith
+run-most (a ∷ l) i = omega (arith, run-from-most a 1 l i (omega arith))
+
+runs-from-few : (a k : ℕ) (l : List ℕ) → length (runsFrom a k l) ≤ suc (length l)
+unfolding runsFrom
+runs-from-few a k [] = omega arith
+runs-from-few a k (b ∷ l) =
+    by-eqb b a (λ t. length (cond t (runsFrom a (suc k) l) (k ∷ runsFrom b 1 l)) ≤ suc (suc (length l)))
+    (λ _. omega (arith, runs-from-few a (suc k) l)) (λ _. omega (arith, runs-from-few b 1 l))
+
+pub runs-few : (l : List ℕ) → length (runs l) ≤ length l
+unfolding runs
+runs-few [] = omega arith
+runs-few (a ∷ l) = runs-from-few a 1 l
