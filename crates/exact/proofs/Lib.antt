@@ -1,0 +1,9 @@
+pub mod Terms
+pub mod Work
+pub mod Progress
+pub mod Earlier
+pub mod Writing
+pub mod Places
+pub mod Same
+pub mod Judged
+pub mod Figures
