@@ -26,3 +26,24 @@ pub fn factors(u: &[i64; 21], v: &[i64; 21], list: &[usize], mask: u32) -> Whole
     }
     product
 }
+
+// The sum over all masks of the entry of the surface that the mask's ones count names, times the factors of the mask.
+pub fn tensor(entries: &[i64; 231], u: &[i64; 21], v: &[i64; 21], list: &[usize]) -> Whole
+    requires { ⌜ (length (now list) ≤ 20) × (total (now list) ≤ 20) ⌝ }
+    ensures { λ r. ⌜ r ≡ Tensor (regular checked) 2 (coordinates (curveValues (now (u .entry))) (curveValues (now (v .entry)))) (surfaceEntry (surfaceValues (now (entries .entry)))) (now (list .entry)) ⌝ }
+{
+    let len = list.len();
+    let last = len * (len + 1) / 2 + len;
+    let end: u32 = 1 << len;
+    let mut sum = Whole::Value(0);
+    let mut mask: u32 = 0;
+    while mask < end {
+        let t = u32::count_ones(mask);
+        let e = entries[last - t as usize];
+        let product = factors(u, v, list, mask);
+        let term = whole::times(Whole::Value(e), product);
+        sum = whole::plus(sum, term);
+        mask += 1;
+    }
+    sum
+}
