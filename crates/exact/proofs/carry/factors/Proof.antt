@@ -7,7 +7,7 @@ use mir.Syntax.{w64}
 use mir.Val.{SFits, toZ}
 use mir.Facts.{toZ-ofZ}
 use denote.Ref.{now}
-use Rattle.partitions.proofs.Slices.{part-le}
+use Rattle.partitions.proofs.Member.{part-total}
 use Rattle.calculus.specs.Carry.{factors as Factors, coordinates}
 use Rattle.exact.specs.Kinds.{checked}
 use Rattle.exact.specs.Answer.{curveValues}
@@ -38,16 +38,16 @@ shared-slice-read-a : tie.Need-shared-slice-read-a Inv-loop μ-loop
 shared-slice-read-a c = search needs
 
 mul-x : tie.Need-mul-x Inv-loop μ-loop
-mul-x c = omega (arith, part-le (c .before .before .before .before .before .args .list .now) (c .before .before .before .loop .p))
+mul-x c = omega (arith, part-total (c .before .before .before .before .before .args .list .now) (c .before .before .before .loop .p))
 
 element-copy-out-x : tie.Need-element-copy-out-x Inv-loop μ-loop
-element-copy-out-x c = omega (arith, part-le (c .before .before .before .before .before .args .list .now) (c .before .before .before .loop .p))
+element-copy-out-x c = omega (arith, part-total (c .before .before .before .before .before .args .list .now) (c .before .before .before .loop .p))
 
 mul-x-2 : tie.Need-mul-x-2 Inv-loop μ-loop
-mul-x-2 c = omega (arith, part-le (c .before .before .before .before .before .args .list .now) (c .before .before .before .loop .p))
+mul-x-2 c = omega (arith, part-total (c .before .before .before .before .before .args .list .now) (c .before .before .before .loop .p))
 
 element-copy-out-x-2 : tie.Need-element-copy-out-x-2 Inv-loop μ-loop
-element-copy-out-x-2 c = omega (arith, part-le (c .before .before .before .before .before .args .list .now) (c .before .before .before .loop .p))
+element-copy-out-x-2 c = omega (arith, part-total (c .before .before .before .before .before .args .list .now) (c .before .before .before .loop .p))
 
 times-requires : tie.Need-times-requires Inv-loop μ-loop
 times-requires c κs = search needs
