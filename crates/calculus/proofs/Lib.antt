@@ -27,3 +27,4 @@ pub mod Quotient
 pub mod Agree
 pub mod Entries
 pub mod Closed
+pub mod Filling

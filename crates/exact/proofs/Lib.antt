@@ -1,2 +1,5 @@
-pub mod Lists
+pub mod Work
+pub mod Progress
+pub mod Masks
 pub mod Walking
+pub mod Orders
