@@ -2,3 +2,4 @@ pub mod Kinds
 pub mod Order
 pub mod Answer
 pub mod Composite
+pub mod Judged
