@@ -13,8 +13,9 @@ use borrow.Author.Tests.{ltb-true}
 use Rattle.whole.specs.declared.Whole.{Whole}
 use Rattle.whole.specs.declared.Whole.the-variants.{Value, Refused}
 use Rattle.whole.specs.Checked as Checked
-use Rattle.whole.specs.History.{Event, Traced, verdict, orElse, given, settleBy, settle}
-use Rattle.whole.proofs.History.{verdict-append, settle-given, settle-plus, settle-minus, settle-times, settle-over, settle-ofNat}
+use Rattle.whole.specs.Checked.{inRange}
+use Rattle.whole.specs.History.{Event, Traced, verdict, orElse, given, settleBy, settle, numbers, every, exact}
+use Rattle.whole.proofs.History.{verdict-append, verdict-parts, verdict-exact, exact-append, settle-given, settle-plus, settle-minus, settle-times, settle-over, settle-ofNat}
 use Rattle.calculus.specs.Kind.{regular, plain}
 use Rattle.calculus.specs.Array.{listed, curveArray}
 use Rattle.calculus.proofs.Related.{Related, regulars}
@@ -66,14 +67,6 @@ module _ {A : Type 0} (refused : ℕ → A) (a : A) where
       one h zero z = h
       one h (suc c) z = refl
 
-none-left : (v u : ℕ) → orElse v u ≡ 0 → v ≡ 0
-none-left zero u e = refl
-none-left (suc v) u e = e
-
-none-right : (v u : ℕ) → orElse v u ≡ 0 → u ≡ 0
-none-right zero u e = e
-none-right (suc v) u e = absurd (suc-ne-zero v e)
-
 module _ (g : ℕ → Traced) where
   pub map-settle : (i n : ℕ) → listed (λ m. settle (g m)) i n ≡ map settle (listed g i n)
   unfolding listed
@@ -85,13 +78,18 @@ module _ (g : ℕ → Traced) where
   unfolding listed histories
   none-refused i zero e k l = absurd (not-suc-le-zero l)
   none-refused i (suc n) e zero l =
-      let h = sym (verdict-append (g i .history) (histories (listed g (suc i) n))) ∙ e in
-      subst (λ (m : ℕ). verdict (g m .history) ≡ 0) (sym (add-zero i)) (none-left (verdict (g i .history)) (verdict (histories (listed g (suc i) n))) h)
+      subst (λ (m : ℕ). verdict (g m .history) ≡ 0) (sym (add-zero i)) (verdict-parts (g i .history) (histories (listed g (suc i) n)) e .0)
   none-refused i (suc n) e (suc k) l =
-      let h = sym (verdict-append (g i .history) (histories (listed g (suc i) n))) ∙ e in
       let m : suc i + k ≡ i + suc k = suc-add i k ∙ sym (add-suc i k) in
       subst (λ (m : ℕ). verdict (g m .history) ≡ 0) m
-      (none-refused (suc i) n (none-right (verdict (g i .history)) (verdict (histories (listed g (suc i) n))) h) k (omega arith))
+      (none-refused (suc i) n (verdict-parts (g i .history) (histories (listed g (suc i) n)) e .1) k (omega arith))
+
+  -- where no entry divides but exactly, no refusal is but that of a number out of range
+  pub exact-listed : ((m : ℕ) → exact (g m .history) ≡ true) → (i n : ℕ) → exact (histories (listed g i n)) ≡ true
+  unfolding listed histories exact
+  exact-listed h i zero = refl
+  exact-listed h i (suc n) =
+      exact-append (g i .history) (histories (listed g (suc i) n)) ∙ ap₂ (λ (x y : Bool). cond x y false) (h i) (exact-listed h (suc i) n)
 
   module _ (n : ℕ) where
     same : verdict (histories (curveEntries g n)) ≡ 0 → (k : ℕ) (t : Bool) → ltb k (suc n) ≡ t →
@@ -115,3 +113,14 @@ module _ (g : ℕ → Traced) where
 
     pub curve-judged : (f : ℕ → Whole) → ((m : ℕ) → settle (g m) ≡ f m) → curveAnswer f n ≡ judgedCurve g n
     curve-judged f h = ap (λ (x : ℕ → Whole). curveAnswer x n) (sym (fun-ext h)) ∙ settled
+
+    -- where every division is exact: the values, or 9 where a number that is formed is out of range
+    pub curve-in-range : ((m : ℕ) → exact (g m .history) ≡ true) →
+        judgedCurve g n ≡ cond (every inRange (numbers (histories (curveEntries g n)))) (answeredCurve n (λ m. g m .value)) (refusedCurve 9)
+    curve-in-range h =
+        ap (unlessBy refusedCurve (answeredCurve n (λ m. g m .value))) (verdict-exact (histories (curveEntries g n)) (exact-listed h 0 (suc n)))
+        ∙ zero-or-nine (every inRange (numbers (histories (curveEntries g n))))
+      where
+        zero-or-nine : (b : Bool) → unlessBy refusedCurve (answeredCurve n (λ m. g m .value)) (cond b 0 9) ≡ cond b (answeredCurve n (λ m. g m .value)) (refusedCurve 9)
+        zero-or-nine true = refl
+        zero-or-nine false = refl
