@@ -2,28 +2,26 @@
 -- the values of the formulas over the integers. Assumes nothing.
 use mathlib.Core.Path.{_≡_, refl, sym, ap, ap₂, _∙_, subst, fun-ext}
 use mathlib.Core.Bool.{Bool, true, false, cond}
-use mathlib.Core.List.{List, [], _∷_, _++_, map}
-use Prim.Native.Nat.{ℕ, zero, suc, _+_, _<_, _≤_}
-use native.Mathlib.Nat.{not-suc-le-zero, suc-ne-zero, le-refl, zero-add, add-zero, add-suc, suc-add}
+use mathlib.Core.List.{List, [], _∷_, map}
+use Prim.Native.Nat.{ℕ, zero, suc, _+_, _<_}
+use native.Mathlib.Nat.{not-suc-le-zero, zero-add, add-zero, add-suc, suc-add}
 use native.Mathlib.Omega.{arith}
 use lib.Dec.{ltb}
 use lib.IntN.{ℤ, pos, _+ℤ_, _-ℤ_, _*ℤ_}
 use lib.Signed.{quotZ}
 use borrow.Author.Tests.{ltb-true}
 use Rattle.whole.specs.declared.Whole.{Whole}
-use Rattle.whole.specs.declared.Whole.the-variants.{Value, Refused}
 use Rattle.whole.specs.Checked as Checked
 use Rattle.whole.specs.Checked.{inRange}
-use Rattle.whole.specs.History.{Event, Traced, verdict, orElse, given, settleBy, settle, numbers, every, exact}
+use Rattle.whole.specs.History.{Traced, verdict, orElse, settleBy, settle, numbers, every, exact}
 use Rattle.whole.proofs.History.{verdict-append, verdict-parts, verdict-exact, exact-append, settle-given, settle-plus, settle-minus, settle-times, settle-over, settle-ofNat}
-use Rattle.calculus.specs.Kind.{regular, plain}
-use Rattle.calculus.specs.Array.{listed, curveArray}
-use Rattle.calculus.proofs.Related.{Related, regulars}
-use Rattle.exact.specs.declared.CurveAnswer.{CurveAnswer}
+use Rattle.calculus.specs.Kind.{plain}
+use Rattle.calculus.specs.Array.{listed}
+use Rattle.calculus.proofs.Related.{Related}
 use Rattle.exact.specs.Kinds.{checked, traced}
 use Rattle.exact.specs.Order.{curveEntries}
-use Rattle.exact.specs.Answer.{curveNumbers, surfaceNumbers, curveValues, surfaceValues, valueOf, refusedCurve, answeredCurve, unlessRefused, curveAnswer}
-use Rattle.exact.specs.Judged.{curveTraces, surfaceTraces, histories, unlessBy, judgedCurve}
+use Rattle.exact.specs.Answer.{valueOf, refusedCurve, answeredCurve, unlessRefused, curveAnswer}
+use Rattle.exact.specs.Judged.{histories, unlessBy, judgedCurve}
 
 -- ---- the operations on histories come to the checked ones, and their values are those of the integers
 abbrev pub Settles : Traced → Whole → Type 0

@@ -1,5 +1,5 @@
 -- What the loops of the carry need of lists of parts: the factors of the parts still to come, and the bits of a mask. Assumes nothing.
-use mathlib.Core.Path.{_≡_, refl, sym, _∙_, ap, ap₂}
+use mathlib.Core.Path.{_≡_, refl, _∙_, ap}
 use mathlib.Core.List.{List, [], _∷_}
 use Prim.Native.Nat.{ℕ, zero, suc, _+_, _-_, _*_, _/_, _%_, _^_, _≤_, _<_}
 use native.Mathlib.Nat.{suc-ne-zero, pow-suc, mul-le-mul, one-mul, mod-eq-of-lt}

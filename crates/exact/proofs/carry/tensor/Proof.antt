@@ -5,7 +5,7 @@ use native.Mathlib.Nat.{le-antisymm}
 use native.Mathlib.Numerals.{add-one}
 use lib.Count.{ones, ones-le}
 use lib.ListN.{length, getD}
-use lib.IntN.{ℤ, pos}
+use lib.IntN.{pos}
 use mir.Syntax.{w64}
 use mir.Val.{SFits, toZ, ofZ}
 use mir.Facts.{toZ-ofZ}
@@ -16,16 +16,11 @@ use Rattle.whole.specs.declared.Whole.the-variants.{Value}
 use Rattle.exact.specs.Kinds.{checked}
 use Rattle.exact.specs.Answer.{surfaceValues}
 use Rattle.exact.proofs.Masks.{termOf, entry-at, square-le, masks-le, masks-shift}
-use Prim.Native.Nat.{ℕ, suc, _+_, _-_, _≤_, _<_}
+use Prim.Native.Nat.{_+_, _-_, _≤_, _<_}
 use native.Mathlib.Omega.{arith}
 use borrow.Author.Needs.{needs}
 use Rattle.exact.proofs.carry.tensor.Statement.{statement}
 use Rattle.exact.proofs.carry.tensor.Tie as tie
-use Rattle.exact.proofs.carry.tensor.Reads as reads
-use Rattle.exact.proofs.carry.tensor.Lts as lts
-use Rattle.exact.proofs.carry.factors.Reads as factors-reads
-use Rattle.whole.proofs.plus.Reads as plus-reads
-use Rattle.whole.proofs.times.Reads as times-reads
 
 abbrev Inv-loop : tie.InvT-loop
 Inv-loop entries u v list len last end sum₀ mask₀ sum mask = (sum ≡ inTurn (checked .plus) (checked .nought) (termOf entries u v list) mask) × (mask ≤ 2 ^ length list)
