@@ -13,6 +13,7 @@ pub mod Graded
 pub mod Filling
 pub mod SurfaceFilling
 pub mod Rows
+pub mod Pascal
 -- the integers: a ring, finite sums, exact division
 pub mod Ints
 pub mod Ring
