@@ -7,3 +7,8 @@ pub mod Places
 pub mod Same
 pub mod Judged
 pub mod Figures
+pub mod Masks
+pub mod Walking
+pub mod Orders
+pub mod CarryJudged
+pub mod CarryFigures

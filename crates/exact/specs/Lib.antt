@@ -3,3 +3,4 @@ pub mod Order
 pub mod Answer
 pub mod Formula
 pub mod Judged
+pub mod Composite
