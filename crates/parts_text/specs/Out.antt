@@ -15,13 +15,16 @@ pub record Place : Type 0 where
   pub out : List ℕ
   pub at : ℕ
 
+abbrev pub place : List ℕ → ℕ → Place
+place out at = record { out = out; at = at }
+
 abbrev pub put : Place → ℕ → Place
-put p b = cond (ltb (p .at) 4096) (record { out = set (p .out) (p .at) b; at = suc (p .at) }) p
+put p b = cond (ltb (p .at) 4096) (place (set (p .out) (p .at) b) (suc (p .at))) p
 
 unfoldable pub puts : Place → List ℕ → Place
 puts p [] = p
 puts p (b ∷ bs) = puts (put p b) bs
 
--- the array and the place after a text
-abbrev pub Puts : List ℕ → ℕ → List ℕ → List ℕ → ℕ → Type 0
-Puts out at t out′ at′ = (out′ ≡ puts (record { out = out; at = at }) t .out) × (at′ ≡ puts (record { out = out; at = at }) t .at)
+-- what stands in the array and at which place, after the text t was written at a place
+pub record Wrote (out : List ℕ) (at : ℕ) (t : List ℕ) (out′ : List ℕ) (at′ : ℕ) : Type 0 where
+  pub is : place out′ at′ ≡ puts (place out at) t

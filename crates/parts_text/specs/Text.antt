@@ -33,11 +33,11 @@ line l = decimal (multiplicity l) ++ joined spaced l ++ newline
 
 -- `total`, a space, and the total
 abbrev pub totalLine : ℕ → List ℕ
-totalLine n = 116 ∷ 111 ∷ 116 ∷ 97 ∷ 108 ∷ spaced n ++ newline
+totalLine n = (116 ∷ 111 ∷ 116 ∷ 97 ∷ 108 ∷ []) ++ spaced n ++ newline
 
 -- `refused`, a space, and the number
 abbrev pub refusedLine : ℕ → List ℕ
-refusedLine c = 114 ∷ 101 ∷ 102 ∷ 117 ∷ 115 ∷ 101 ∷ 100 ∷ spaced c ++ newline
+refusedLine c = (114 ∷ 101 ∷ 102 ∷ 117 ∷ 115 ∷ 101 ∷ 100 ∷ []) ++ spaced c ++ newline
 
 -- a line for each list, then the total of the multiplicities
 abbrev pub text : List (List ℕ) → List ℕ

@@ -3,6 +3,7 @@ ghost use mathlib.Core.Path.{_≡_};
 ghost use Rattle.parts_text.specs.Reading.{fed};
 
 mod input;
+mod out;
 
 // How far the input has been read: what of the order and the len has been seen. Numbers above 20 behave alike, and are kept as 21.
 pub enum Reading {
