@@ -1,3 +1,4 @@
 pub mod Fed
 pub mod Laws
 pub mod Puts
+pub mod Tables
