@@ -1,25 +1,25 @@
 -- Texts written one after the other, and the digits of a number one after the other. Assumes nothing.
 use mathlib.Core.Path.{_≡_, refl, _∙_, ap, sym, subst}
-use mathlib.Core.Bool.{cond}
+use mathlib.Core.Bool.{Bool, true, false, cond}
 use mathlib.Core.List.{List, [], _∷_, _++_, append-assoc, append-nil}
 use Prim.Native.Nat.{ℕ, zero, suc, _+_, _/_, _%_, _<_, _≤_}
 use native.Mathlib.Numerals.{add-one}
 use native.Mathlib.Omega.{arith}
 use lib.Dec.{ltb}
-use lib.ListN.{length, getD, take, set}
+use lib.ListN.{length, getD, take, set, length-set}
 use lib.Seq.{take-suc}
 use borrow.Author.Tests.{lt-ltb, le-ltb}
 use Rattle.parts_text.specs.Text.{digits, decimal, joined}
 use Rattle.parts_text.specs.Out.{Place, place, put, puts, Wrote}
 
 -- ---- a byte
-pub put-within : (out : List ℕ) (at b : ℕ) → at < 4096 → Wrote out at (b ∷ []) (set out at b) (at + 1)
+pub put-within : (out : List ℕ) (at b : ℕ) → at < length out → Wrote out at (b ∷ []) (set out at b) (at + 1)
 unfolding puts
-put-within out at b h = record { is = rw (add-one, lt-ltb at 4096 h) }
+put-within out at b h = record { is = rw (add-one, lt-ltb at (length out) h) }
 
-pub put-past : (out : List ℕ) (at b : ℕ) → 4096 ≤ at → Wrote out at (b ∷ []) out at
+pub put-past : (out : List ℕ) (at b : ℕ) → length out ≤ at → Wrote out at (b ∷ []) out at
 unfolding puts
-put-past out at b h = record { is = rw (le-ltb at 4096 h) }
+put-past out at b h = record { is = rw (le-ltb at (length out) h) }
 
 -- ---- texts
 puts-append : (p : Place) (s t : List ℕ) → puts p (s ++ t) ≡ puts (puts p s) t
@@ -30,6 +30,19 @@ puts-append p (b ∷ s) t = puts-append (put p b) s t
 pub wrote-none : {out : List ℕ} {at : ℕ} → Wrote out at [] out at
 unfolding puts
 wrote-none = record { is = refl }
+
+-- writing keeps the array's length
+length-put : (p : Place) (b : ℕ) (within : Bool) → length (cond within (place (set (p .out) (p .at) b) (suc (p .at))) p .out) ≡ length (p .out)
+length-put p b true = length-set (p .out) (p .at) b
+length-put p b false = refl
+
+length-puts : (p : Place) (t : List ℕ) → length (puts p t .out) ≡ length (p .out)
+unfolding puts
+length-puts p [] = refl
+length-puts p (b ∷ t) = length-puts (put p b) t ∙ length-put p b (ltb (p .at) (length (p .out)))
+
+pub same-room : {o o′ t : List ℕ} {a a′ : ℕ} → Wrote o a t o′ a′ → length o′ ≡ length o
+same-room {o = o} {t = t} {a = a} w = ap (λ (p : Place). length (p .out)) (w .is) ∙ length-puts (place o a) t
 
 -- a text after a text
 pub after : {o o′ o″ s t : List ℕ} {a a′ a″ : ℕ} → Wrote o a s o′ a′ → Wrote o′ a′ t o″ a″ → Wrote o a (s ++ t) o″ a″

@@ -32,9 +32,9 @@ at : (f : ℕ → Bool) (n : ℕ) → T (every f n) → (k : ℕ) → k < n → 
 unfolding every
 at f zero t k h = absurd (not-suc-le-zero h)
 at f (suc n) t k h = elim (eq-or-lt-of-le (le-of-suc-le-suc h)) [
-    inl e ↦ subst (λ (j : ℕ). T (f j)) (sym e) (both-left (f n) (every f n) t)
+  | inl e ↦ subst (λ (j : ℕ). T (f j)) (sym e) (both-left (f n) (every f n) t)
   | inr g ↦ at f n (both-right (f n) (every f n) t) k g
-  ]
+]
 
 fits : ℕ → ℕ → Bool
 fits n k = both (leb (length (text (lists n k))) 4096) (ltb (totalCount (lists n k)) (2 ^ 64))

@@ -1,4 +1,4 @@
--- A text written into an array of 4096 bytes. Assumes nothing.
+-- A text written into an array of bytes. Assumes nothing.
 use mathlib.Core.Bool.{cond}
 use mathlib.Core.List.{List, [], _∷_, _++_}
 use mathlib.Core.Path.{_≡_}
@@ -19,7 +19,7 @@ abbrev pub place : List ℕ → ℕ → Place
 place out at = record { out = out; at = at }
 
 abbrev pub put : Place → ℕ → Place
-put p b = cond (ltb (p .at) 4096) (place (set (p .out) (p .at) b) (suc (p .at))) p
+put p b = cond (ltb (p .at) (length (p .out))) (place (set (p .out) (p .at) b) (suc (p .at))) p
 
 unfoldable pub puts : Place → List ℕ → Place
 puts p [] = p

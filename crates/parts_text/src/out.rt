@@ -3,17 +3,17 @@ ghost use mathlib.Core.List.{[], _∷_, _++_};
 ghost use Rattle.parts_text.specs.Text.{decimal, joined, spaced, newline, totalLine, refusedLine};
 ghost use Rattle.parts_text.specs.Out.{Wrote};
 
-pub fn put(out: &mut [u8; 4096], at: usize, b: u8) -> usize
+pub fn put(out: &mut [u8], at: usize, b: u8) -> usize
     ensures { λ r. ⌜ Wrote (now (out .entry)) at (b ∷ []) (now (out .exit)) r ⌝ }
 {
-    if at < 4096 {
+    if at < out.len() {
         out[at] = b;
         return at + 1;
     }
     at
 }
 
-pub fn put_bytes(out: &mut [u8; 4096], at: usize, bytes: &[u8]) -> usize
+pub fn put_bytes(out: &mut [u8], at: usize, bytes: &[u8]) -> usize
     ensures { λ r. ⌜ Wrote (now (out .entry)) at (now (bytes .entry)) (now (out .exit)) r ⌝ }
 {
     let mut end = at;
@@ -26,7 +26,7 @@ pub fn put_bytes(out: &mut [u8; 4096], at: usize, bytes: &[u8]) -> usize
     end
 }
 
-pub fn put_decimal(out: &mut [u8; 4096], at: usize, n: u64) -> usize
+pub fn put_decimal(out: &mut [u8], at: usize, n: u64) -> usize
     ensures { λ r. ⌜ Wrote (now (out .entry)) at (decimal n) (now (out .exit)) r ⌝ }
 {
     if n < 10 {
@@ -38,14 +38,14 @@ pub fn put_decimal(out: &mut [u8; 4096], at: usize, n: u64) -> usize
     put(out, end, 48 + d)
 }
 
-pub fn put_spaced(out: &mut [u8; 4096], at: usize, n: u64) -> usize
+pub fn put_spaced(out: &mut [u8], at: usize, n: u64) -> usize
     ensures { λ r. ⌜ Wrote (now (out .entry)) at (spaced n) (now (out .exit)) r ⌝ }
 {
     let end = put(out, at, b' ');
     put_decimal(out, end, n)
 }
 
-pub fn put_parts(out: &mut [u8; 4096], at: usize, parts: &[usize]) -> usize
+pub fn put_parts(out: &mut [u8], at: usize, parts: &[usize]) -> usize
     ensures { λ r. ⌜ Wrote (now (out .entry)) at (joined spaced (now (parts .entry))) (now (out .exit)) r ⌝ }
 {
     let mut end = at;
@@ -59,7 +59,7 @@ pub fn put_parts(out: &mut [u8; 4096], at: usize, parts: &[usize]) -> usize
 }
 
 // A number, then the parts, and the line's end.
-pub fn put_line(out: &mut [u8; 4096], at: usize, count: u64, parts: &[usize]) -> usize
+pub fn put_line(out: &mut [u8], at: usize, count: u64, parts: &[usize]) -> usize
     ensures { λ r. ⌜ Wrote (now (out .entry)) at (decimal count ++ joined spaced (now (parts .entry)) ++ newline) (now (out .exit)) r ⌝ }
 {
     let counted = put_decimal(out, at, count);
@@ -68,7 +68,7 @@ pub fn put_line(out: &mut [u8; 4096], at: usize, count: u64, parts: &[usize]) ->
 }
 
 // A word, a number, and the line's end.
-pub fn put_last(out: &mut [u8; 4096], at: usize, word: &[u8], n: u64) -> usize
+pub fn put_last(out: &mut [u8], at: usize, word: &[u8], n: u64) -> usize
     ensures { λ r. ⌜ Wrote (now (out .entry)) at (now (word .entry) ++ spaced n ++ newline) (now (out .exit)) r ⌝ }
 {
     let said = put_bytes(out, at, word);
@@ -76,13 +76,13 @@ pub fn put_last(out: &mut [u8; 4096], at: usize, word: &[u8], n: u64) -> usize
     put(out, end, b'\n')
 }
 
-pub fn put_total(out: &mut [u8; 4096], at: usize, n: u64) -> usize
+pub fn put_total(out: &mut [u8], at: usize, n: u64) -> usize
     ensures { λ r. ⌜ Wrote (now (out .entry)) at (totalLine n) (now (out .exit)) r ⌝ }
 {
     put_last(out, at, b"total", n)
 }
 
-pub fn put_refused(out: &mut [u8; 4096], at: usize, c: u8) -> usize
+pub fn put_refused(out: &mut [u8], at: usize, c: u8) -> usize
     ensures { λ r. ⌜ Wrote (now (out .entry)) at (refusedLine c) (now (out .exit)) r ⌝ }
 {
     put_last(out, at, b"refused", c as u64)

@@ -6,7 +6,7 @@ use lib.ListN.{length, take}
 use lib.Seq.{take-all}
 use borrow.Author.Needs.{needs}
 use Rattle.parts_text.specs.Out.{Wrote}
-use Rattle.parts_text.proofs.Puts.{wrote-none, after, reading, take-more}
+use Rattle.parts_text.proofs.Puts.{wrote-none, same-room, after, reading, take-more}
 use Rattle.parts_text.proofs.out.put_bytes.Statement.{statement}
 use Rattle.parts_text.proofs.out.put_bytes.Tie as tie
 
@@ -33,11 +33,14 @@ loop-less c = search needs
 
 loop-again : tie.Need-loop-again Inv-loop μ-loop
 loop-again c =
-    let l = c .before .before .before .before in
-    (omega arith, reading (after (l .loop .inv .1) (c .put .ensures)) (sym (take-more (l .before .before .args .bytes .now) (l .loop .i) (search needs))))
+    let l = c .before .before .before .before .before .before in
+    (omega arith, reading (after (l .loop .inv .1) (c .before .before .put .ensures)) (sym (take-more (l .before .before .before .args .bytes .now) (l .loop .i) (search needs))))
+
+same-length : tie.Need-same-length Inv-loop μ-loop
+same-length c = same-room (c .before .loop .inv .1)
 
 returns : tie.Need-returns Inv-loop μ-loop
-returns c = let l = c .before in reading (l .loop .inv .1) (take-all (l .loop .i) (l .before .before .args .bytes .now) (search needs))
+returns c = let l = c .before in reading (l .loop .inv .1) (take-all (l .loop .i) (l .before .before .before .args .bytes .now) (search needs))
 
 pub put-bytes-spec : {M : Type 1} → statement M
-put-bytes-spec = tie.close (tie.spec Inv-loop μ-loop loop-holds shared-slice-read-b put-requires add-i loop-less loop-again returns)
+put-bytes-spec = tie.close (tie.spec Inv-loop μ-loop loop-holds shared-slice-read-b put-requires add-i loop-less loop-again same-length returns)

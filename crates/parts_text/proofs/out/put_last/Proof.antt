@@ -13,8 +13,11 @@ put-spaced-requires c κs = search needs
 put-requires : tie.Need-put-requires
 put-requires c κs = search needs
 
+same-length : tie.Need-same-length
+same-length c = search needs
+
 returns : tie.Need-returns
-returns c = after (after (c .before .before .before .before .put-bytes .ensures) (c .before .before .put-spaced .ensures)) (c .put .ensures)
+returns c = after (after (c .before .before .before .before .before .before .before .before .before .before .put-bytes .ensures) (c .before .before .before .before .before .before .put-spaced .ensures)) (c .before .before .put .ensures)
 
 pub put-last-spec : {M : Type 1} → statement M
-put-last-spec = tie.close (tie.spec put-bytes-requires put-spaced-requires put-requires returns)
+put-last-spec = tie.close (tie.spec put-bytes-requires put-spaced-requires put-requires same-length returns)

@@ -13,8 +13,11 @@ put-parts-requires c κs = search needs
 put-requires : tie.Need-put-requires
 put-requires c κs = search needs
 
+same-length : tie.Need-same-length
+same-length c = search needs
+
 returns : tie.Need-returns
-returns c = after (after (c .before .before .before .before .put-decimal .ensures) (c .before .before .put-parts .ensures)) (c .put .ensures)
+returns c = after (after (c .before .before .before .before .before .before .before .before .before .before .put-decimal .ensures) (c .before .before .before .before .before .before .put-parts .ensures)) (c .before .before .put .ensures)
 
 pub put-line-spec : {M : Type 1} → statement M
-put-line-spec = tie.close (tie.spec put-decimal-requires put-parts-requires put-requires returns)
+put-line-spec = tie.close (tie.spec put-decimal-requires put-parts-requires put-requires same-length returns)

@@ -7,7 +7,7 @@ use lib.Seq.{take-all}
 use borrow.Author.Needs.{needs}
 use Rattle.parts_text.specs.Text.{joined, spaced}
 use Rattle.parts_text.specs.Out.{Wrote}
-use Rattle.parts_text.proofs.Puts.{wrote-none, after, reading, joined-more}
+use Rattle.parts_text.proofs.Puts.{wrote-none, same-room, after, reading, joined-more}
 use Rattle.parts_text.proofs.out.put_parts.Statement.{statement}
 use Rattle.parts_text.proofs.out.put_parts.Tie as tie
 
@@ -38,11 +38,14 @@ loop-less c = search needs
 
 loop-again : tie.Need-loop-again Inv-loop μ-loop
 loop-again c =
-    let l = c .before .before .before .before in
-    (omega arith, reading (after (l .loop .inv .1) (c .put-spaced .ensures)) (sym (joined-more spaced (l .before .before .args .parts .now) (l .loop .i) (search needs))))
+    let l = c .before .before .before .before .before .before in
+    (omega arith, reading (after (l .loop .inv .1) (c .before .before .put-spaced .ensures)) (sym (joined-more spaced (l .before .before .before .args .parts .now) (l .loop .i) (search needs))))
+
+same-length : tie.Need-same-length Inv-loop μ-loop
+same-length c = same-room (c .before .loop .inv .1)
 
 returns : tie.Need-returns Inv-loop μ-loop
-returns c = let l = c .before in reading (l .loop .inv .1) (ap (joined spaced) (take-all (l .loop .i) (l .before .before .args .parts .now) (search needs)))
+returns c = let l = c .before in reading (l .loop .inv .1) (ap (joined spaced) (take-all (l .loop .i) (l .before .before .before .args .parts .now) (search needs)))
 
 pub put-parts-spec : {M : Type 1} → statement M
 put-parts-spec =
@@ -57,4 +60,5 @@ put-parts-spec =
     add-i
     loop-less
     loop-again
+    same-length
     returns)

@@ -10,8 +10,11 @@ put-requires c κs = search needs
 put-decimal-requires : tie.Need-put-decimal-requires
 put-decimal-requires c κs = search needs
 
+same-length : tie.Need-same-length
+same-length c = search needs
+
 returns : tie.Need-returns
-returns c = after (c .before .before .put .ensures) (c .put-decimal .ensures)
+returns c = after (c .before .before .before .before .before .before .put .ensures) (c .before .before .put-decimal .ensures)
 
 pub put-spaced-spec : {M : Type 1} → statement M
-put-spaced-spec = tie.close (tie.spec put-requires put-decimal-requires returns)
+put-spaced-spec = tie.close (tie.spec put-requires put-decimal-requires same-length returns)
