@@ -3,14 +3,15 @@ use mathlib.Core.Path.{_≡_, refl, _∙_, ap, sym, subst}
 use mathlib.Core.Bool.{Bool, true, false, cond}
 use mathlib.Core.List.{List, [], _∷_, _++_, append-assoc, append-nil}
 use Prim.Native.Nat.{ℕ, zero, suc, _+_, _/_, _%_, _<_, _≤_}
+use native.Mathlib.Nat.{add-zero, zero-add}
 use native.Mathlib.Numerals.{add-one}
 use native.Mathlib.Omega.{arith}
 use lib.Dec.{ltb}
-use lib.ListN.{length, getD, take, set, length-set}
-use lib.Seq.{take-suc}
+use lib.ListN.{length, getD, take, drop, set, length-set}
+use lib.Seq.{take-suc, sets, sets-eq}
 use borrow.Author.Tests.{lt-ltb, le-ltb}
 use Rattle.parts_text.specs.Text.{digits, decimal, joined}
-use Rattle.parts_text.specs.Out.{Place, place, put, puts, Wrote}
+use Rattle.parts_text.specs.Out.{Place, place, put, puts, Wrote, written}
 
 -- ---- a byte
 pub put-within : (out : List ℕ) (at b : ℕ) → at < length out → Wrote out at (b ∷ []) (set out at b) (at + 1)
@@ -51,6 +52,25 @@ after {o = o} {s = s} {t = t} {a = a} e f =
 
 pub reading : {o o′ s t : List ℕ} {a a′ : ℕ} → Wrote o a s o′ a′ → s ≡ t → Wrote o a t o′ a′
 reading {o = o} {o′ = o′} {a = a} {a′ = a′} w e = subst (λ (t : List ℕ). Wrote o a t o′ a′) e w
+
+-- a text that fits stands at the front
+puts-sets : (t out : List ℕ) (at : ℕ) → at + length t ≤ length out → puts (place out at) t ≡ place (sets out at t) (at + length t)
+unfolding puts
+puts-sets [] out at h = ap (place out) (sym (add-zero at))
+puts-sets (b ∷ t) out at h =
+    let e : suc at + length t ≡ at + suc (length t) = omega arith in
+    let k : suc at + length t ≤ length (set out at b) = simp length-set (omega arith) in
+    rw (lt-ltb at (length out) (omega arith)) (puts-sets t (set out at b) (suc at) k ∙ ap (place (sets (set out at b) (suc at) t)) e)
+
+module _ {t out out′ : List ℕ} {r : ℕ} (h : length t ≤ length out) (w : Wrote out 0 t out′ r) where
+  whole : place out′ r ≡ place (sets out 0 t) (0 + length t)
+  whole = w .is ∙ puts-sets t out 0 (omega arith)
+
+  pub front-length : r ≡ length t
+  front-length = ap (λ (p : Place). p .at) whole ∙ zero-add (length t)
+
+  pub front-bytes : out′ ≡ written t out
+  front-bytes = ap (λ (p : Place). p .out) whole ∙ sets-eq t out 0 (omega arith) ∙ ap (λ (n : ℕ). t ++ drop n out) (zero-add (length t))
 
 -- ---- a thing more
 pub take-more : (l : List ℕ) (i : ℕ) → i < length l → take (i + 1) l ≡ take i l ++ (getD l i 0 ∷ [])
