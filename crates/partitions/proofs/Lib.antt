@@ -1,0 +1,9 @@
+pub mod Slices
+pub mod Tail
+pub mod Moves
+pub mod Tests
+pub mod Down
+pub mod Lists
+pub mod Member
+pub mod Successor
+pub mod Walked

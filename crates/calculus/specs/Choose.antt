@@ -1,0 +1,16 @@
+-- Binomial coefficients, by Pascal's rule. Assumes nothing.
+use mathlib.Core.Path.{_≡_}
+use mathlib.Core.List.{List}
+use Prim.Native.Nat.{ℕ, zero, suc, _+_, _<_}
+use lib.ListN.{length, getD}
+
+unfoldable pub choose : ℕ → ℕ → ℕ
+choose zero zero = 1
+choose zero (suc k) = 0
+choose (suc n) zero = 1
+choose (suc n) (suc k) = choose n k + choose n (suc k)
+
+-- the first w coefficients of the order m
+pub record Row (w : ℕ) (c : List ℕ) (m : ℕ) : Type 0 where
+  pub long : length c ≡ w
+  pub all : (i : ℕ) → i < w → getD c i 0 ≡ choose m i

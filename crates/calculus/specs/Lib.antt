@@ -1,0 +1,9 @@
+pub mod Kind
+pub mod InTurn
+pub mod Rising
+pub mod Choose
+pub mod Curve
+pub mod Surface
+pub mod Carry
+pub mod Graded
+pub mod Array

@@ -1,0 +1,6 @@
+pub mod Range
+pub mod Sums
+pub mod Products
+pub mod Quotients
+pub mod Sticky
+pub mod History
