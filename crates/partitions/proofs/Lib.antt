@@ -7,3 +7,13 @@ pub mod Lists
 pub mod Member
 pub mod Successor
 pub mod Walked
+pub mod Out
+pub mod Mult
+pub mod Runs
+pub mod Exact
+pub mod Triangle
+pub mod Stirling
+pub mod Figures
+pub mod Counted
+pub mod Pad
+pub mod Stepping
