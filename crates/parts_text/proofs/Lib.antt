@@ -2,3 +2,4 @@ pub mod Fed
 pub mod Laws
 pub mod Puts
 pub mod Tables
+pub mod Going

@@ -4,6 +4,9 @@ use mathlib.Core.List.{List, [], _∷_, _++_}
 use mathlib.Core.Path.{_≡_}
 use Prim.Native.Nat.{ℕ, suc}
 use lib.Dec.{ltb}
+use Rattle.partitions.specs.declared.Count.{Count}
+use Rattle.partitions.specs.declared.Count.the-variants.{Value, Refused}
+use Rattle.parts_text.specs.Text.{decimal, joined, spaced, newline}
 use lib.ListN.{length, drop, set}
 
 -- the array with the text at its front
@@ -28,3 +31,12 @@ puts p (b ∷ bs) = puts (put p b) bs
 -- what stands in the array and at which place, after the text t was written at a place
 pub record Wrote (out : List ℕ) (at : ℕ) (t : List ℕ) (out′ : List ℕ) (at′ : ℕ) : Type 0 where
   pub is : place out′ at′ ≡ puts (place out at) t
+
+-- the line of a list, and how often it counts, by what the count of the list is
+abbrev pub lineOf : Count → List ℕ → List ℕ
+lineOf (Value n) l = decimal n ++ joined spaced l ++ newline
+lineOf (Refused c) l = []
+
+abbrev pub countOf : Count → ℕ
+countOf (Value n) = n
+countOf (Refused c) = 0

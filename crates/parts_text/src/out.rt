@@ -1,7 +1,11 @@
 // The text, written byte by byte: each function takes the place where its text begins, and answers the place after it.
+ghost use mathlib.Core.Path.{_≡_};
 ghost use mathlib.Core.List.{[], _∷_, _++_};
 ghost use Rattle.parts_text.specs.Text.{decimal, joined, spaced, newline, totalLine, refusedLine};
 ghost use Rattle.parts_text.specs.Out.{Wrote};
+ghost use Rattle.partitions.specs.Count.{counted};
+ghost use Rattle.parts_text.specs.Text.{answer};
+ghost use Rattle.parts_text.specs.Out.{lineOf, countOf};
 
 pub fn put(out: &mut [u8], at: usize, b: u8) -> usize
     ensures { λ r. ⌜ Wrote (now (out .entry)) at (b ∷ []) (now (out .exit)) r ⌝ }
@@ -86,4 +90,52 @@ pub fn put_refused(out: &mut [u8], at: usize, c: u8) -> usize
     ensures { λ r. ⌜ Wrote (now (out .entry)) at (refusedLine c) (now (out .exit)) r ⌝ }
 {
     put_last(out, at, b"refused", c as u64)
+}
+
+// The place after a line, and the number with which it begins.
+pub struct Line {
+    pub end: usize,
+    pub count: u64,
+}
+
+// The line of a list; nothing for what is not a list of parts.
+fn put_list(out: &mut [u8], at: usize, parts: &[usize]) -> Line
+    ensures { λ r. ⌜ Wrote (now (out .entry)) at (lineOf (counted (now (parts .entry))) (now (parts .entry))) (now (out .exit)) (r .end) × (r .count ≡ countOf (counted (now (parts .entry)))) ⌝ }
+{
+    let counted = partitions::multiplicity(parts);
+    match counted {
+        partitions::Count::Value(n) => {
+            let end = put_line(out, at, n, parts);
+            Line { end: end, count: n }
+        }
+        partitions::Count::Refused(_) => Line { end: at, count: 0 },
+    }
+}
+
+// A line for each list of a pair, then the total; or the pair's refusal.
+pub fn put_answer(out: &mut [u8], order: usize, len: usize) -> usize
+    ensures { λ r. ⌜ Wrote (now (out .entry)) 0 (answer order len) (now (out .exit)) r ⌝ }
+{
+    let s = partitions::CompositionIter::try_new(order, len);
+    let c = s.refusal;
+    if c != 0 {
+        return put_refused(out, 0, c);
+    }
+    let mut walk = s.walk;
+    let mut at = 0;
+    let mut total: u64 = 0;
+    loop {
+        let next = walk.step();
+        let item = next.item;
+        let ended = item.ended;
+        if ended {
+            return put_total(out, at, total);
+        }
+        let parts = item.parts;
+        let line = put_list(out, at, &parts[..len]);
+        at = line.end;
+        total += line.count;
+        let rest = next.walk;
+        walk = rest;
+    }
 }
