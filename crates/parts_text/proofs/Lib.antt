@@ -3,3 +3,4 @@ pub mod Laws
 pub mod Puts
 pub mod Tables
 pub mod Going
+pub mod Fits

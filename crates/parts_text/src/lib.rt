@@ -1,6 +1,9 @@
 // The text of the part lists of an order and a len, read and written as ASCII bytes: all the work of the program `parts`.
 ghost use mathlib.Core.Path.{_≡_};
-ghost use Rattle.parts_text.specs.Reading.{fed};
+ghost use lib.ListN.{length};
+ghost use Rattle.parts_text.specs.Printed.{printed};
+ghost use Rattle.parts_text.specs.Reading.{fed, finished};
+ghost use Rattle.parts_text.specs.Out.{written};
 
 mod input;
 mod out;
@@ -34,4 +37,18 @@ pub fn feed(state: Reading, bytes: &[u8]) -> Reading
         i += 1;
     }
     s
+}
+
+// The text of what was read stands at the front of `out`, and the answer is its length. The longest text has 2134 bytes.
+pub fn report(state: Reading, out: &mut [u8; 4096]) -> usize
+    ensures { λ r. ⌜ (r ≡ length (finished state)) × (now (out .exit) ≡ written (finished state) (now (out .entry))) ⌝ }
+{
+    out::put_finished(out, state)
+}
+
+// The same from an input that is at hand whole.
+pub fn print(input: &[u8], out: &mut [u8; 4096]) -> usize
+    ensures { λ r. ⌜ (r ≡ length (printed (now (input .entry)))) × (now (out .exit) ≡ written (printed (now (input .entry))) (now (out .entry))) ⌝ }
+{
+    report(feed(start(), input), out)
 }

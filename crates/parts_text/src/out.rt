@@ -1,11 +1,11 @@
 // The text, written byte by byte: each function takes the place where its text begins, and answers the place after it.
 ghost use mathlib.Core.Path.{_≡_};
 ghost use mathlib.Core.List.{[], _∷_, _++_};
-ghost use Rattle.parts_text.specs.Text.{decimal, joined, spaced, newline, totalLine, refusedLine};
-ghost use Rattle.parts_text.specs.Out.{Wrote};
+ghost use Rattle.parts_text.specs.Text.{decimal, joined, spaced, newline, totalLine, refusedLine, answer};
+ghost use Rattle.parts_text.specs.Out.{Wrote, lineOf, countOf};
+use crate::Reading;
 ghost use Rattle.partitions.specs.Count.{counted};
-ghost use Rattle.parts_text.specs.Text.{answer};
-ghost use Rattle.parts_text.specs.Out.{lineOf, countOf};
+ghost use Rattle.parts_text.specs.Reading.{finished};
 
 pub fn put(out: &mut [u8], at: usize, b: u8) -> usize
     ensures { λ r. ⌜ Wrote (now (out .entry)) at (b ∷ []) (now (out .exit)) r ⌝ }
@@ -137,5 +137,19 @@ pub fn put_answer(out: &mut [u8], order: usize, len: usize) -> usize
         total += line.count;
         let rest = next.walk;
         walk = rest;
+    }
+}
+
+// What is printed where the input ends.
+pub fn put_finished(out: &mut [u8], state: Reading) -> usize
+    ensures { λ r. ⌜ Wrote (now (out .entry)) 0 (finished state) (now (out .exit)) r ⌝ }
+{
+    match state {
+        Reading::InLen(order, len) => put_answer(out, order, len),
+        Reading::AfterLen(order, len) => put_answer(out, order, len),
+        Reading::Before => put_refused(out, 0, 2),
+        Reading::InOrder(_) => put_refused(out, 0, 2),
+        Reading::AfterOrder(_) => put_refused(out, 0, 2),
+        Reading::Malformed => put_refused(out, 0, 2),
     }
 }
