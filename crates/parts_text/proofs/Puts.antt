@@ -7,8 +7,8 @@ use native.Mathlib.Nat.{add-zero, zero-add}
 use native.Mathlib.Numerals.{add-one}
 use native.Mathlib.Omega.{arith}
 use lib.Dec.{ltb}
-use lib.ListN.{length, getD, take, drop, set, length-set}
-use lib.Seq.{take-suc, sets, sets-eq}
+use lib.ListN.{length, getD, take, drop, set, length-append, length-set}
+use lib.Seq.{length-take-le, take-suc, sets, sets-eq}
 use borrow.Author.Tests.{lt-ltb, le-ltb}
 use Rattle.parts_text.specs.Text.{digits, decimal, joined}
 use Rattle.parts_text.specs.Out.{Place, place, put, puts, Wrote, written}
@@ -71,6 +71,14 @@ module _ {t out out′ : List ℕ} {r : ℕ} (h : length t ≤ length out) (w : 
 
   pub front-bytes : out′ ≡ written t out
   front-bytes = ap (λ (p : Place). p .out) whole ∙ sets-eq t out 0 (omega arith) ∙ ap (λ (n : ℕ). t ++ drop n out) (zero-add (length t))
+
+-- for a caller that hands on the text: its length is within the array
+module _ (t out : List ℕ) {out′ : List ℕ} {r : ℕ} (e : r ≡ length t) (f : out′ ≡ written t out) where
+  pub front-within : r ≤ length out′
+  front-within = let g = ap length f ∙ length-append t (drop (length t) out) in omega arith
+
+  pub front-taken : r ≡ length (take r out′)
+  front-taken = sym (length-take-le r out′ front-within)
 
 -- ---- a thing more
 pub take-more : (l : List ℕ) (i : ℕ) → i < length l → take (i + 1) l ≡ take i l ++ (getD l i 0 ∷ [])
