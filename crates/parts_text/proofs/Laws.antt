@@ -1,20 +1,21 @@
 -- What a reading says at the end of the input is what is printed for the whole input, in however many pieces it was fed. Assumes nothing.
 use mathlib.Core.Path.{_≡_, refl, _∙_, ap, ap₂, sym}
-use mathlib.Core.List.{List, [], _∷_, _++_}
+use mathlib.Core.List.{List, [], _∷_, _++_, append-assoc, append-nil}
 use mathlib.Core.Option.{Option, some, none}
-use Prim.Native.Nat.{ℕ, zero, suc, _+_, _*_, _<_, _≤_, min}
+use Prim.Native.Nat.{ℕ, zero, suc, _+_, _*_, _/_, _%_, _<_, _≤_, min}
 use native.Mathlib.Omega.{arith}
 use native.Mathlib.Decide.{decLe}
-use borrow.Author.Tests.{lt-ltb, le-ltb, ne-eqb}
+use borrow.Author.Tests.{lt-ltb, le-ltb, le-leb, ne-eqb}
 use Rattle.partitions.specs.Walk.{refusal}
 use Rattle.parts_text.specs.declared.input.Kind.{Kind}
 use Rattle.parts_text.specs.declared.input.Kind.the-variants.{Digit, Separator, Other}
 use Rattle.parts_text.specs.declared.Reading.{Reading}
 use Rattle.parts_text.specs.declared.Reading.the-variants.{Before, InOrder, AfterOrder, InLen, AfterLen, Malformed}
-use Rattle.parts_text.specs.Text.{answer, refusedLine}
+use Rattle.parts_text.specs.Text.{decimal, answer, refusedLine}
 use Rattle.parts_text.specs.Printed.{kind, grown, before, spell, numbers, said, printed}
 use Rattle.parts_text.specs.Reading.{capped, step, fed, finished}
 use Rattle.parts_text.proofs.Fed.{fed-append}
+use Rattle.parts_text.proofs.Puts.{decimal-one, decimal-more}
 
 -- ---- numbers above 20 behave alike
 either : {C : Type 0} (a b : ℕ) → (a ≤ b → C) → (b < a → C) → C
@@ -116,3 +117,26 @@ read-whole input = says input .nothing
 -- in two pieces
 pub read-pieces : (a b : List ℕ) → finished (fed (fed Before a) b) ≡ printed (a ++ b)
 read-pieces a b = ap finished (sym (fed-append Before a b)) ∙ read-whole (a ++ b)
+
+-- ---- what is printed of a number reads back as that number
+digit-kind : (d : ℕ) → d < 10 → kind (48 + d) ≡ Digit d
+digit-kind d h = rw (le-ltb (48 + d) 48 (omega arith), le-leb (48 + d) 57 (omega arith)) (ap Digit (omega arith))
+
+one-digit : (u : Option ℕ) (d : ℕ) (rest : List ℕ) → d < 10 → numbers u ((48 + d) ∷ rest) ≡ numbers (some (grown u d)) rest
+unfolding numbers
+one-digit u d rest h = ap (λ (k : Kind). spell u k (λ w. numbers w rest)) (digit-kind d h)
+
+digits-read : (k n : ℕ) (rest : List ℕ) → n ≤ k → numbers none (decimal n ++ rest) ≡ numbers (some n) rest
+digits-read zero n rest h = rw (decimal-one n (omega arith)) (one-digit none n rest (omega arith))
+digits-read (suc k) n rest h =
+    either n 9
+    (λ g. rw (decimal-one n (omega arith)) (one-digit none n rest (omega arith)))
+    (λ g. ap (λ (t : List ℕ). numbers none (t ++ rest)) (decimal-more n (omega arith))
+    ∙ ap (numbers none) (append-assoc (decimal (n / 10)) ((48 + n % 10) ∷ []) rest)
+    ∙ digits-read k (n / 10) ((48 + n % 10) ∷ rest) (omega arith)
+    ∙ one-digit (some (n / 10)) (n % 10) rest (omega arith)
+    ∙ ap (λ (m : ℕ). numbers (some m) rest) (omega arith))
+
+pub read-back : (n : ℕ) → numbers none (decimal n) ≡ some (n ∷ [])
+unfolding numbers
+read-back n = ap (numbers none) (sym (append-nil (decimal n))) ∙ digits-read n n [] (omega arith)

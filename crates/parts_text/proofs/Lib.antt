@@ -1,6 +1,7 @@
+pub mod Puts
 pub mod Fed
 pub mod Laws
-pub mod Puts
 pub mod Tables
-pub mod Going
 pub mod Fits
+pub mod Going
+pub mod Examples
