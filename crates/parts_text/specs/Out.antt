@@ -1,19 +1,16 @@
--- A text written into an array of bytes. Assumes nothing.
+-- How the private functions write: byte by byte at a place, of which nothing past the array's end is kept. That a text that fits stands at the front
+-- is proved (proofs/Puts.antt). Assumes nothing.
+use mathlib.Core.Path.{_≡_}
 use mathlib.Core.Bool.{cond}
 use mathlib.Core.List.{List, [], _∷_, _++_}
-use mathlib.Core.Path.{_≡_}
 use Prim.Native.Nat.{ℕ, suc}
 use lib.Dec.{ltb}
+use lib.ListN.{length, set}
 use Rattle.partitions.specs.declared.Count.{Count}
 use Rattle.partitions.specs.declared.Count.the-variants.{Value, Refused}
 use Rattle.parts_text.specs.Text.{decimal, joined, spaced, newline}
-use lib.ListN.{length, drop, set}
 
--- the array with the text at its front
-abbrev pub written : List ℕ → List ℕ → List ℕ
-written t out = t ++ drop (length t) out
-
--- ---- how the code writes: byte by byte at a place, of which nothing past the end is kept
+-- an array, and the place where the next byte goes
 pub record Place : Type 0 where
   pub out : List ℕ
   pub at : ℕ

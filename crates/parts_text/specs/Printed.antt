@@ -1,9 +1,10 @@
 -- What the program `parts` prints: a function from the bytes that it reads to the bytes that it writes. Assumes nothing.
 use mathlib.Core.Bool.{cond}
-use mathlib.Core.List.{List, [], _∷_}
+use mathlib.Core.List.{List, [], _∷_, _++_}
 use mathlib.Core.Option.{Option, some, none}
 use Prim.Native.Nat.{ℕ, _+_, _-_, _*_}
 use lib.Dec.{ltb, leb, eqb}
+use lib.ListN.{length, drop}
 use Rattle.parts_text.specs.declared.input.Kind.{Kind}
 use Rattle.parts_text.specs.declared.input.Kind.the-variants.{Digit, Separator, Other}
 use Rattle.parts_text.specs.Text.{answer, refusedLine}
@@ -46,3 +47,7 @@ said (some (order ∷ len ∷ n ∷ l)) = refusedLine 2
 
 unfoldable pub printed : List ℕ → List ℕ
 printed input = said (numbers none input)
+
+-- an array with a text at its front
+abbrev pub written : List ℕ → List ℕ → List ℕ
+written t out = t ++ drop (length t) out

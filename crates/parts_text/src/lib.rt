@@ -1,9 +1,8 @@
 // The text of the part lists of an order and a len, read and written as ASCII bytes: all the work of the program `parts`.
 ghost use mathlib.Core.Path.{_≡_};
 ghost use lib.ListN.{length};
-ghost use Rattle.parts_text.specs.Printed.{printed};
+ghost use Rattle.parts_text.specs.Printed.{printed, written};
 ghost use Rattle.parts_text.specs.Reading.{fed, finished};
-ghost use Rattle.parts_text.specs.Out.{written};
 
 mod input;
 mod out;

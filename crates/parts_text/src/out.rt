@@ -1,11 +1,11 @@
 // The text, written byte by byte: each function takes the place where its text begins, and answers the place after it.
 ghost use mathlib.Core.Path.{_≡_};
 ghost use mathlib.Core.List.{[], _∷_, _++_};
+ghost use Rattle.partitions.specs.Count.{counted};
 ghost use Rattle.parts_text.specs.Text.{decimal, joined, spaced, newline, totalLine, refusedLine, answer};
+ghost use Rattle.parts_text.specs.Reading.{finished};
 ghost use Rattle.parts_text.specs.Out.{Wrote, lineOf, countOf};
 use crate::Reading;
-ghost use Rattle.partitions.specs.Count.{counted};
-ghost use Rattle.parts_text.specs.Reading.{finished};
 
 pub fn put(out: &mut [u8], at: usize, b: u8) -> usize
     ensures { λ r. ⌜ Wrote (now (out .entry)) at (b ∷ []) (now (out .exit)) r ⌝ }

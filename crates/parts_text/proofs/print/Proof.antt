@@ -2,8 +2,8 @@
 use mathlib.Core.Path.{_∙_, ap}
 use lib.ListN.{length}
 use borrow.Author.Needs.{needs}
+use Rattle.parts_text.specs.Printed.{written}
 use Rattle.parts_text.specs.Reading.{fed, finished}
-use Rattle.parts_text.specs.Out.{written}
 use Rattle.parts_text.proofs.Laws.{read-whole}
 use Rattle.parts_text.proofs.print.Statement.{statement}
 use Rattle.parts_text.proofs.print.Tie as tie
