@@ -7,19 +7,18 @@ use Prim.Native.Nat.{ℕ, zero, suc}
 use native.Mathlib.Omega.{arith}
 use lib.Dec.{eqb}
 use lib.IntN.{ℤ, pos}
-use Rattle.calculus.proofs.Ints.{_⊕_, _⊗_, sum, over}
+use Rattle.calculus.proofs.Ints.{_⊕_, _⊗_, sum}
 use Rattle.calculus.proofs.Jets.{Curve}
-use Rattle.partitions.specs.Parts.{total, fact, parts, multiplicity}
+use Rattle.partitions.specs.Parts.{total, fact, multiplicity}
 use Rattle.calculus.proofs.Space.{Space, tensor, carry}
 use Rattle.calculus.proofs.Ring.{zero-add, mul-zero, mul-one, mul-assoc}
 use Rattle.calculus.proofs.Sums.{sum-cong, sum-front, sum-linear, through-sum, times-right, Linear}
 use Rattle.calculus.proofs.Binom.{leib, leib-linear, leib-cong}
 use Rattle.calculus.proofs.Curves.{_·_, D}
-use Rattle.calculus.proofs.Tests.{by-eqb, eqb-no}
+use Rattle.partitions.proofs.Tests.{by-eqb, eqb-no}
 use Rattle.calculus.proofs.Desc.{desc, of-total, desc-linear, desc-cong, over-parts}
-use Rattle.calculus.proofs.Out.{weight}
-use Rattle.calculus.proofs.Mult.{mult}
-use Rattle.calculus.proofs.Runs.{multiplicity-is}
+use Rattle.partitions.proofs.Out.{weight}
+use Rattle.calculus.proofs.Mult.{mult, multiplicity-is}
 use Rattle.calculus.proofs.Faa.{faa, key}
 use Rattle.calculus.proofs.Tensor.{T, tensor-is, symmetric}
 

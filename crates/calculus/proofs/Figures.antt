@@ -1,7 +1,7 @@
 -- Document 01's figures that the definitions alone give, at the integers. Assumes nothing.
 use mathlib.Core.Path.{_≡_, refl}
 use mathlib.Core.List.{List, [], _∷_}
-use Prim.Native.Nat.{ℕ, zero, suc}
+use Prim.Native.Nat.{ℕ}
 use lib.IntN.{ℤ, pos}
 use lib.ListN.{getD}
 use Rattle.partitions.specs.Parts.{total, fact, parts, divide, runsFrom, runs, multiplicity}
@@ -12,7 +12,8 @@ use Rattle.calculus.specs.Choose.{choose}
 use Rattle.calculus.specs.Curve
 use Rattle.calculus.specs.Surface
 use Rattle.calculus.specs.Carry.{digits, factors, throughLen, ones, compositeDerivatives}
-use Rattle.calculus.specs.Array.{listed}
+use Rattle.calculus.specs.Graded.{place, graded}
+use Rattle.calculus.specs.Array.{listed, curveArray}
 
 -- the entries of a list, and zero past them
 abbrev curve : List ℤ → ℕ → ℤ
@@ -56,3 +57,12 @@ over-surface : square-root 0 0 ∷ square-root 0 1 ∷ square-root 0 2 ∷ squar
     ≡ pos 5 ∷ pos 3 ∷ pos 6 ∷ pos 2 ∷ pos 4 ∷ pos 1 ∷ []
 unfolding inTurn inRows before choose
 over-surface = refl
+
+-- an array of 21 with the entries up to the order 1; and the places of a surface's entries up to the order 2
+short : getD (curveArray (pos 0) one-two-three 1) 1 (pos 7) ∷ getD (curveArray (pos 0) one-two-three 1) 2 (pos 7) ∷ [] ≡ pos 2 ∷ pos 0 ∷ []
+unfolding listed
+short = refl
+
+graded-places : listed (graded given) 0 6 ≡ pos 5 ∷ pos 3 ∷ pos 2 ∷ pos 6 ∷ pos 4 ∷ pos 1 ∷ []
+unfolding listed place
+graded-places = refl

@@ -1,12 +1,12 @@
 -- Two kinds of number whose operations keep a relation, and two kinds of entry. What is folded in turn keeps it. Assumes nothing.
-use mathlib.Core.Path.{_≡_, refl, ap, ap₂}
-use mathlib.Core.List.{List, [], _∷_}
+use mathlib.Core.Path.{_≡_, refl, ap₂}
+use mathlib.Core.List.{List}
 use Prim.Native.Nat.{ℕ, zero, suc, _+_, _≤_, _<_}
 use native.Mathlib.Nat.{le-refl}
 use native.Mathlib.Omega.{arith}
 use Rattle.calculus.specs.Kind.{Kind, Module, regular}
 use Rattle.calculus.specs.InTurn.{inTurn, inRows, alongList}
-use Rattle.calculus.proofs.Lists.{Every, nil, and}
+use Rattle.partitions.proofs.Lists.{Every, nil, and}
 
 pub record Related {A B : Type 0} (R : A → B → Type 0) (K : Kind A) (L : Kind B) : Type 0 where
   pub nought : R (K .nought) (L .nought)

@@ -167,6 +167,15 @@ impl CompositionIter {
             }
         }
     }
+
+    // The same where the record is lent: it moves on in its place.
+    pub fn next(&mut self) -> Composition
+        ensures { λ r. ⌜ (r ≡ stepped (now (self .entry)) .item) × (now (self .exit) ≡ stepped (now (self .entry)) .walk) ⌝ }
+    {
+        let s = CompositionIter::step(*self);
+        *self = s.walk;
+        s.item
+    }
 }
 
 pub fn factorial(n: usize) -> Count
