@@ -1,4 +1,4 @@
--- The derivatives of a surface along a curve in its parameters (document 01's carry), from jets of exact numbers. Assumes nothing.
+-- The derivatives of a surface along a curve in its parameters, from jets of exact numbers: Faà di Bruno's formula (document 01's carry). Assumes nothing.
 use mathlib.Core.Bool.{cond}
 use Prim.Native.Nat.{ℕ}
 use lib.Dec.{ltb}
