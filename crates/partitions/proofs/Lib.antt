@@ -12,6 +12,7 @@ pub mod Mult
 pub mod Runs
 pub mod Exact
 pub mod Triangle
+pub mod Below
 pub mod Stirling
 pub mod Figures
 pub mod Counted
