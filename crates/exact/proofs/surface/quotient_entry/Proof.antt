@@ -26,11 +26,7 @@ over-requires c κs = search needs
 
 returns : tie.Need-returns
 unfolding index
-returns c =
-    let s = c .before .before .before .args in
-    let f : SFits w64 (getD (now (s .d)) 0 (pos 0)) = search needs in
-    let z : index 0 0 ≡ 0 = refl in
-    c .over .ensures ∙ ap₂ (checked .over) (c .before .owed .ensures) (ap Value (toZ-ofZ f ∙ ap (λ (k : ℕ). getD (now (s .d)) k (pos 0)) (sym z)))
+returns c = c .over .ensures ∙ ap₂ (checked .over) (c .before .owed .ensures) (ap Value (toZ-ofZ (search needs)))
 
 pub quotient-entry-spec : {M : Type 1} → statement M
 quotient-entry-spec = tie.close (tie.spec element-copy-out-y owed-requires over-requires returns)
