@@ -8,9 +8,9 @@ use native.Mathlib.Omega.{arith}
 use lib.ListN.{getD}
 use lib.Pow.{pow-mono, pow-pos, pow-add}
 use Rattle.calculus.specs.Array.{listed}
-use Rattle.calculus.specs.Graded.{triangle, index, place, graded}
+use Rattle.calculus.specs.Graded.{triangle, index, graded}
 use Rattle.calculus.specs.Choose.{choose, binomialTable}
-use Rattle.calculus.proofs.Binom.{binom-zero, binom-above}
+use Rattle.calculus.proofs.Binom.{binom-above}
 use Rattle.calculus.proofs.Graded.{triangle-suc, index-is, index-231, place-first, place-second}
 use Rattle.calculus.proofs.Filling.{listed-at}
 

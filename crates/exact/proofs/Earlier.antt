@@ -1,12 +1,12 @@
 -- A formula reads of the entries before it only those that are formed: what the array holds serves as well. Assumes nothing.
-use mathlib.Core.Path.{_≡_, refl, sym, ap, ap₂, _∙_}
+use mathlib.Core.Path.{_≡_, refl, ap}
 use mathlib.Core.List.{List}
-use Prim.Native.Nat.{ℕ, zero, suc, _+_, _-_, _≤_, _<_}
+use Prim.Native.Nat.{ℕ, _+_, _-_, _≤_, _<_}
 use native.Mathlib.Nat.{le-refl}
 use native.Mathlib.Omega.{arith}
 use lib.IntN.{ℤ, pos}
 use Rattle.whole.specs.declared.Whole.{Whole}
-use Rattle.whole.specs.declared.Whole.the-variants.{Value, Refused}
+use Rattle.whole.specs.declared.Whole.the-variants.{Value}
 use Rattle.calculus.specs.Rising.{before, rising, beforeEntry, risingRows}
 use Rattle.calculus.proofs.Related.{same}
 use Rattle.calculus.proofs.Alike.{owed-alike, surface-owed-alike}

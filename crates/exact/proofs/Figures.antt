@@ -3,7 +3,7 @@ use mathlib.Core.Path.{_≡_, refl}
 use mathlib.Core.List.{List, [], _∷_}
 use Prim.Native.Nat.{ℕ, _^_}
 use lib.IntN.{ℤ, pos}
-use lib.ListN.{getD, replicate}
+use lib.ListN.{getD}
 use Rattle.whole.specs.Checked.{formed, divided}
 use Rattle.calculus.specs.InTurn.{inTurn}
 use Rattle.calculus.specs.Rising.{before}

@@ -1,17 +1,17 @@
 -- What is answered is the verdict on all that was formed and divided, in the order of work, beside the integers' own values. For any entries
 -- with their histories, and then for sums, differences, products and quotients of curves and surfaces. Assumes nothing.
-use mathlib.Core.Path.{_≡_, refl, sym, ap, ap₂, _∙_, subst}
+use mathlib.Core.Path.{_≡_, refl, sym, ap, ap₂, _∙_}
 use mathlib.Core.List.{List, [], _∷_, _++_, map}
 use Prim.Native.Nat.{ℕ, zero, suc, _+_, _≤_, _<_}
-use native.Mathlib.Nat.{suc-ne-zero, le-refl, not-suc-le-zero, zero-add, add-zero, add-suc, suc-add}
+use native.Mathlib.Nat.{suc-ne-zero, not-suc-le-zero, zero-add, add-zero, add-suc, suc-add}
 use native.Mathlib.Omega.{arith}
 use lib.IntN.{ℤ, pos}
 use Rattle.whole.specs.declared.Whole.{Whole}
-use Rattle.whole.specs.declared.Whole.the-variants.{Value, Refused}
+use Rattle.whole.specs.declared.Whole.the-variants.{Value}
 use Rattle.whole.specs.Checked as checks
-use Rattle.whole.specs.History.{Event, Traced, orElse, verdict, settleBy, settle, given}
+use Rattle.whole.specs.History.{Traced, orElse, verdict, settleBy, settle, given}
 use Rattle.whole.proofs.History.{verdict-append, settle-given, settle-plus, settle-minus, settle-times, settle-over, settle-ofNat}
-use Rattle.calculus.specs.Kind.{Kind, regular, plain}
+use Rattle.calculus.specs.Kind.{regular, plain}
 use Rattle.calculus.specs.Array.{listed}
 use Rattle.calculus.specs.Curve
 use Rattle.calculus.specs.Surface

@@ -1,8 +1,7 @@
 -- A loop that forms the entries of a jet in the order of work, stores each, and stops at the first that is refused. Assumes nothing.
-use mathlib.Core.Path.{_≡_, refl, sym, ap, ap₂, _∙_, subst}
-use mathlib.Core.List.{List, map}
-use Prim.Native.Nat.{ℕ, zero, suc, _+_, _-_, _≤_, _<_}
-use native.Mathlib.Nat.{add-zero}
+use mathlib.Core.Path.{_≡_, sym, ap, _∙_, subst}
+use mathlib.Core.List.{List}
+use Prim.Native.Nat.{ℕ, suc, _+_, _-_, _≤_, _<_}
 use native.Mathlib.Omega.{arith}
 use lib.IntN.{ℤ, pos}
 use lib.ListN.{set, replicate}
@@ -11,11 +10,10 @@ use mir.Val.{SFits, toZ, ofZ}
 use mir.Facts.{toZ-ofZ}
 use Rattle.whole.specs.declared.Whole.{Whole}
 use Rattle.whole.specs.declared.Whole.the-variants.{Value, Refused}
-use Rattle.calculus.specs.Graded.{triangle, index, place, graded}
-use Rattle.calculus.specs.Array.{curveArray, surfaceArray}
+use Rattle.calculus.specs.Graded.{triangle, index}
 use Rattle.calculus.proofs.Layers.{size-mono}
 use Rattle.calculus.proofs.Graded.{triangle-suc}
-use Rattle.calculus.proofs.Filling.{Stored, CurveStored, curve-none, curve-more, curve-all}
+use Rattle.calculus.proofs.Filling.{CurveStored, curve-none, curve-more, curve-all}
 use Rattle.calculus.proofs.SurfaceFilling.{SurfaceStored, surface-none, surface-more, surface-next, surface-all}
 use Rattle.exact.specs.declared.CurveAnswer.{CurveAnswer}
 use Rattle.exact.specs.declared.SurfaceAnswer.{SurfaceAnswer}

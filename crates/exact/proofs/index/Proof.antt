@@ -1,15 +1,12 @@
 -- `exact::index` meets its contract. Assumes nothing.
-use mathlib.Core.Path.{_≡_, refl, sym, ap, ap₂, _∙_}
-use Prim.Native.Nat.{ℕ, suc, _+_, _-_, _≤_, _<_}
+use mathlib.Core.Path.{refl}
+use Prim.Native.Nat.{_+_, _-_}
 use native.Mathlib.Omega.{arith}
-use denote.Ref.{now}
 use borrow.Author.Needs.{needs}
 use Rattle.calculus.specs.Graded.{index}
 use Rattle.exact.proofs.Terms.{small-square}
 use Rattle.exact.proofs.index.Statement.{statement}
 use Rattle.exact.proofs.index.Tie as tie
-use Rattle.exact.proofs.index.Reads as reads
-use Rattle.exact.proofs.index.Lts as lts
 
 add-n : tie.Need-add-n
 add-n c = search needs

@@ -1,8 +1,7 @@
 -- `exact::term` meets its contract. Assumes nothing.
-use mathlib.Core.Path.{_≡_, refl, sym, ap, ap₂, _∙_}
+use mathlib.Core.Path.{sym, ap, ap₂, _∙_}
 use Prim.Native.Nat.{_<_, _^_}
 use native.Mathlib.Omega.{arith}
-use denote.Ref.{now}
 use borrow.Author.Needs.{needs}
 use lib.IntN.{pos, _*ℤ_}
 use mir.Syntax.{w64}
@@ -13,10 +12,6 @@ use Rattle.whole.specs.declared.Whole.the-variants.{Value}
 use Rattle.exact.specs.Kinds.{checked}
 use Rattle.exact.proofs.term.Statement.{statement}
 use Rattle.exact.proofs.term.Tie as tie
-use Rattle.exact.proofs.term.Reads as reads
-use Rattle.exact.proofs.term.Lts as lts
-use Rattle.whole.proofs.mul.Reads as mul-reads
-use Rattle.whole.proofs.times.Reads as times-reads
 
 cast-k : tie.Need-cast-k
 cast-k c = search needs

@@ -1,12 +1,11 @@
 -- `exact::CurveDerivatives::combinatorial_derivative` meets its contract. Assumes nothing.
-use mathlib.Core.Path.{_≡_, refl, sym, ap, ap₂, _∙_}
-use Prim.Native.Nat.{ℕ, suc, _+_, _-_, _*_, _≤_, _<_}
+use mathlib.Core.Path.{_≡_, _∙_}
+use Prim.Native.Nat.{ℕ, _-_, _≤_, _<_}
 use native.Mathlib.Omega.{arith}
-use denote.Ref.{now}
 use borrow.Author.Needs.{needs}
 use Prim.Native.Nat.{min}
 use mathlib.Core.Path.{subst}
-use borrow.Author.Tests.{lt-ltb, le-ltb, eq-eqb, ne-eqb}
+use borrow.Author.Tests.{lt-ltb, le-ltb}
 use Rattle.whole.specs.declared.Whole.the-variants.{Refused}
 use Rattle.calculus.specs.Curve.{product}
 use Rattle.exact.specs.Kinds.{checked}

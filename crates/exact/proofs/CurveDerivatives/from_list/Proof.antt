@@ -1,7 +1,6 @@
 -- `exact::CurveDerivatives::from_list` meets its contract. Assumes nothing.
-use mathlib.Core.Path.{_≡_, refl, sym, ap, ap₂, _∙_}
-use Prim.Native.Nat.{ℕ, suc, _+_, _-_, _≤_, _<_}
-use native.Mathlib.Omega.{arith}
+use mathlib.Core.Path.{_≡_, sym, _∙_}
+use Prim.Native.Nat.{suc, _-_}
 use denote.Ref.{now}
 use borrow.Author.Needs.{needs}
 use native.Mathlib.Numerals.{add-one}
@@ -10,10 +9,6 @@ use borrow.Author.Tests.{lt-ltb, le-ltb, eq-eqb, ne-eqb}
 use Rattle.exact.specs.Answer.{curveNumbers, refusedCurve, answeredCurve, curveFromList}
 use Rattle.exact.proofs.CurveDerivatives.from_list.Statement.{statement}
 use Rattle.exact.proofs.CurveDerivatives.from_list.Tie as tie
-use Rattle.exact.proofs.CurveDerivatives.from_list.Reads as reads
-use Rattle.exact.proofs.CurveDerivatives.from_list.Lts as lts
-use Rattle.exact.proofs.curve.read.Reads as read-reads
-use Rattle.exact.proofs.refused_curve.Reads as refused-curve-reads
 
 refused-curve-requires : tie.Need-refused-curve-requires
 refused-curve-requires c κs = search needs

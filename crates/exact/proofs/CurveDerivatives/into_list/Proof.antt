@@ -1,7 +1,6 @@
 -- `exact::CurveDerivatives::into_list` meets its contract. Assumes nothing.
-use mathlib.Core.Path.{_≡_, refl, sym, ap, ap₂, _∙_}
-use Prim.Native.Nat.{ℕ, suc, _+_, _-_, _≤_, _<_}
-use native.Mathlib.Omega.{arith}
+use mathlib.Core.Path.{_≡_, sym, ap, _∙_}
+use Prim.Native.Nat.{ℕ, suc, _-_}
 use denote.Ref.{now}
 use borrow.Author.Needs.{needs}
 use mathlib.Core.List.{List}
@@ -13,9 +12,6 @@ use Rattle.exact.specs.Order.{curveEntries}
 use Rattle.exact.specs.Answer.{curveNumbers, curveIntoList}
 use Rattle.exact.proofs.CurveDerivatives.into_list.Statement.{statement}
 use Rattle.exact.proofs.CurveDerivatives.into_list.Tie as tie
-use Rattle.exact.proofs.CurveDerivatives.into_list.Reads as reads
-use Rattle.exact.proofs.CurveDerivatives.into_list.Lts as lts
-use Rattle.exact.proofs.curve.write.Reads as write-reads
 
 returns : tie.Need-returns
 returns c =

@@ -1,13 +1,10 @@
 -- `exact::SurfaceDerivatives::derivative_u` meets its contract. Assumes nothing.
-use mathlib.Core.Path.{_≡_, refl, sym, ap, ap₂, _∙_}
-use Prim.Native.Nat.{ℕ, suc, _+_, _-_, _*_, _≤_, _<_}
-use native.Mathlib.Omega.{arith}
-use denote.Ref.{now}
+use mathlib.Core.Path.{_≡_, ap, ap₂, _∙_}
+use Prim.Native.Nat.{_-_}
 use borrow.Author.Needs.{needs}
 use mathlib.Core.Path.{fun-ext}
 use native.Mathlib.Nat.{add-zero}
 use native.Mathlib.Numerals.{add-one}
-use lib.IntN.{ℤ}
 use borrow.Author.Tests.{lt-ltb, le-ltb, eq-eqb, ne-eqb}
 use Rattle.calculus.specs.Surface.{derivativeU}
 use Rattle.exact.specs.Answer.{surfaceNumbers, refusedSurface, answeredSurface, surfaceDerivative}

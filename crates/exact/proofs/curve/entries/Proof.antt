@@ -1,6 +1,6 @@
 -- `exact::curve::entries` meets its contract. The invariant: the entries passed stand in the array. Assumes nothing.
-use mathlib.Core.Path.{_≡_, refl, sym, ap, ap₂, _∙_}
-use Prim.Native.Nat.{ℕ, suc, _+_, _-_, _≤_, _<_}
+use mathlib.Core.Path.{sym, _∙_}
+use Prim.Native.Nat.{suc, _-_}
 use native.Mathlib.Omega.{arith}
 use denote.Ref.{now}
 use borrow.Author.Needs.{needs}
@@ -9,11 +9,6 @@ use Rattle.exact.proofs.Progress.{CurveProgress, curve-begins, curve-go
 use Rattle.exact.proofs.Earlier.{curveOf, curve-formed}
 use Rattle.exact.proofs.curve.entries.Statement.{statement}
 use Rattle.exact.proofs.curve.entries.Tie as tie
-use Rattle.exact.proofs.curve.entries.Reads as reads
-use Rattle.exact.proofs.curve.entries.Lts as lts
-use Rattle.calculus.proofs.binomials.Reads as binomials-reads
-use Rattle.exact.proofs.curve.entry.Reads as entry-reads
-use Rattle.exact.proofs.refused_curve.Reads as refused-curve-reads
 
 abbrev Inv-loop : tie.InvT-loop
 Inv-loop f a b n c r₀ m₀ r m = CurveProgress (curveOf f (curveValues a) (curveValues b)) n m r

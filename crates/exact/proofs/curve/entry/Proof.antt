@@ -1,7 +1,6 @@
 -- `exact::curve::entry` meets its contract. By which formula it is. Assumes nothing.
-use mathlib.Core.Path.{_≡_, refl, sym, ap, ap₂, _∙_}
-use Prim.Native.Nat.{ℕ, suc, _+_, _-_, _*_, _≤_, _<_}
-use native.Mathlib.Omega.{arith}
+use mathlib.Core.Path.{sym, ap, ap₂, _∙_}
+use Prim.Native.Nat.{_+_, _-_}
 use denote.Ref.{now}
 use borrow.Author.Needs.{needs}
 use lib.IntN.{pos, _+ℤ_, _-ℤ_}

@@ -1,6 +1,6 @@
 -- `exact::curve::leibniz_term` meets its contract. Assumes nothing.
-use mathlib.Core.Path.{_≡_, refl, sym, ap, ap₂, _∙_}
-use Prim.Native.Nat.{ℕ, suc, _+_, _-_, _≤_, _<_}
+use mathlib.Core.Path.{_≡_, ap, ap₂, _∙_}
+use Prim.Native.Nat.{ℕ, _-_}
 use native.Mathlib.Omega.{arith}
 use denote.Ref.{now}
 use borrow.Author.Needs.{needs}
@@ -16,10 +16,6 @@ use Rattle.exact.specs.Kinds.{checked}
 use Rattle.exact.proofs.Terms.{coefficient, term-place}
 use Rattle.exact.proofs.curve.leibniz_term.Statement.{statement}
 use Rattle.exact.proofs.curve.leibniz_term.Tie as tie
-use Rattle.exact.proofs.curve.leibniz_term.Reads as reads
-use Rattle.exact.proofs.curve.leibniz_term.Lts as lts
-use Rattle.exact.proofs.index.Reads as index-reads
-use Rattle.exact.proofs.term.Reads as term-reads
 
 sub-j : tie.Need-sub-j
 sub-j c = search needs

@@ -1,11 +1,10 @@
 -- `exact::curve::on_two` meets its contract. Assumes nothing.
-use mathlib.Core.Path.{_≡_, refl, sym, ap, ap₂, _∙_}
-use Prim.Native.Nat.{ℕ, suc, _+_, _-_, _*_, _≤_, _<_}
+use mathlib.Core.Path.{_≡_, ap, _∙_}
+use Prim.Native.Nat.{_-_}
 use native.Mathlib.Omega.{arith}
-use denote.Ref.{now}
 use borrow.Author.Needs.{needs}
 use Prim.Native.Nat.{min}
-use borrow.Author.Tests.{lt-ltb, le-ltb, eq-eqb, ne-eqb}
+use borrow.Author.Tests.{lt-ltb, le-ltb}
 use Rattle.calculus.specs.Rising.{rising}
 use Rattle.exact.specs.Kinds.{checked}
 use Rattle.exact.specs.Answer.{curveValues, refusedCurve, curveAnswer, onCurves}

@@ -1,6 +1,6 @@
 -- `exact::curve::owed` meets its contract. The invariant: the terms passed are subtracted. Assumes nothing.
-use mathlib.Core.Path.{_≡_, refl, sym, ap, ap₂, _∙_}
-use Prim.Native.Nat.{ℕ, suc, _+_, _-_, _≤_, _<_}
+use mathlib.Core.Path.{_≡_, ap, ap₂, _∙_}
+use Prim.Native.Nat.{suc, _-_, _≤_}
 use native.Mathlib.Omega.{arith}
 use denote.Ref.{now}
 use borrow.Author.Needs.{needs}
@@ -14,10 +14,6 @@ use Rattle.exact.specs.Kinds.{checked}
 use Rattle.exact.specs.Answer.{curveValues}
 use Rattle.exact.proofs.curve.owed.Statement.{statement}
 use Rattle.exact.proofs.curve.owed.Tie as tie
-use Rattle.exact.proofs.curve.owed.Reads as reads
-use Rattle.exact.proofs.curve.owed.Lts as lts
-use Rattle.exact.proofs.curve.leibniz_term.Reads as leibniz-term-reads
-use Rattle.whole.proofs.minus.Reads as minus-reads
 
 abbrev Inv-loop : tie.InvT-loop
 Inv-loop num d q c m x rest₀ i₀ rest i =

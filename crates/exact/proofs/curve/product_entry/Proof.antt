@@ -1,6 +1,6 @@
 -- `exact::curve::product_entry` meets its contract. The invariant: the sum is that of the terms passed. Assumes nothing.
-use mathlib.Core.Path.{_≡_, refl, sym, ap, ap₂, _∙_}
-use Prim.Native.Nat.{ℕ, suc, _+_, _-_, _≤_, _<_}
+use mathlib.Core.Path.{_≡_, refl, ap, ap₂, _∙_}
+use Prim.Native.Nat.{suc, _-_, _≤_}
 use native.Mathlib.Omega.{arith}
 use denote.Ref.{now}
 use borrow.Author.Needs.{needs}
@@ -12,10 +12,6 @@ use Rattle.exact.specs.Kinds.{checked}
 use Rattle.exact.specs.Answer.{curveValues}
 use Rattle.exact.proofs.curve.product_entry.Statement.{statement}
 use Rattle.exact.proofs.curve.product_entry.Tie as tie
-use Rattle.exact.proofs.curve.product_entry.Reads as reads
-use Rattle.exact.proofs.curve.product_entry.Lts as lts
-use Rattle.exact.proofs.curve.leibniz_term.Reads as leibniz-term-reads
-use Rattle.whole.proofs.plus.Reads as plus-reads
 
 abbrev Inv-loop : tie.InvT-loop
 Inv-loop a b c m sum₀ i₀ sum i =

@@ -1,18 +1,12 @@
 -- `exact::curve::quotient_entry` meets its contract. Assumes nothing.
-use mathlib.Core.Path.{_≡_, refl, sym, ap, ap₂, _∙_}
-use Prim.Native.Nat.{ℕ, suc, _+_, _-_, _≤_, _<_}
-use native.Mathlib.Omega.{arith}
-use denote.Ref.{now}
+use mathlib.Core.Path.{ap, ap₂, _∙_}
+use Prim.Native.Nat.{_-_}
 use borrow.Author.Needs.{needs}
 use mir.Facts.{toZ-ofZ}
 use Rattle.whole.specs.declared.Whole.the-variants.{Value}
 use Rattle.exact.specs.Kinds.{checked}
 use Rattle.exact.proofs.curve.quotient_entry.Statement.{statement}
 use Rattle.exact.proofs.curve.quotient_entry.Tie as tie
-use Rattle.exact.proofs.curve.quotient_entry.Reads as reads
-use Rattle.exact.proofs.curve.quotient_entry.Lts as lts
-use Rattle.exact.proofs.curve.owed.Reads as owed-reads
-use Rattle.whole.proofs.over.Reads as over-reads
 
 element-copy-out-y : tie.Need-element-copy-out-y
 element-copy-out-y c = search needs

@@ -1,15 +1,12 @@
 -- `exact::curve::read` meets its contract. The invariant: the entries passed stand in the array. Assumes nothing.
-use mathlib.Core.Path.{_≡_, refl, sym, ap, ap₂, _∙_}
-use Prim.Native.Nat.{ℕ, suc, _+_, _-_, _≤_, _<_}
-use native.Mathlib.Omega.{arith}
+use mathlib.Core.Path.{refl, _∙_}
+use Prim.Native.Nat.{suc, _-_}
 use denote.Ref.{now}
 use borrow.Author.Needs.{needs}
 use Rattle.exact.specs.Answer.{curveNumbers, curveValues}
 use Rattle.exact.proofs.Progress.{CurveProgress, curve-begins, curve-goes-on, curve-ends, curve-of-numbers}
 use Rattle.exact.proofs.curve.read.Statement.{statement}
 use Rattle.exact.proofs.curve.read.Tie as tie
-use Rattle.exact.proofs.curve.read.Reads as reads
-use Rattle.exact.proofs.curve.read.Lts as lts
 
 abbrev Inv-loop : tie.InvT-loop
 Inv-loop list n r₀ m₀ r m = CurveProgress (curveValues list) n m r

@@ -1,10 +1,10 @@
 -- `exact::curve::write` meets its contract. The invariant: the entries passed are written. Assumes nothing.
-use mathlib.Core.Path.{_≡_, refl, sym, ap, ap₂, _∙_}
-use Prim.Native.Nat.{ℕ, suc, _+_, _-_, _≤_, _<_}
+use mathlib.Core.Path.{sym, _∙_}
+use Prim.Native.Nat.{suc, _-_, _≤_}
 use native.Mathlib.Omega.{arith}
 use denote.Ref.{now}
 use borrow.Author.Needs.{needs}
-use lib.IntN.{ℤ, pos}
+use lib.IntN.{pos}
 use lib.ListN.{getD}
 use mir.Syntax.{w64}
 use mir.Val.{SFits}
@@ -15,8 +15,6 @@ use Rattle.exact.proofs.Work.{curveLeft, curve-start, curve-next, curve
 use Rattle.exact.proofs.Writing.{Writing, writing-begins, in-list, writing-goes-on, writing-ends, listed-length}
 use Rattle.exact.proofs.curve.write.Statement.{statement}
 use Rattle.exact.proofs.curve.write.Tie as tie
-use Rattle.exact.proofs.curve.write.Reads as reads
-use Rattle.exact.proofs.curve.write.Lts as lts
 
 abbrev Inv-loop : tie.InvT-loop
 Inv-loop a n out₀ m₀ out m = Writing (curveEntries (curveNumbers a) n) out (curveLeft (curveNumbers a) n m) m × (m ≤ suc n)

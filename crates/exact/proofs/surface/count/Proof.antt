@@ -1,8 +1,7 @@
 -- `exact::surface::count` meets its contract. Assumes nothing.
-use mathlib.Core.Path.{_≡_, refl, sym, ap, ap₂, _∙_}
-use Prim.Native.Nat.{ℕ, suc, _+_, _-_, _*_, _/_, _≤_, _<_}
+use mathlib.Core.Path.{_≡_, ap₂}
+use Prim.Native.Nat.{ℕ, suc, _+_, _-_, _*_, _/_}
 use native.Mathlib.Omega.{arith}
-use denote.Ref.{now}
 use borrow.Author.Needs.{needs}
 use Rattle.calculus.specs.Graded.{triangle}
 use Rattle.exact.proofs.Terms.{small-count}

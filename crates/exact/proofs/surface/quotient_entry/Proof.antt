@@ -1,13 +1,7 @@
 -- `exact::surface::quotient_entry` meets its contract. Assumes nothing.
-use mathlib.Core.Path.{_≡_, refl, sym, ap, ap₂, _∙_}
-use Prim.Native.Nat.{ℕ, suc, _+_, _-_, _*_, _≤_, _<_}
-use native.Mathlib.Omega.{arith}
-use denote.Ref.{now}
+use mathlib.Core.Path.{ap, ap₂, _∙_}
+use Prim.Native.Nat.{_-_}
 use borrow.Author.Needs.{needs}
-use lib.IntN.{ℤ, pos}
-use lib.ListN.{getD}
-use mir.Syntax.{w64}
-use mir.Val.{SFits}
 use mir.Facts.{toZ-ofZ}
 use Rattle.whole.specs.declared.Whole.the-variants.{Value}
 use Rattle.calculus.specs.Graded.{index}
@@ -26,11 +20,7 @@ over-requires c κs = search needs
 
 returns : tie.Need-returns
 unfolding index
-returns c =
-    let s = c .before .before .before .args in
-    let f : SFits w64 (getD (now (s .d)) 0 (pos 0)) = search needs in
-    let z : index 0 0 ≡ 0 = refl in
-    c .over .ensures ∙ ap₂ (checked .over) (c .before .owed .ensures) (ap Value (toZ-ofZ f ∙ ap (λ (k : ℕ). getD (now (s .d)) k (pos 0)) (sym z)))
+returns c = c .over .ensures ∙ ap₂ (checked .over) (c .before .owed .ensures) (ap Value (toZ-ofZ (search needs)))
 
 pub quotient-entry-spec : {M : Type 1} → statement M
 quotient-entry-spec = tie.close (tie.spec element-copy-out-y owed-requires over-requires returns)

@@ -1,14 +1,13 @@
 -- `exact::surface::read` meets its contract. The invariant: the entries passed stand in the array. Assumes nothing.
-use mathlib.Core.Path.{_≡_, refl, sym, ap, ap₂, _∙_}
-use Prim.Native.Nat.{ℕ, suc, _+_, _-_, _*_, _≤_, _<_}
+use mathlib.Core.Path.{_≡_, refl, sym, ap, _∙_}
+use Prim.Native.Nat.{ℕ, suc, _+_, _-_, _*_, _≤_}
 use native.Mathlib.Omega.{arith}
 use denote.Ref.{now}
 use borrow.Author.Needs.{needs}
-use lib.IntN.{ℤ, pos}
+use lib.IntN.{pos}
 use lib.ListN.{getD}
 use mir.Syntax.{w64}
 use mir.Val.{SFits}
-use mir.Facts.{toZ-ofZ}
 use Rattle.whole.specs.declared.Whole.the-variants.{Value}
 use Rattle.calculus.proofs.Graded.{index-231}
 use Rattle.exact.specs.Order.{rowStart, listPlace}
