@@ -1,0 +1,64 @@
+-- `replay_carry::next_numbers` is safe and ends: its index stays within the numbers. Assumes nothing.
+use mathlib.Core.Path.{_≡_}
+use Prim.Native.Nat.{_-_, _≤_}
+use lib.ListN.{length}
+use borrow.Author.Needs.{needs}
+use Rattle.replay_carry.proofs.next_numbers.Statement.{statement}
+use Rattle.replay_carry.proofs.next_numbers.Tie as tie
+
+abbrev Inv-loop : tie.InvT-loop
+Inv-loop n l₀ i₀ l i = (length l ≡ length l₀) × (i ≤ length l₀)
+
+abbrev μ-loop : tie.MeasureT-loop
+μ-loop n l₀ i₀ l i = length l₀ - i
+
+loop-holds : tie.Need-loop-holds Inv-loop μ-loop
+loop-holds c = search needs
+
+same-length : tie.Need-same-length Inv-loop μ-loop
+same-length c = search needs
+
+returns : tie.Need-returns Inv-loop μ-loop
+returns c = search needs
+
+next-requires : tie.Need-next-requires Inv-loop μ-loop
+next-requires c κs = search needs
+
+mul-t4 : tie.Need-mul-t4 Inv-loop μ-loop
+mul-t4 c = search needs
+
+slice-set-from-l : tie.Need-slice-set-from-l Inv-loop μ-loop
+slice-set-from-l c = search needs
+
+add-i : tie.Need-add-i Inv-loop μ-loop
+add-i c = search needs
+
+loop-less : tie.Need-loop-less Inv-loop μ-loop
+loop-less c = search needs
+
+loop-again : tie.Need-loop-again Inv-loop μ-loop
+loop-again c = search needs
+
+same-length-2 : tie.Need-same-length-2 Inv-loop μ-loop
+same-length-2 c = search needs
+
+returns-2 : tie.Need-returns-2 Inv-loop μ-loop
+returns-2 c = search needs
+
+pub next-numbers-spec : {M : Type 1} → statement M
+next-numbers-spec =
+    tie.close
+    (tie.spec
+    Inv-loop
+    μ-loop
+    loop-holds
+    same-length
+    returns
+    next-requires
+    mul-t4
+    slice-set-from-l
+    add-i
+    loop-less
+    loop-again
+    same-length-2
+    returns-2)
