@@ -1,3 +1,5 @@
 pub mod Kinds
 pub mod Order
 pub mod Answer
+pub mod Composite
+pub mod Judged

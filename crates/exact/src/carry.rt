@@ -4,12 +4,14 @@ ghost use mathlib.Core.Bool.{true};
 ghost use Prim.Native.Nat.{ℕ, _+_, _≤_, _<_};
 ghost use lib.ListN.{length, getD};
 ghost use Rattle.calculus.specs.Kind.{regular};
-ghost use Rattle.calculus.specs.Carry.{factors as Factors, tensor as Tensor, summand as Summand, coordinates, surfaceEntry, compositeDerivative};
+ghost use Rattle.calculus.specs.Carry.{factors as Factors, tensor as Tensor, summand as Summand, coordinates, surfaceEntry, compositeDerivative, compositeDerivatives};
 ghost use Rattle.partitions.specs.Parts.{total, lists};
 ghost use Rattle.partitions.specs.Count.{isList};
 ghost use Rattle.calculus.specs.InTurn.{alongList};
 ghost use Rattle.exact.specs.Kinds.{checked};
-ghost use Rattle.exact.specs.Answer.{curveValues, surfaceValues};
+ghost use Rattle.exact.specs.Answer.{curveValues, surfaceValues, curveAnswer};
+use crate::CurveAnswer;
+use crate::CurveDerivatives;
 use partitions::CompositionIter;
 use partitions::Count;
 use whole::Whole;
@@ -105,4 +107,40 @@ pub fn derivative(entries: &[i64; 231], u: &[i64; 21], v: &[i64; 21], order: usi
         total = along_lists(entries, u, v, order, len, total);
     }
     total
+}
+
+fn entry(entries: &[i64; 231], u: &[i64; 21], v: &[i64; 21], m: usize) -> Whole
+    requires { ⌜ m ≤ 20 ⌝ }
+    ensures { λ r. ⌜ r ≡ compositeDerivatives (regular checked) (curveValues (now (u .entry))) (curveValues (now (v .entry))) (surfaceValues (now (entries .entry))) m ⌝ }
+{
+    if m == 0 {
+        let x = entries[0];
+        Whole::Value(x)
+    } else {
+        derivative(entries, u, v, m)
+    }
+}
+
+pub fn derivatives(entries: &[i64; 231], u: &[i64; 21], v: &[i64; 21], order: usize) -> CurveAnswer
+    requires { ⌜ order ≤ 20 ⌝ }
+    ensures { λ r. ⌜ r ≡ curveAnswer (compositeDerivatives (regular checked) (curveValues (now (u .entry))) (curveValues (now (v .entry))) (surfaceValues (now (entries .entry)))) order ⌝ }
+{
+    let mut r = [0i64; 21];
+    let mut m = 0;
+    while m <= order {
+        let e = entry(entries, u, v, m);
+        match e {
+            Whole::Value(x) => {
+                r[m] = x;
+            }
+            Whole::Refused(c) => {
+                return crate::refused_curve(c);
+            }
+        }
+        m += 1;
+    }
+    CurveAnswer {
+        refusal: 0,
+        jet: CurveDerivatives { order, entries: r },
+    }
 }

@@ -4,6 +4,7 @@ ghost use mathlib.Core.Path.{_≡_};
 ghost use Rattle.exact.specs.Answer.{refusedCurve, refusedSurface, refusedParameter};
 
 mod carry;
+mod composite;
 
 // The derivatives of a curve, of the orders 0 to `order`.
 pub struct CurveDerivatives {

@@ -15,7 +15,7 @@ use Rattle.calculus.specs.Carry.{digits, surfaceEntry}
 use Rattle.whole.specs.declared.Whole.the-variants.{Value}
 use Rattle.exact.specs.Kinds.{checked}
 use Rattle.exact.specs.Answer.{surfaceValues}
-use Rattle.exact.proofs.Lists.{termOf, entry-at, square-le, masks-le, masks-shift}
+use Rattle.exact.proofs.Masks.{termOf, entry-at, square-le, masks-le, masks-shift}
 use Prim.Native.Nat.{ℕ, suc, _+_, _-_, _≤_, _<_}
 use native.Mathlib.Omega.{arith}
 use borrow.Author.Needs.{needs}

@@ -2,7 +2,7 @@
 use mathlib.Core.Path.{_≡_, refl, sym, _∙_, ap, ap₂}
 use mathlib.Core.List.{List, [], _∷_}
 use Prim.Native.Nat.{ℕ, zero, suc, _+_, _-_, _*_, _/_, _%_, _^_, _≤_, _<_}
-use native.Mathlib.Nat.{pow-suc, mul-le-mul, one-mul, mod-eq-of-lt}
+use native.Mathlib.Nat.{suc-ne-zero, pow-suc, mul-le-mul, one-mul, mod-eq-of-lt}
 use lib.Pow.{pow-mono}
 use native.Mathlib.Omega.{arith}
 use lib.Count as Count
@@ -10,8 +10,8 @@ use lib.IntN.{ℤ, pos}
 use lib.ListN.{length, drop, getD}
 use Rattle.partitions.proofs.Slices.{drop-at, drop-past}
 use Rattle.partitions.proofs.Tests.{eqb-yes, eqb-no}
-use Rattle.calculus.specs.Kind.{Kind}
-use Rattle.calculus.specs.Carry.{digits, factors, ones, coordinates, surfaceEntry}
+use Rattle.calculus.specs.Kind.{Kind, regular}
+use Rattle.calculus.specs.Carry.{digits, factors, ones, coordinates, surfaceEntry, compositeDerivative, compositeDerivatives}
 use Rattle.calculus.specs.Graded.{index}
 use Rattle.calculus.proofs.CarryAlike.{digits-length, ones-le}
 use Rattle.whole.specs.declared.Whole.{Whole}
@@ -82,3 +82,17 @@ masks-shift n h = ap (λ x. x % 4294967296) (one-mul (2 ^ n)) ∙ mod-eq-of-lt (
   where
     small : (x : ℕ) → x ≤ 1048576 → x < 4294967296
     small x k = omega arith
+
+-- ---- the carried jet: the surface's value at order 0, and a derivative at every other
+module _ (entries u v : List ℤ) where
+  abbrev pub carriedJet : ℕ → Whole
+  carriedJet = compositeDerivatives (regular checked) (curveValues u) (curveValues v) (surfaceValues entries)
+
+  pub carried-value : (m : ℕ) → m ≡ 0 → Value (getD entries 0 (pos 0)) ≡ carriedJet m
+  unfolding index ones
+  carried-value zero e = refl
+  carried-value (suc m) e = absurd (suc-ne-zero m e)
+
+  pub carried-derivative : (m : ℕ) → ¬ (m ≡ 0) → compositeDerivative (regular checked) (curveValues u) (curveValues v) (surfaceValues entries) m ≡ carriedJet m
+  carried-derivative zero f = absurd (f refl)
+  carried-derivative (suc m) f = refl
