@@ -1,6 +1,6 @@
 -- What a formula answers with checked numbers is the verdict on what its entries took, in the order of work, beside their values.
 -- Assumes nothing.
-use mathlib.Core.Path.{_≡_, refl, sym, ap, ap₂, _∙_, subst}
+use mathlib.Core.Path.{_≡_, refl, sym, ap, ap₂, _∙_, subst, fun-ext}
 use mathlib.Core.Bool.{Bool, true, false, cond}
 use mathlib.Core.List.{List, [], _∷_, _++_, map}
 use Prim.Native.Nat.{ℕ, zero, suc, _+_, _-_, _≤_, _<_}
@@ -23,30 +23,12 @@ use Rattle.exact.specs.declared.CurveAnswer.{CurveAnswer}
 use Rattle.exact.specs.declared.SurfaceAnswer.{SurfaceAnswer}
 use Rattle.exact.specs.Order.{rows, curveEntries, surfaceEntries}
 use Rattle.exact.specs.Answer.{valueOf, unlessRefused, refusedCurve, refusedSurface, answeredCurve, answeredSurface, curveAnswer, surfaceAnswer}
-use Rattle.roads.specs.Recipe.{goOn}
-use Rattle.roads.specs.Formed.{histories, taken}
-use Rattle.roads.proofs.Sound.{Settles}
+use Rattle.exact.specs.Judged.{histories, unlessBy}
+use Rattle.exact.proofs.Work.{map-rows}
+use Rattle.exact.proofs.Judged.{unless-judged, curve-judged}
+use Rattle.roads.specs.Formed.{taken}
 
--- ---- lists of entries that are related, place by place
-module _ {X Y : Type 0} (g : X → Y) where
-  pub listed-map : (f : ℕ → Y) (t : ℕ → X) (i n : ℕ) → ((k : ℕ) → k < n → g (t (i + k)) ≡ f (i + k)) → map g (listed t i n) ≡ listed f i n
-  unfolding listed
-  listed-map f t i zero h = refl
-  listed-map f t i (suc n) h =
-      ap₂ _∷_ (subst (λ (x : ℕ). g (t x) ≡ f x) (add-zero i) (h 0 (omega arith)))
-      (listed-map f t (suc i) n (λ k l. subst (λ (x : ℕ). g (t x) ≡ f x) (add-suc i k ∙ sym (suc-add i k)) (h (suc k) (omega arith))))
-
-  map-append : (l k : List X) → map g (l ++ k) ≡ map g l ++ map g k
-  map-append [] k = refl
-  map-append (x ∷ l) k = ap (λ (r : List Y). g x ∷ r) (map-append l k)
-
-  rows-map : (f : ℕ → ℕ → Y) (t : ℕ → ℕ → X) (i k n : ℕ) → i + k ≤ suc n → ((x y : ℕ) → x + y ≤ n → g (t x y) ≡ f x y) → map g (rows t i k) ≡ rows f i k
-  unfolding rows
-  rows-map f t i zero n l h = refl
-  rows-map f t i (suc k) n l h =
-      map-append (listed (t i) 0 (suc k)) (rows t (suc i) k)
-      ∙ ap₂ _++_ (listed-map (f i) (t i) 0 (suc k) (λ y b. h i (0 + y) (omega arith))) (rows-map f t (suc i) k n (omega arith) h)
-
+-- ---- entries that agree
 pub listed-same : {X : Type 0} (f g : ℕ → X) (i n : ℕ) → ((k : ℕ) → k < n → f (i + k) ≡ g (i + k)) → listed f i n ≡ listed g i n
 unfolding listed
 listed-same f g i zero h = refl
@@ -70,20 +52,6 @@ surface-array-same a b n h =
     at : (k : ℕ) (t : Bool) → ltb k (triangle (suc n)) ≡ t → cond t (graded a k) (pos 0) ≡ cond t (graded b k) (pos 0)
     at k true e = h (place k .0) (place k .1) (place-order n k (ltb-true k (triangle (suc n)) e))
     at k false e = refl
-
--- ---- the first refusal of the entries is the verdict
-module _ {A : Type 0} (refused : ℕ → A) (a : A) where
-  one : (v u : ℕ) (z : ℤ) (ws : List Whole) → unlessRefused refused ws a ≡ goOn refused u a → unlessRefused refused (settleBy v z ∷ ws) a ≡ goOn refused (orElse v u) a
-  unfolding unlessRefused
-  one zero u z ws e = e
-  one (suc v) u z ws e = refl
-
-  pub first-refusal : (ts : List Traced) → unlessRefused refused (map settle ts) a ≡ goOn refused (verdict (histories ts)) a
-  unfolding unlessRefused histories verdict
-  first-refusal [] = refl
-  first-refusal (t ∷ ts) =
-      one (verdict (t .history)) (verdict (histories ts)) (t .value) (map settle ts) (first-refusal ts)
-      ∙ ap (λ (v : ℕ). goOn refused v a) (sym (verdict-append (t .history) (histories ts)))
 
 -- ---- what is taken, and each entry's part of it
 pub taken-verdict : (t : ℕ → Traced) (i n : ℕ) → verdict (histories (listed t i n)) ≡ 0 → (k : ℕ) → k < n → verdict (t (i + k) .history) ≡ 0
@@ -129,54 +97,43 @@ rows-verdict t i (suc k) e (suc x) y l =
 pub entry-verdict : (t : ℕ → ℕ → Traced) (n : ℕ) → verdict (histories (surfaceEntries t n)) ≡ 0 → (i j : ℕ) → i + j ≤ n → verdict (t i j .history) ≡ 0
 entry-verdict t n e i j l = subst (λ (z : ℕ). verdict (t z j .history) ≡ 0) (zero-add i) (rows-verdict t 0 (suc n) e i j (omega arith))
 
--- ---- answers
-module _ (t : ℕ → Traced) (f : ℕ → Whole) (n : ℕ) (h : CurvesAlike Settles n t f) where
-  pub curve-judged : curveAnswer f n ≡ goOn refusedCurve (verdict (taken t n)) (answeredCurve n (λ m. t m .value))
-  curve-judged =
-      ap (λ (ws : List Whole). unlessRefused refusedCurve ws (answeredCurve n (λ m. valueOf (f m))))
-      (sym (listed-map settle f t 0 (suc n) (λ k l. h (0 + k) (omega arith))))
-      ∙ first-refusal refusedCurve (answeredCurve n (λ m. valueOf (f m))) (curveEntries t n)
-      ∙ by (verdict (taken t n)) refl
-    where
-      value : verdict (taken t n) ≡ 0 → (m : ℕ) → m ≤ n → valueOf (f m) ≡ t m .value
-      value e m l =
-          ap valueOf (sym (h m l) ∙ settle-answered (t m)
-          (subst (λ (x : ℕ). verdict (t x .history) ≡ 0) (zero-add m) (taken-verdict t 0 (suc n) e m (omega arith))))
+-- ---- where every division is exact, a curve is answered with the values, or refused 9
+pub curve-exact : (t : ℕ → Traced) (f : ℕ → Whole) (n : ℕ) → ((m : ℕ) → settle (t m) ≡ f m) → ((m : ℕ) → m ≤ n → exact (t m .history) ≡ true) →
+    curveAnswer f n ≡ cond (every inRange (numbers (taken t n))) (answeredCurve n (λ m. t m .value)) (refusedCurve 9)
+curve-exact t f n h e =
+    curve-judged t n f h
+    ∙ ap (unlessBy refusedCurve (answeredCurve n (λ m. t m .value))) (verdict-exact (taken t n) (taken-exact t 0 (suc n) (λ k l. e (0 + k) (omega arith))))
+    ∙ by (every inRange (numbers (taken t n)))
+  where
+    by : (b : Bool) → unlessBy refusedCurve (answeredCurve n (λ m. t m .value)) (cond b 0 9) ≡ cond b (answeredCurve n (λ m. t m .value)) (refusedCurve 9)
+    by true = refl
+    by false = refl
 
-      by : (v : ℕ) → verdict (taken t n) ≡ v → goOn refusedCurve v (answeredCurve n (λ m. valueOf (f m))) ≡ goOn refusedCurve v (answeredCurve n (λ m. t m .value))
-      by zero e = ap (λ (l : List ℤ). record { refusal = 0; jet = record { order = n; entries = l } }) (array-same (λ m. valueOf (f m)) (λ m. t m .value) n (value e))
-      by (suc v) e = refl
+-- ---- an answered surface has the values, and no entry was refused
+module _ (t : ℕ → ℕ → Traced) (n : ℕ) where
+  abbrev settled : ℕ → ℕ → Whole
+  settled i j = settle (t i j)
 
-  -- where every division is exact: the values, or 9
-  pub curve-exact : ((m : ℕ) → m ≤ n → exact (t m .history) ≡ true) →
-      curveAnswer f n ≡ cond (every inRange (numbers (taken t n))) (answeredCurve n (λ m. t m .value)) (refusedCurve 9)
-  curve-exact e =
-      curve-judged
-      ∙ ap (λ (v : ℕ). goOn refusedCurve v (answeredCurve n (λ m. t m .value)))
-      (verdict-exact (taken t n) (taken-exact t 0 (suc n) (λ k l. e (0 + k) (omega arith))))
-      ∙ by (every inRange (numbers (taken t n)))
-    where
-      by : (b : Bool) → goOn refusedCurve (cond b 0 9) (answeredCurve n (λ m. t m .value)) ≡ cond b (answeredCurve n (λ m. t m .value)) (refusedCurve 9)
-      by true = refl
-      by false = refl
+  abbrev answer : SurfaceAnswer
+  answer = answeredSurface n (λ i j. valueOf (settled i j))
 
-module _ (t : ℕ → ℕ → Traced) (f : ℕ → ℕ → Whole) (n : ℕ) (h : SurfacesAlike Settles n t f) where
-  surface-first : surfaceAnswer f n ≡ goOn refusedSurface (verdict (histories (surfaceEntries t n))) (answeredSurface n (λ i j. valueOf (f i j)))
+  surface-first : surfaceAnswer settled n ≡ unlessBy refusedSurface answer (verdict (histories (surfaceEntries t n)))
   surface-first =
-      ap (λ (ws : List Whole). unlessRefused refusedSurface ws (answeredSurface n (λ i j. valueOf (f i j)))) (sym (rows-map settle f t 0 (suc n) n (omega arith) h))
-      ∙ first-refusal refusedSurface (answeredSurface n (λ i j. valueOf (f i j))) (surfaceEntries t n)
+      ap (λ (ws : List Whole). unlessRefused refusedSurface ws answer) (sym (map-rows settle t 0 (suc n)))
+      ∙ unless-judged refusedSurface answer (surfaceEntries t n)
 
-  -- an answered surface has the values, and no entry was refused
-  pub surface-answered : surfaceAnswer f n .refusal ≡ 0 → (surfaceAnswer f n ≡ answeredSurface n (λ i j. t i j .value)) × ((i j : ℕ) → i + j ≤ n → verdict (t i j .history) ≡ 0)
-  surface-answered e =
-      let v : verdict (histories (surfaceEntries t n)) ≡ 0 = none (verdict (histories (surfaceEntries t n))) (sym (ap (λ (a : SurfaceAnswer). a .refusal) surface-first) ∙ e) in (
-        surface-first ∙ ap (λ (x : ℕ). goOn refusedSurface x (answeredSurface n (λ i j. valueOf (f i j)))) v
+  none : (v : ℕ) → unlessBy refusedSurface answer v .refusal ≡ 0 → v ≡ 0
+  none zero e = refl
+  none (suc v) e = e
+
+  pub surface-answered : (f : ℕ → ℕ → Whole) → ((i j : ℕ) → settle (t i j) ≡ f i j) → surfaceAnswer f n .refusal ≡ 0 →
+      (surfaceAnswer f n ≡ answeredSurface n (λ i j. t i j .value)) × ((i j : ℕ) → i + j ≤ n → verdict (t i j .history) ≡ 0)
+  surface-answered f h e =
+      let same : surfaceAnswer f n ≡ surfaceAnswer settled n = ap (λ (x : ℕ → ℕ → Whole). surfaceAnswer x n) (fun-ext (λ i. fun-ext (λ j. sym (h i j)))) in
+      let v : verdict (histories (surfaceEntries t n)) ≡ 0 = none (verdict (histories (surfaceEntries t n))) (sym (ap (λ (a : SurfaceAnswer). a .refusal) (same ∙ surface-first)) ∙ e) in (
+        same ∙ surface-first ∙ ap (unlessBy refusedSurface answer) v
             ∙ ap (λ (l : List ℤ). record { refusal = 0; jet = record { order = n; entries = l } })
-            (surface-array-same (λ i j. valueOf (f i j)) (λ i j. t i j .value) n
-            (λ i j l. ap valueOf (sym (h i j l) ∙ settle-answered (t i j) (entry-verdict t n v i j l)))),
+            (surface-array-same (λ i j. valueOf (settled i j)) (λ i j. t i j .value) n
+            (λ i j l. ap valueOf (settle-answered (t i j) (entry-verdict t n v i j l)))),
         entry-verdict t n v,
       )
-    where
-      none : (v : ℕ) → goOn refusedSurface v (answeredSurface n (λ i j. valueOf (f i j))) .refusal ≡ 0 → v ≡ 0
-      none zero e = refl
-      none (suc v) e = e

@@ -1,2 +1,4 @@
 pub mod Sound
 pub mod Judged
+pub mod Operations
+pub mod Meeting

@@ -1,4 +1,4 @@
--- How the kinds of exact number go together: what a number with its history comes to, its value, and whether its divisions are exact.
+-- Numbers with their history whose divisions are all exact: the operations keep them so, and a division that is answered is exact.
 -- Assumes nothing.
 use mathlib.Core.Path.{_≡_, refl, ap, ap₂, _∙_, subst, sym}
 use mathlib.Core.Bool.{true, false}
@@ -16,37 +16,7 @@ use Rattle.calculus.specs.Kind.{Kind, regular, plain}
 use Rattle.calculus.proofs.Related.{Related, RelatedModules}
 use Rattle.exact.specs.Kinds.{checked, traced}
 
--- it comes to the checked number
-abbrev pub Settles : Traced → Whole → Type 0
-Settles t w = settle t ≡ w
-
-pub settles : Related Settles traced checked
-settles = record {
-  nought = settle-given (pos 0);
-  one = settle-given (pos 1);
-  plus = λ s t v w p q. settle-plus s t ∙ ap₂ Checked.plus p q;
-  minus = λ s t v w p q. settle-minus s t ∙ ap₂ Checked.minus p q;
-  times = λ s t v w p q. settle-times s t ∙ ap₂ Checked.times p q;
-  over = λ s t v w p q. settle-over s t ∙ ap₂ Checked.over p q;
-  ofNat = settle-ofNat;
-}
-
--- its value is the integer
-abbrev pub Values : Traced → ℤ → Type 0
-Values t z = t .value ≡ z
-
-pub values : Related Values traced plain
-values = record {
-  nought = refl;
-  one = refl;
-  plus = λ s t x y p q. ap₂ _+ℤ_ p q;
-  minus = λ s t x y p q. ap₂ _-ℤ_ p q;
-  times = λ s t x y p q. ap₂ _*ℤ_ p q;
-  over = λ s t x y p q. ap₂ quotZ p q;
-  ofNat = λ n. refl;
-}
-
--- and every division that it took is exact: kept by every operation but the division
+-- the value is the integer, and every division that was taken is exact: kept by every operation but the division
 abbrev pub Sound : Traced → ℤ → Type 0
 Sound t z = (t .value ≡ z) × (exact (t .history) ≡ true)
 

@@ -5,6 +5,7 @@ use mathlib.Core.List.{List, [], _∷_}
 use Prim.Native.Nat.{ℕ, zero, suc, _-_, min}
 use lib.Dec.{ltb, eqb}
 use lib.ListN.{getD, take}
+use Rattle.exact.specs.Judged.{unlessBy}
 use Rattle.roads.specs.declared.Operation.{Operation}
 use Rattle.roads.specs.declared.Step.{Step}
 
@@ -20,11 +21,6 @@ pub record Jets (J A : Type 0) : Type 0 where
   pub jet : A → J
   pub answered : J → A
   pub refused : ℕ → A
-
--- a call's refusal ends the work and is its outcome; without one the work goes on
-abbrev pub goOn : {B : Type 0} → (ℕ → B) → ℕ → B → B
-goOn refused zero b = b
-goOn refused (suc c) b = refused (suc c)
 
 -- the jets in hand, by number, and j as the number m
 abbrev pub with : {J : Type 0} → (ℕ → J) → ℕ → J → ℕ → J
@@ -50,12 +46,13 @@ module _ {J A : Type 0} (K : Jets J A) where
   smallestOrder [] = 20
   smallestOrder (j ∷ js) = min (K .order j) (smallestOrder js)
 
-  -- the steps in turn, on the jets before the number m: each adds its jet to those in hand, and the last number's jet is the result
+  -- the steps in turn, on the jets before the number m: each adds its jet to those in hand, unless it is refused, which is the outcome then;
+  -- the last number's jet is the result
   unfoldable pub worked : (ℕ → J) → ℕ → List Step → A
   worked hand m [] = K .answered (hand (m - 1))
   worked hand m (s ∷ ss) =
       let a = K .apply (s .operation) (hand (s .left)) (hand (s .right)) in
-      goOn (K .refused) (K .refusal a) (worked (with hand m (K .jet a)) (suc m) ss)
+      unlessBy (K .refused) (worked (with hand m (K .jet a)) (suc m) ss) (K .refusal a)
 
   -- the jets that are there have orders up to 20, or it is 1; the recipe is well formed, or it is 4; and every step works at the smallest
   -- order of all the jets given, used or not

@@ -13,10 +13,11 @@ use Rattle.exact.specs.declared.SurfaceAnswer.{SurfaceAnswer}
 use Rattle.exact.specs.Kinds.{checked}
 use Rattle.exact.specs.Answer.{refusedCurve, refusedSurface, onCurves, onSurfaces}
 use Rattle.exact.specs.Composite.{alongCurve}
+use Rattle.exact.specs.Judged.{unlessBy}
 use Rattle.roads.specs.declared.SurfaceRecipe.{SurfaceRecipe}
 use Rattle.roads.specs.declared.CurveRecipe.{CurveRecipe}
 use Rattle.roads.specs.Operation.{curveOperation, surfaceOperation}
-use Rattle.roads.specs.Recipe.{Jets, goOn, built}
+use Rattle.roads.specs.Recipe.{Jets, built}
 
 abbrev pub surfaces : Jets SurfaceDerivatives SurfaceAnswer
 surfaces = record {
@@ -50,7 +51,7 @@ builtCurve r = built curves (r .inputs) (r .curves) (r .steps) (r .program)
 
 -- the first road: work the recipe on the surfaces, then carry its result
 abbrev pub buildThenCarry : SurfaceRecipe → ParameterCurve → ℕ → CurveAnswer
-buildThenCarry r c n = let a = builtSurface r in goOn refusedCurve (a .refusal) (alongCurve (a .jet) c n)
+buildThenCarry r c n = let a = builtSurface r in unlessBy refusedCurve (alongCurve (a .jet) c n) (a .refusal)
 
 unfoldable pub firstRefusal : List CurveAnswer → ℕ
 firstRefusal [] = 0
@@ -60,5 +61,5 @@ firstRefusal (a ∷ rest) = orElse (a .refusal) (firstRefusal rest)
 abbrev pub carryThenBuild : SurfaceRecipe → ParameterCurve → ℕ → CurveAnswer
 carryThenBuild r c n =
     let carried = map (λ s. alongCurve s c n) (take (r .inputs) (r .surfaces)) in
-    goOn refusedCurve (firstRefusal carried)
-    (builtCurve (record { inputs = r .inputs; curves = map (λ a. a .jet) carried; steps = r .steps; program = r .program }))
+    unlessBy refusedCurve (builtCurve (record { inputs = r .inputs; curves = map (λ a. a .jet) carried; steps = r .steps; program = r .program }))
+    (firstRefusal carried)
