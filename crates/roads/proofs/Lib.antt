@@ -2,3 +2,4 @@ pub mod Sound
 pub mod Judged
 pub mod Operations
 pub mod Meeting
+pub mod Induction

@@ -60,6 +60,46 @@ module _ {n : ℕ} (h : n ≤ 20) where
   curve-array-at a i l =
       filled-at 21 (pos 0) (pos 0) a (suc n) i (omega arith) ∙ ap (λ (t : Bool). cond t (a i) (pos 0)) (lt-ltb i (suc n) (omega arith))
 
+-- ---- one operation, answered on surfaces of the order k
+module _ {k : ℕ} (high : k ≤ 20) (op : Operation) (s r : SurfaceDerivatives) (p : s .order ≡ k) (q : r .order ≡ k)
+    (e : onSurfaces (surfaceOperation checked op) s r .refusal ≡ 0) where
+  abbrev on : SurfaceAnswer
+  on = onSurfaces (surfaceOperation checked op) s r
+
+  abbrev entries : ℕ → ℕ → Traced
+  entries = surfaceOperation traced op (surfaceTraces (s .entries)) (surfaceTraces (r .entries))
+
+  abbrev values : ℕ → ℕ → Whole
+  values = surfaceOperation checked op (surfaceValues (s .entries)) (surfaceValues (r .entries))
+
+  entries-settle : (i j : ℕ) → settle (entries i j) ≡ values i j
+  entries-settle i j =
+      surface-alike Settles traced checked settles (i + j) op (surfaceTraces (s .entries)) (surfaceTraces (r .entries)) (surfaceValues (s .entries)) (surfaceValues (r .entries))
+      (λ i j l. settle-given (surfaceNumbers (s .entries) i j)) (λ i j l. settle-given (surfaceNumbers (r .entries) i j)) i j (le-refl (i + j))
+
+  entries-value : (i j : ℕ) → entries i j .value ≡ surfaceOperation plain op (surfaceNumbers (s .entries)) (surfaceNumbers (r .entries)) i j
+  entries-value i j =
+      surface-alike Valued traced plain valued (i + j) op (surfaceTraces (s .entries)) (surfaceTraces (r .entries)) (surfaceNumbers (s .entries)) (surfaceNumbers (r .entries))
+      (λ i j l. refl) (λ i j l. refl) i j (le-refl (i + j))
+
+  answered : (on ≡ answeredSurface k (λ i j. entries i j .value)) × ((i j : ℕ) → i + j ≤ k → verdict (entries i j .history) ≡ 0)
+  answered =
+      let is = on-surfaces high (surfaceOperation checked op) s r p q in
+      let h = surface-answered entries k values entries-settle (sym (ap (λ (x : SurfaceAnswer). x .refusal) is) ∙ e) in
+      (is ∙ h .0, h .1)
+
+  -- no entry was refused, and the result has the order k and the numbers of the integers
+  result-verdicts : (i j : ℕ) → i + j ≤ k → verdict (entries i j .history) ≡ 0
+  result-verdicts = answered .1
+
+  pub result-order : on .jet .order ≡ k
+  result-order = ap (λ (x : SurfaceAnswer). x .jet .order) (answered .0)
+
+  result-numbers : SurfacesAgree k (surfaceNumbers (on .jet .entries)) (surfaceOperation plain op (surfaceNumbers (s .entries)) (surfaceNumbers (r .entries)))
+  result-numbers i j l =
+      ap (λ (x : SurfaceAnswer). surfaceNumbers (x .jet .entries) i j) (answered .0)
+      ∙ array-at (pos 0) (pos 0) (λ i j. entries i j .value) k i j high l ∙ entries-value i j
+
 -- ---- along the curve c, up to the order n; the recipe works on the surfaces at the order k
 module _ (c : ParameterCurve) (k n : ℕ) where
   -- a surface's numbers carried, over the integers, and as the jet that an answer holds
@@ -105,50 +145,19 @@ module _ (c : ParameterCurve) (k n : ℕ) where
       ∙ ap (λ (l : List ℤ). cond (every inRange (numbers (taken (carriedWith c s) n))) (record { refusal = 0; jet = record { order = n; entries = l } }) (refusedCurve 9))
       (array-same (λ m. carriedWith c s m .value) (alongNumbers s) n (λ m l. carried-value s m))
 
-  -- one operation, answered on the surfaces
+  -- the same operation on the curves that the surfaces meet
   module _ (o : Orders) (op : Operation) {s r : SurfaceDerivatives} {a b : CurveDerivatives} {y z : ℕ → ℤ} (p : Meets s a y) (q : Meets r b z)
       (e : onSurfaces (surfaceOperation checked op) s r .refusal ≡ 0) where
-    abbrev on : SurfaceAnswer
-    on = onSurfaces (surfaceOperation checked op) s r
+    abbrev jet : SurfaceDerivatives
+    jet = onSurfaces (surfaceOperation checked op) s r .jet
 
-    abbrev entries : ℕ → ℕ → Traced
-    entries = surfaceOperation traced op (surfaceTraces (s .entries)) (surfaceTraces (r .entries))
+    verdicts : (i j : ℕ) → i + j ≤ k → verdict (surfaceOperation traced op (surfaceTraces (s .entries)) (surfaceTraces (r .entries)) i j .history) ≡ 0
+    verdicts = result-verdicts (o .high) op s r (p .order) (q .order) e
 
-    abbrev integers : ℕ → ℕ → ℤ
-    integers = surfaceOperation plain op (surfaceNumbers (s .entries)) (surfaceNumbers (r .entries))
-
-    is-answer : on ≡ surfaceAnswer (surfaceOperation checked op (surfaceValues (s .entries)) (surfaceValues (r .entries))) k
-    is-answer = on-surfaces (o .high) (surfaceOperation checked op) s r (p .order) (q .order)
-
-    entries-settle : (i j : ℕ) → settle (entries i j) ≡ surfaceOperation checked op (surfaceValues (s .entries)) (surfaceValues (r .entries)) i j
-    entries-settle i j =
-        surface-alike Settles traced checked settles (i + j) op (surfaceTraces (s .entries)) (surfaceTraces (r .entries)) (surfaceValues (s .entries)) (surfaceValues (r .entries))
-        (λ i j l. settle-given (surfaceNumbers (s .entries) i j)) (λ i j l. settle-given (surfaceNumbers (r .entries) i j)) i j (le-refl (i + j))
-
-    entries-value : (i j : ℕ) → entries i j .value ≡ integers i j
-    entries-value i j =
-        surface-alike Valued traced plain valued (i + j) op (surfaceTraces (s .entries)) (surfaceTraces (r .entries)) (surfaceNumbers (s .entries)) (surfaceNumbers (r .entries))
-        (λ i j l. refl) (λ i j l. refl) i j (le-refl (i + j))
-
-    answered : (on ≡ answeredSurface k (λ i j. entries i j .value)) × ((i j : ℕ) → i + j ≤ k → verdict (entries i j .history) ≡ 0)
-    answered =
-        let h = surface-answered entries k (surfaceOperation checked op (surfaceValues (s .entries)) (surfaceValues (r .entries))) entries-settle
-        (sym (ap (λ (x : SurfaceAnswer). x .refusal) is-answer) ∙ e) in
-        (is-answer ∙ h .0, h .1)
-
-    -- the result's order and numbers, and these carried
-    result-order : on .jet .order ≡ k
-    result-order = ap (λ (x : SurfaceAnswer). x .jet .order) (answered .0)
-
-    result-numbers : SurfacesAgree k (surfaceNumbers (on .jet .entries)) integers
-    result-numbers i j l =
-        ap (λ (x : SurfaceAnswer). surfaceNumbers (x .jet .entries) i j) (answered .0)
-        ∙ array-at (pos 0) (pos 0) (λ i j. entries i j .value) k i j (o .high) l ∙ entries-value i j
-
-    result-along : CurvesAgree n (curveOperation plain op (alongNumbers s) (alongNumbers r)) (alongNumbers (on .jet))
+    result-along : CurvesAgree n (curveOperation plain op (alongNumbers s) (alongNumbers r)) (alongNumbers (jet))
     result-along i l =
-        carry-operation (curveNumbers (c .u)) (curveNumbers (c .v)) (surfaceNumbers (s .entries)) (surfaceNumbers (r .entries)) k n (o .asked) op (answered .1) i l
-        ∙ sym (carry-upto (curveNumbers (c .u)) (curveNumbers (c .v)) n (λ i j b. result-numbers i j (omega (arith, o .asked))) i l)
+        carry-operation (curveNumbers (c .u)) (curveNumbers (c .v)) (surfaceNumbers (s .entries)) (surfaceNumbers (r .entries)) k n (o .asked) op verdicts i l
+        ∙ sym (carry-upto (curveNumbers (c .u)) (curveNumbers (c .v)) n (λ i j b. result-numbers (o .high) op s r (p .order) (q .order) e i j (omega (arith, o .asked))) i l)
 
     -- the operation on the curves, by the integers in hand, by those carried, and by the arrays
     abbrev pub inHand : ℕ → Traced
@@ -178,13 +187,13 @@ module _ (c : ParameterCurve) (k n : ℕ) where
         (λ i l. settle-given (curveNumbers (alongJet s .entries) i)) (λ i l. settle-given (curveNumbers (alongJet r .entries) i)) m (le-refl m)
 
     numbers-sound : (m : ℕ) → m ≤ n → Sound (byNumbers m) (curveOperation plain op (alongNumbers s) (alongNumbers r) m)
-    numbers-sound = carry-exact (curveNumbers (c .u)) (curveNumbers (c .v)) (surfaceNumbers (s .entries)) (surfaceNumbers (r .entries)) k n (o .asked) op (answered .1)
+    numbers-sound = carry-exact (curveNumbers (c .u)) (curveNumbers (c .v)) (surfaceNumbers (s .entries)) (surfaceNumbers (r .entries)) k n (o .asked) op verdicts
 
-    hand-value : CurvesAgree n (λ m. inHand m .value) (alongNumbers (on .jet))
+    hand-value : CurvesAgree n (λ m. inHand m .value) (alongNumbers (jet))
     hand-value m l = ap (λ (t : Traced). t .value) (hand-numbers m l) ∙ numbers-sound m l .0 ∙ result-along m l
 
     -- the second road's step is answered with the first one's result carried, or refused 9
-    pub step-answer : onCurves (curveOperation checked op) a b ≡ cond (every inRange (numbers (taken inHand n))) (answeredCurve n (alongNumbers (on .jet))) (refusedCurve 9)
+    pub step-answer : onCurves (curveOperation checked op) a b ≡ cond (every inRange (numbers (taken inHand n))) (answeredCurve n (alongNumbers (jet))) (refusedCurve 9)
     step-answer =
         ap₂ (onCurves (curveOperation checked op)) (p .curve) (q .curve)
         ∙ on-curves small (curveOperation checked op) (alongJet s .entries) (alongJet r .entries)
@@ -192,8 +201,8 @@ module _ (c : ParameterCurve) (k n : ℕ) where
         (λ m l. ap (λ (t : Traced). exact (t .history)) (arrays-numbers m l) ∙ numbers-sound m l .1)
         ∙ ap₂ (λ (h : List Traced) (l : List ℤ). cond (every inRange (numbers (histories h))) (record { refusal = 0; jet = record { order = n; entries = l } }) (refusedCurve 9))
         (listed-same byArrays inHand 0 (suc n) (λ i l. arrays-numbers (0 + i) (omega arith) ∙ sym (hand-numbers (0 + i) (omega arith))))
-        (array-same (λ m. byArrays m .value) (alongNumbers (on .jet)) n
+        (array-same (λ m. byArrays m .value) (alongNumbers (jet)) n
         (λ m l. ap (λ (t : Traced). t .value) (arrays-numbers m l ∙ sym (hand-numbers m l)) ∙ hand-value m l))
 
-    pub step-meets : Meets (on .jet) (alongJet (on .jet)) (λ m. inHand m .value)
-    step-meets = record { order = result-order; curve = refl; number = hand-value }
+    pub step-meets : Meets (jet) (alongJet (jet)) (λ m. inHand m .value)
+    step-meets = record { order = result-order (o .high) op s r (p .order) (q .order) e; curve = refl; number = hand-value }
