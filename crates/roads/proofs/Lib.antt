@@ -3,3 +3,5 @@ pub mod Judged
 pub mod Operations
 pub mod Meeting
 pub mod Induction
+pub mod Inputs
+pub mod Theorem
