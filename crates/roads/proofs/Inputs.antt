@@ -19,7 +19,7 @@ use Rattle.exact.specs.Answer.{refusedCurve, refusedSurface, answeredCurve}
 use Rattle.exact.specs.Judged.{unlessBy}
 use Rattle.exact.specs.Composite.{withinOrders, alongCurve}
 use Rattle.roads.specs.declared.Step.{Step}
-use Rattle.roads.specs.Recipe.{namesEarlier, wellFormed, someAbove20, smallestOrder}
+use Rattle.roads.specs.Recipe.{namesEarlier, wellFormed, someAbove20, smallest}
 use Rattle.roads.specs.Roads.{surfaces, curves, firstRefusal}
 use Rattle.roads.specs.Formed.{taken, carriedWith, carriesTake}
 use Rattle.roads.proofs.Meeting.{alongNumbers, alongJet, along-within}
@@ -76,10 +76,10 @@ at-map f (x ∷ l) zero d e h = refl
 at-map f (x ∷ l) (suc i) d e h = at-map f l i d e (omega arith)
 
 -- the smallest order is at most 20
-pub smallest-20 : (l : List SurfaceDerivatives) → smallestOrder surfaces l ≤ 20
-unfolding smallestOrder
+pub smallest-20 : (l : List SurfaceDerivatives) → smallest (map (surfaces .order) l) ≤ 20
+unfolding smallest
 smallest-20 [] = le-refl 20
-smallest-20 (s ∷ l) = omega (arith, min-le-right (s .order) (smallestOrder surfaces l), smallest-20 l)
+smallest-20 (s ∷ l) = omega (arith, min-le-right (s .order) (smallest (map (surfaces .order) l)), smallest-20 l)
 
 -- ---- along the curve c, up to the order n: every input
 module _ (c : ParameterCurve) (k n : ℕ) (hc : c .order ≤ 20) (lc : n ≤ c .order) where
@@ -87,23 +87,23 @@ module _ (c : ParameterCurve) (k n : ℕ) (hc : c .order ≤ 20) (lc : n ≤ c .
   along s = alongCurve s c n
 
   -- one input more
-  module _ (s : SurfaceDerivatives) (l : List SurfaceDerivatives) (h : cond (ltb 20 (s .order)) true (someAbove20 surfaces l) ≡ false)
-      (b : n ≤ min (s .order) (smallestOrder surfaces l)) where
+  module _ (s : SurfaceDerivatives) (l : List SurfaceDerivatives) (h : cond (ltb 20 (s .order)) true (someAbove20 (map (surfaces .order) l)) ≡ false)
+      (b : n ≤ min (s .order) (smallest (map (surfaces .order) l))) where
     head-along : along s ≡ cond (every inRange (numbers (taken (carriedWith c s) n))) (answeredCurve n (alongNumbers c k n s)) (refusedCurve 9)
     head-along =
         along-within c k n s (ltb-false 20 (s .order) (then-true (ltb 20 (s .order)) _ h .0)) hc
-        (omega (arith, b, min-le-left (s .order) (smallestOrder surfaces l))) lc
+        (omega (arith, b, min-le-left (s .order) (smallest (map (surfaces .order) l)))) lc
 
-    tail-above : someAbove20 surfaces l ≡ false
+    tail-above : someAbove20 (map (surfaces .order) l) ≡ false
     tail-above = then-true (ltb 20 (s .order)) _ h .1
 
-    tail-reach : n ≤ smallestOrder surfaces l
-    tail-reach = omega (arith, b, min-le-right (s .order) (smallestOrder surfaces l))
+    tail-reach : n ≤ smallest (map (surfaces .order) l)
+    tail-reach = omega (arith, b, min-le-right (s .order) (smallest (map (surfaces .order) l)))
 
   -- the first refusal is 9, where a number formed is out of range
-  pub inputs-refusal : (l : List SurfaceDerivatives) → someAbove20 surfaces l ≡ false → n ≤ smallestOrder surfaces l →
+  pub inputs-refusal : (l : List SurfaceDerivatives) → someAbove20 (map (surfaces .order) l) ≡ false → n ≤ smallest (map (surfaces .order) l) →
       firstRefusal (map along l) ≡ cond (every inRange (numbers (carriesTake c n l))) 0 9
-  unfolding firstRefusal carriesTake someAbove20 smallestOrder numbers every
+  unfolding firstRefusal carriesTake someAbove20 smallest numbers every
   inputs-refusal [] h b = refl
   inputs-refusal (s ∷ l) h b =
       ap₂ (λ (a : CurveAnswer) (x : ℕ). orElse (a .refusal) x) (head-along s l h b) (inputs-refusal l (tail-above s l h b) (tail-reach s l h b))
@@ -115,9 +115,9 @@ module _ (c : ParameterCurve) (k n : ℕ) (hc : c .order ≤ 20) (lc : n ≤ c .
       by false u = refl
 
   -- and where none is, the jets are those of the integers
-  pub inputs-jets : (l : List SurfaceDerivatives) → someAbove20 surfaces l ≡ false → n ≤ smallestOrder surfaces l → every inRange (numbers (carriesTake c n l)) ≡ true →
+  pub inputs-jets : (l : List SurfaceDerivatives) → someAbove20 (map (surfaces .order) l) ≡ false → n ≤ smallest (map (surfaces .order) l) → every inRange (numbers (carriesTake c n l)) ≡ true →
       map (λ (a : CurveAnswer). a .jet) (map along l) ≡ map (alongJet c k n) l
-  unfolding carriesTake someAbove20 smallestOrder
+  unfolding carriesTake someAbove20 smallest
   inputs-jets [] h b e = refl
   inputs-jets (s ∷ l) h b e =
       let t = both-true (every inRange (numbers (taken (carriedWith c s) n))) (every inRange (numbers (carriesTake c n l))) (sym (every-two (taken (carriedWith c s) n) (carriesTake c n l)) ∙ e) in
@@ -127,17 +127,17 @@ module _ (c : ParameterCurve) (k n : ℕ) (hc : c .order ≤ 20) (lc : n ≤ c .
 
   -- the carried jets have the order n
   module _ (small : n ≤ 20) where
-    pub jets-above : (l : List SurfaceDerivatives) → someAbove20 curves (map (alongJet c k n) l) ≡ false
+    pub jets-above : (l : List SurfaceDerivatives) → someAbove20 (map (curves .order) (map (alongJet c k n) l)) ≡ false
     unfolding someAbove20
     jets-above [] = refl
-    jets-above (s ∷ l) = ap (λ (t : Bool). cond t true (someAbove20 curves (map (alongJet c k n) l))) (le-ltb 20 n small) ∙ jets-above l
+    jets-above (s ∷ l) = ap (λ (t : Bool). cond t true (someAbove20 (map (curves .order) (map (alongJet c k n) l)))) (le-ltb 20 n small) ∙ jets-above l
 
-    reach-jets : (l : List SurfaceDerivatives) → n ≤ smallestOrder curves (map (alongJet c k n) l)
-    unfolding smallestOrder
+    reach-jets : (l : List SurfaceDerivatives) → n ≤ smallest (map (curves .order) (map (alongJet c k n) l))
+    unfolding smallest
     reach-jets [] = small
     reach-jets (s ∷ l) = le-min (le-refl n) (reach-jets l)
 
-    pub jets-smallest : (l : List SurfaceDerivatives) → 0 < length l → smallestOrder curves (map (alongJet c k n) l) ≡ n
-    unfolding smallestOrder
+    pub jets-smallest : (l : List SurfaceDerivatives) → 0 < length l → smallest (map (curves .order) (map (alongJet c k n) l)) ≡ n
+    unfolding smallest
     jets-smallest [] h = absurd (not-suc-le-zero h)
     jets-smallest (s ∷ l) h = min-eq-left (reach-jets l)

@@ -22,7 +22,7 @@ use Rattle.exact.specs.Judged.{unlessBy}
 use Rattle.exact.specs.Composite.{alongCurve}
 use Rattle.roads.specs.declared.Step.{Step}
 use Rattle.roads.specs.declared.SurfaceRecipe.{SurfaceRecipe}
-use Rattle.roads.specs.Recipe.{wellFormed, someAbove20, smallestOrder, worked}
+use Rattle.roads.specs.Recipe.{wellFormed, someAbove20, smallest, worked}
 use Rattle.roads.specs.Roads.{surfaces, curves, builtSurface, buildThenCarry, carryThenBuild, firstRefusal}
 use Rattle.roads.specs.Formed.{carriedWith, carriesTake, stepsTake, numbersFormed}
 use Rattle.roads.proofs.Meeting.{alongJet, Orders, carried-value}
@@ -49,7 +49,7 @@ module _ (r : SurfaceRecipe) (four : length (r .surfaces) ≡ 4) (c : ParameterC
   steps = take (r .steps) (r .program)
 
   abbrev k : ℕ
-  k = smallestOrder surfaces inputs
+  k = smallest (map (surfaces .order) inputs)
 
   abbrev first-hand : ℕ → SurfaceDerivatives
   first-hand i = surfaces .cut k (getD inputs i (surfaces .blank))
@@ -66,12 +66,12 @@ module _ (r : SurfaceRecipe) (four : length (r .surfaces) ≡ 4) (c : ParameterC
   -- the second road's recipe, on the curves l
   abbrev rebuild : List CurveDerivatives → CurveAnswer
   rebuild l =
-      cond (someAbove20 curves l) (refusedCurve 1)
-      (cond (wellFormed (r .inputs) (r .steps) steps) (worked curves (λ i. curves .cut (smallestOrder curves l) (getD l i (curves .blank))) (r .inputs) steps) (refusedCurve 4))
+      cond (someAbove20 (map (curves .order) l)) (refusedCurve 1)
+      (cond (wellFormed (r .inputs) (r .steps) steps) (worked curves (λ i. curves .cut (smallest (map (curves .order) l)) (getD l i (curves .blank))) (r .inputs) steps) (refusedCurve 4))
 
   module _ (e : buildThenCarry r c n .refusal ≡ 0) where
-    checks : (someAbove20 surfaces inputs ≡ false) × (wellFormed (r .inputs) (r .steps) steps ≡ true)
-    checks = passed (someAbove20 surfaces inputs) (wellFormed (r .inputs) (r .steps) steps) work carry (λ x. refl) e
+    checks : (someAbove20 (map (surfaces .order) inputs) ≡ false) × (wellFormed (r .inputs) (r .steps) steps ≡ true)
+    checks = passed (someAbove20 (map (surfaces .order) inputs)) (wellFormed (r .inputs) (r .steps) steps) work carry (λ x. refl) e
 
     built-is : builtSurface r ≡ work
     built-is =
@@ -99,16 +99,16 @@ module _ (r : SurfaceRecipe) (four : length (r .surfaces) ≡ 4) (c : ParameterC
     unfolding jets
     take-jets = take-all (r .inputs) jets (omega (arith, length-map inputs (alongJet c k n), length-inputs))
 
-    smallest-jets : smallestOrder curves jets ≡ n
+    smallest-jets : smallest (map (curves .order) jets) ≡ n
     unfolding jets
     smallest-jets = jets-smallest c k n (orders .parameter) (orders .reach) (omega (arith, orders .asked, orders .high)) inputs (omega (arith, length-inputs, count .some))
 
     rebuilt : rebuild jets ≡ cond (every inRange (numbers (stepsTake c n third-hand (r .inputs) steps))) (carry work) (refusedCurve 9)
     unfolding jets
     rebuilt =
-        ap₂ (λ (t u : Bool). cond t (refusedCurve 1) (cond u (worked curves (λ i. curves .cut (smallestOrder curves jets) (getD jets i (curves .blank))) (r .inputs) steps) (refusedCurve 4)))
+        ap₂ (λ (t u : Bool). cond t (refusedCurve 1) (cond u (worked curves (λ i. curves .cut (smallest (map (curves .order) jets)) (getD jets i (curves .blank))) (r .inputs) steps) (refusedCurve 4)))
         (jets-above c k n (orders .parameter) (orders .reach) (omega (arith, orders .asked, orders .high)) inputs) (checks .1)
-        ∙ steps-met c k n orders steps first-hand (λ i. curves .cut (smallestOrder curves jets) (getD jets i (curves .blank))) third-hand (r .inputs) (count .some)
+        ∙ steps-met c k n orders steps first-hand (λ i. curves .cut (smallest (map (curves .order) jets)) (getD jets i (curves .blank))) third-hand (r .inputs) (count .some)
         (λ i l. record {
           order = refl;
           curve = ap₂ (λ (x : ℕ) (a : CurveDerivatives). record { order = x; entries = a .entries }) smallest-jets

@@ -1,7 +1,7 @@
 -- A recipe (document 01's term): from 1 to 4 jets, numbered from 0, 1 to 12 steps, numbered on from them, each the sum, difference, product or
 -- quotient of two earlier jets. One definition over the kind of jet. Assumes nothing.
 use mathlib.Core.Bool.{Bool, true, false, cond}
-use mathlib.Core.List.{List, [], _∷_}
+use mathlib.Core.List.{List, [], _∷_, map}
 use Prim.Native.Nat.{ℕ, zero, suc, _-_, min}
 use lib.Dec.{ltb, eqb}
 use lib.ListN.{getD, take}
@@ -36,16 +36,16 @@ abbrev pub wellFormed : ℕ → ℕ → List Step → Bool
 wellFormed inputs steps program =
     cond (eqb inputs 0) false (cond (ltb 4 inputs) false (cond (eqb steps 0) false (cond (ltb 12 steps) false (namesEarlier inputs program))))
 
+-- of the orders of the jets that are there: one is above 20; and the smallest of orders up to 20
+unfoldable pub someAbove20 : List ℕ → Bool
+someAbove20 [] = false
+someAbove20 (n ∷ ns) = cond (ltb 20 n) true (someAbove20 ns)
+
+unfoldable pub smallest : List ℕ → ℕ
+smallest [] = 20
+smallest (n ∷ ns) = min n (smallest ns)
+
 module _ {J A : Type 0} (K : Jets J A) where
-  unfoldable pub someAbove20 : List J → Bool
-  someAbove20 [] = false
-  someAbove20 (j ∷ js) = cond (ltb 20 (K .order j)) true (someAbove20 js)
-
-  -- of orders up to 20
-  unfoldable pub smallestOrder : List J → ℕ
-  smallestOrder [] = 20
-  smallestOrder (j ∷ js) = min (K .order j) (smallestOrder js)
-
   -- the steps in turn, on the jets before the number m: each adds its jet to those in hand, unless it is refused, which is the outcome then;
   -- the last number's jet is the result
   unfoldable pub worked : (ℕ → J) → ℕ → List Step → A
@@ -59,7 +59,8 @@ module _ {J A : Type 0} (K : Jets J A) where
   abbrev pub built : ℕ → List J → ℕ → List Step → A
   built inputs jets steps program =
       let given = take inputs jets in
-      cond (someAbove20 given) (K .refused 1)
+      let orders = map (K .order) given in
+      cond (someAbove20 orders) (K .refused 1)
       (cond (wellFormed inputs steps (take steps program))
-      (worked (λ i. K .cut (smallestOrder given) (getD given i (K .blank))) inputs (take steps program))
+      (worked (λ i. K .cut (smallest orders) (getD given i (K .blank))) inputs (take steps program))
       (K .refused 4))
