@@ -1,3 +1,4 @@
+pub mod Tests
 pub mod Sound
 pub mod Judged
 pub mod Operations

@@ -23,7 +23,7 @@ abbrev pub surfaces : Jets SurfaceDerivatives SurfaceAnswer
 surfaces = record {
   order = λ s. s .order;
   cut = λ n s. record { order = n; entries = s .entries };
-  blank = refusedSurface 0 .jet;
+  blank = record { order = 0; entries = [] };
   apply = λ op. onSurfaces (surfaceOperation checked op);
   refusal = λ a. a .refusal;
   jet = λ a. a .jet;
@@ -35,7 +35,7 @@ abbrev pub curves : Jets CurveDerivatives CurveAnswer
 curves = record {
   order = λ a. a .order;
   cut = λ n a. record { order = n; entries = a .entries };
-  blank = refusedCurve 0 .jet;
+  blank = record { order = 0; entries = [] };
   apply = λ op. onCurves (curveOperation checked op);
   refusal = λ a. a .refusal;
   jet = λ a. a .jet;

@@ -1,0 +1,65 @@
+-- `roads::surfaces::cut` meets its contract. The invariant: the jets passed are in hand, at the order of work. Assumes nothing.
+use mathlib.Core.Path.{_≡_, refl, sym, ap, _∙_}
+use lib.ListN.{getD}
+use Rattle.roads.specs.Roads.{surfaces}
+use Prim.Native.Nat.{ℕ, suc, _+_, _-_, _≤_, _<_}
+use native.Mathlib.Omega.{arith}
+use borrow.Author.Needs.{needs}
+use Rattle.roads.proofs.surfaces.cut.Statement.{statement}
+use Rattle.roads.proofs.surfaces.cut.Tie as tie
+use Rattle.roads.proofs.surfaces.cut.Reads as reads
+use Rattle.roads.proofs.surfaces.cut.Lts as lts
+use Rattle.roads.proofs.refused_surface.Reads as refused-surface-reads
+
+abbrev Inv-loop : tie.InvT-loop
+Inv-loop inputs order jets hand₀ i₀ hand i = (i ≤ inputs) × ((k : ℕ) → k < i → getD hand k (surfaces .blank) ≡ surfaces .cut order (getD jets k (surfaces .blank)))
+
+abbrev μ-loop : tie.MeasureT-loop
+μ-loop inputs order jets hand₀ i₀ hand i = inputs - i
+
+refused-surface-requires : tie.Need-refused-surface-requires Inv-loop μ-loop
+refused-surface-requires c κs = search needs
+
+loop-holds : tie.Need-loop-holds Inv-loop μ-loop
+loop-holds c = ?
+
+mul-s : tie.Need-mul-s Inv-loop μ-loop
+mul-s c = search needs
+
+array-copy-out-s : tie.Need-array-copy-out-s Inv-loop μ-loop
+array-copy-out-s c = search needs
+
+mul-hand : tie.Need-mul-hand Inv-loop μ-loop
+mul-hand c = search needs
+
+array-set-from-hand : tie.Need-array-set-from-hand Inv-loop μ-loop
+array-set-from-hand c = search needs
+
+add-i : tie.Need-add-i Inv-loop μ-loop
+add-i c = search needs
+
+loop-less : tie.Need-loop-less Inv-loop μ-loop
+loop-less c = search needs
+
+loop-again : tie.Need-loop-again Inv-loop μ-loop
+loop-again c = ?
+
+returns : tie.Need-returns Inv-loop μ-loop
+returns c = ?
+
+pub cut-spec : {M : Type 1} → statement M
+cut-spec =
+    tie.close
+    (tie.spec
+    Inv-loop
+    μ-loop
+    refused-surface-requires
+    loop-holds
+    mul-s
+    array-copy-out-s
+    mul-hand
+    array-set-from-hand
+    add-i
+    loop-less
+    loop-again
+    returns)
