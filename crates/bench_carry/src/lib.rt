@@ -1,4 +1,6 @@
-// The exact carry for a program in C, which times it: bench/carry.c.
+// The exact carry, for the program in C that times it: bench/carry.c.
+ghost use mathlib.Core.Path.{_≡_};
+ghost use Rattle.bench_carry.specs.Outcome.{carried};
 use exact::ParameterCurve;
 use exact::SurfaceDerivatives;
 
@@ -9,7 +11,9 @@ pub extern "C" fn exact_composite_derivatives(
     v: &[i64; 21],
     order: usize,
     out: &mut [i64; 21],
-) -> u8 {
+) -> u8
+    ensures { λ r. ⌜ (r ≡ carried (now (entries .entry)) (now (u .entry)) (now (v .entry)) order .refusal) × (now (out .exit) ≡ carried (now (entries .entry)) (now (u .entry)) (now (v .entry)) order .jet .entries) ⌝ }
+{
     let e = *entries;
     let x = *u;
     let y = *v;

@@ -12,8 +12,8 @@ use Rattle.partitions.specs.Parts.{multiplicity}
 use Rattle.calculus.specs.Kind.{Module}
 use Rattle.calculus.specs.Carry.{digits, factors, tensor, summand, throughLen, fieldDerivative, fieldDerivatives, ones, surfaceEntry, coordinates, compositeDerivative, compositeDerivatives}
 use Rattle.calculus.proofs.Related.{RelatedModules, CurvesAlike, SurfacesAlike, inTurn-alike, alongList-alike}
-use Rattle.calculus.proofs.Desc.{Down, none, one}
-use Rattle.calculus.proofs.Lists.{sound}
+use Rattle.partitions.proofs.Down.{Down, none, one}
+use Rattle.partitions.proofs.Lists.{sound}
 
 pub digits-length : (d : ℕ) (l : List ℕ) (mask : ℕ) → length (digits d l mask) ≡ length l
 unfolding digits

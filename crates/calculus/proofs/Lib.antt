@@ -13,19 +13,17 @@ pub mod Graded
 pub mod Filling
 pub mod SurfaceFilling
 pub mod Rows
+pub mod Pascal
 -- the integers: a ring, finite sums, exact division
 pub mod Ints
 pub mod Ring
 pub mod Sums
 pub mod Division
 -- part lists and their multiplicities
-pub mod Tests
 pub mod Binom
 pub mod Desc
 pub mod Out
 pub mod Mult
-pub mod Runs
-pub mod Lists
 -- jets of integers in any number of variables, and the chain rule
 pub mod Jets
 pub mod Curves

@@ -1,11 +1,10 @@
 -- Document 01's figures of the carry, as the exact functions answer them. Assumes nothing.
 use mathlib.Core.Path.{_≡_, refl}
 use mathlib.Core.List.{List, [], _∷_, _++_}
-use Prim.Native.Nat.{ℕ}
 use lib.IntN.{ℤ, pos}
 use lib.ListN.{replicate}
 use Rattle.partitions.specs.Parts.{total, fact, parts, divide, runsFrom, runs, multiplicity}
-use Rattle.whole.specs.declared.Whole.the-variants.{Value, Refused}
+use Rattle.whole.specs.declared.Whole.the-variants.{Value}
 use Rattle.whole.specs.Checked.{formed}
 use Rattle.calculus.specs.InTurn.{inTurn, inRows, alongList}
 use Rattle.calculus.specs.Choose.{choose}

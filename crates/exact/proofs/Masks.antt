@@ -1,8 +1,8 @@
 -- What the loops of the carry need of lists of parts: the factors of the parts still to come, and the bits of a mask. Assumes nothing.
-use mathlib.Core.Path.{_≡_, refl, sym, _∙_, ap, ap₂}
+use mathlib.Core.Path.{_≡_, refl, _∙_, ap}
 use mathlib.Core.List.{List, [], _∷_}
 use Prim.Native.Nat.{ℕ, zero, suc, _+_, _-_, _*_, _/_, _%_, _^_, _≤_, _<_}
-use native.Mathlib.Nat.{suc-ne-zero, pow-suc, mul-le-mul, one-mul, mod-eq-of-lt}
+use native.Mathlib.Nat.{suc-ne-zero, pow-suc, one-mul, mod-eq-of-lt}
 use lib.Pow.{pow-mono}
 use native.Mathlib.Omega.{arith}
 use lib.Count as Count
@@ -67,12 +67,6 @@ entry-at entries l mask h =
     place m t n s p q r = let f : m - t + t ≡ n = omega arith in rw f (omega arith)
 
 -- ---- bounds for lists of up to 20 parts
-pub square-le : (n : ℕ) → n ≤ 20 → n * (n + 1) ≤ 420
-square-le n h = mul-le-mul h (suc-le h)
-  where
-    suc-le : n ≤ 20 → n + 1 ≤ 21
-    suc-le k = omega arith
-
 pub masks-le : (n : ℕ) → n ≤ 20 → 2 ^ n ≤ 1048576
 masks-le n h = pow-mono h
 

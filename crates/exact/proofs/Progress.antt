@@ -13,7 +13,10 @@ use Rattle.whole.specs.declared.Whole.{Whole}
 use Rattle.whole.specs.declared.Whole.the-variants.{Value, Refused}
 use Rattle.calculus.specs.Graded.{triangle, index, place, graded}
 use Rattle.calculus.specs.Array.{curveArray, surfaceArray}
+use Rattle.calculus.proofs.Layers.{size-mono}
+use Rattle.calculus.proofs.Graded.{triangle-suc}
 use Rattle.calculus.proofs.Filling.{Stored, CurveStored, curve-none, curve-more, curve-all}
+use Rattle.calculus.proofs.SurfaceFilling.{SurfaceStored, surface-none, surface-more, surface-next, surface-all}
 use Rattle.exact.specs.declared.CurveAnswer.{CurveAnswer}
 use Rattle.exact.specs.declared.SurfaceAnswer.{SurfaceAnswer}
 use Rattle.exact.specs.Order.{curveEntries, surfaceEntries}
@@ -70,3 +73,62 @@ pub curve-of-numbers : (a : ℕ → ℤ) (n : ℕ) → curveAnswer (λ m. Value 
 curve-of-numbers a n =
     ap (λ (l : List Whole). unlessRefused refusedCurve l (answeredCurve n a)) (sym (work.map-listed Value a 0 (suc n)))
     ∙ work.no-refusal refusedCurve (answeredCurve n a) (curveEntries a n)
+
+-- ---- surfaces: the entries of the jet f before [i][j] are numbers, and stand in the array
+pub room : {n : ℕ} → n ≤ 20 → triangle (suc n) ≤ 231
+unfolding triangle
+room {n} h = size-mono triangle suc triangle-suc (suc n) 21 (omega arith)
+
+module _ (f : ℕ → ℕ → Whole) {n : ℕ} (b : n ≤ 20) where
+  abbrev pub SurfaceFilled : ℕ → ℕ → List ℤ → Type 0
+  SurfaceFilled = SurfaceStored 231 (pos 0) (pos 0) n (room b) (λ i j v. f i j ≡ Value v)
+
+  abbrev answers : SurfaceAnswer
+  answers = answeredSurface n (λ i j. valueOf (f i j))
+
+  pub record SurfaceProgress (i j : ℕ) (r : List ℤ) : Type 0 where
+    pub stored : SurfaceFilled i j r
+    pub left : unlessRefused refusedSurface (work.surfaceLeft f n i j) (answeredSurface n (λ x y. valueOf (f x y))) ≡ surfaceAnswer f n
+    pub inside : work.Inside n i j
+
+  pub surface-begins : SurfaceProgress 0 0 (replicate 231 (pos 0))
+  surface-begins = record {
+    stored = surface-none 231 (pos 0) (pos 0) n (room b) (λ i j v. f i j ≡ Value v);
+    left = ap (λ (l : List Whole). unlessRefused refusedSurface l answers) (sym (work.surface-start f n));
+    inside = (omega arith, λ h. omega arith);
+  }
+
+  module _ {i j : ℕ} {r : List ℤ} (p : SurfaceProgress i j r) where
+    module _ {v : ℤ} (h : i ≤ n) (fv : SFits w64 v) (e : f i j ≡ Value v) where
+      kept : SurfaceFilled i (j + 1) (set r (index i j) (toZ w64 (ofZ w64 v)))
+      kept =
+          surface-more 231 (pos 0) (pos 0) n (room b) (λ i j v. f i j ≡ Value v) (toZ w64 (ofZ w64 v)) (p .stored) (p .inside .1 h)
+          (e ∙ ap Value (sym (toZ-ofZ fv)))
+
+      passed : unlessRefused refusedSurface (work.surfaceLeft f n i (j + 1)) answers ≡ surfaceAnswer f n
+      passed = work.pass refusedSurface answers e (work.surface-next f n i j (p .inside .1 h)) ∙ p .left
+
+      pub surface-goes-on : i + (j + 1) ≤ n → SurfaceProgress i (j + 1) (set r (index i j) (toZ w64 (ofZ w64 v)))
+      surface-goes-on l = record { stored = kept; left = passed; inside = (omega arith, λ k. l) }
+
+      pub surface-turns : n < i + (j + 1) → SurfaceProgress (i + 1) 0 (set r (index i j) (toZ w64 (ofZ w64 v)))
+      surface-turns l = record {
+        stored = surface-next 231 (pos 0) (pos 0) n (room b) (λ i j v. f i j ≡ Value v) kept l;
+        left = ap (λ (k : List Whole). unlessRefused refusedSurface k answers) (sym (work.surface-row f n i (j + 1) l)) ∙ passed;
+        inside = (omega arith, λ k. omega arith);
+      }
+
+    pub surface-stops : {c : ℕ} → i ≤ n → f i j ≡ Refused c → refusedSurface c ≡ surfaceAnswer f n
+    surface-stops h e = work.stop refusedSurface answers e (work.surface-next f n i j (p .inside .1 h)) ∙ p .left
+
+    pub surface-ends : n < i → surface n r ≡ surfaceAnswer f n
+    surface-ends l =
+        let e : j ≡ 0 = omega (arith, p .inside .0) in
+        ap (surface n) (surface-all 231 (pos 0) (pos 0) n (room b) (λ i j v. f i j ≡ Value v) (λ i j. valueOf (f i j)) (λ i j v q. sym (ap valueOf q)) {m = i}
+        (subst (λ (x : ℕ). SurfaceFilled i x r) e (p .stored)) l)
+        ∙ work.none-left refusedSurface answers (ap (work.surfaceLeft f n i) e ∙ work.surface-end f n l) ∙ p .left
+
+pub surface-of-numbers : (s : ℕ → ℕ → ℤ) (n : ℕ) → surfaceAnswer (λ i j. Value (s i j)) n ≡ answeredSurface n s
+surface-of-numbers s n =
+    ap (λ (l : List Whole). unlessRefused refusedSurface l (answeredSurface n s)) (sym (work.map-rows Value s 0 (suc n)))
+    ∙ work.no-refusal refusedSurface (answeredSurface n s) (surfaceEntries s n)

@@ -1,29 +1,25 @@
 -- A walk over the part lists that is stepped to its end: what each step hands out, and what is left. Assumes nothing.
 use mathlib.Core.Path.{_≡_, refl, sym, _∙_, ap, ap₂, subst}
-use mathlib.Core.Bool.{Bool, true, false, cond, true≢false}
+use mathlib.Core.Bool.{true, false, cond, true≢false}
 use mathlib.Core.List.{List, [], _∷_, _++_, nil≢cons}
-use Prim.Native.Nat.{ℕ, zero, suc, _+_, _-_, _*_, _^_, _≤_, _<_}
+use Prim.Native.Nat.{ℕ, zero, suc, _-_, _*_, _^_, _≤_, _<_}
 use native.Mathlib.Nat.{le-trans, lt-of-le-of-lt}
 use native.Mathlib.Omega.{arith}
 use lib.Dec.{lit<}
-use lib.IntN.{ℤ, pos}
-use lib.ListN.{length, take, drop, replicate, getD}
-use mir.Syntax.{w64}
-use mir.Val.{SFits}
+use lib.IntN.{pos}
+use lib.ListN.{length, take, replicate}
 use Rattle.partitions.specs.Parts.{total, fact, lists, multiplicity}
 use Rattle.partitions.specs.Count.{isList, counted}
-use Rattle.partitions.specs.Walk.{padded, refusal, started, stepped, atEnd, remaining, moved}
+use Rattle.partitions.specs.Walk.{refusal, started, stepped, remaining, moved}
 use Rattle.partitions.specs.declared.CompositionIter.{CompositionIter}
 use Rattle.partitions.specs.declared.Stepped.{Stepped}
-use Rattle.partitions.specs.declared.Count.{Count}
 use Rattle.partitions.specs.declared.Count.the-variants as Counts
-use Rattle.partitions.proofs.Down.{Down, long}
-use Rattle.partitions.proofs.Lists.{Every, nil, and, Is, sound}
+use Rattle.partitions.proofs.Down.{long}
+use Rattle.partitions.proofs.Lists.{Every, and, Is, sound}
 use Rattle.partitions.proofs.Member.{list-down, down-list}
 use Rattle.partitions.proofs.Successor.{first}
 use Rattle.partitions.proofs.Exact.{fact-most, divide-most}
 use Rattle.partitions.proofs.Walked.{in-range, started-is, started-remains, stepped-first, stepped-end, moved-remains}
-use Rattle.whole.specs.declared.Whole.{Whole}
 use Rattle.whole.specs.declared.Whole.the-variants.{Value}
 use Rattle.whole.specs.Checked.{formed}
 use Rattle.whole.proofs.Range.{formed-in}

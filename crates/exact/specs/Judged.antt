@@ -1,27 +1,26 @@
--- An answer by histories: the verdict on all that was formed, in the order of work, and the values where it is 0. Assumes nothing.
+-- An answer by histories: the verdict on all that was formed and divided, in the order of work, and the integers' own values where it is 0.
+-- Assumes nothing.
 use mathlib.Core.List.{List, [], _∷_, _++_}
 use Prim.Native.Nat.{ℕ, zero, suc}
 use lib.IntN.{ℤ}
-use Rattle.whole.specs.History.{Event, Traced, verdict, given}
+use Rattle.whole.specs.History.{Event, Traced, verdict}
 use Rattle.exact.specs.declared.CurveAnswer.{CurveAnswer}
-use Rattle.exact.specs.Order.{curveEntries}
-use Rattle.exact.specs.Answer.{curveNumbers, surfaceNumbers, refusedCurve, answeredCurve}
+use Rattle.exact.specs.declared.SurfaceAnswer.{SurfaceAnswer}
+use Rattle.exact.specs.Order.{curveEntries, surfaceEntries}
+use Rattle.exact.specs.Answer.{refusedCurve, refusedSurface, answeredCurve, answeredSurface}
 
--- the entries of an array as numbers that are given
-abbrev pub curveTraces : List ℤ → ℕ → Traced
-curveTraces l m = given (curveNumbers l m)
-
-abbrev pub surfaceTraces : List ℤ → ℕ → ℕ → Traced
-surfaceTraces l i j = given (surfaceNumbers l i j)
-
--- one history after the other
+-- what the entries of a list took, one after the other
 unfoldable pub histories : List Traced → List Event
 histories [] = []
 histories (t ∷ ts) = t .history ++ histories ts
 
-abbrev pub unlessBy : {A : Type 0} → (ℕ → A) → A → ℕ → A
-unlessBy refused a zero = a
-unlessBy refused a (suc c) = refused (suc c)
+abbrev pub byVerdict : {A : Type 0} → (ℕ → A) → ℕ → A → A
+byVerdict refused zero a = a
+byVerdict refused (suc c) a = refused (suc c)
 
-abbrev pub judgedCurve : (ℕ → Traced) → ℕ → CurveAnswer
-judgedCurve g n = unlessBy refusedCurve (answeredCurve n (λ m. g m .value)) (verdict (histories (curveEntries g n)))
+-- g forms the entries, and a is the jet of integers that they come to
+abbrev pub judgedCurve : (ℕ → Traced) → (ℕ → ℤ) → ℕ → CurveAnswer
+judgedCurve g a n = byVerdict refusedCurve (verdict (histories (curveEntries g n))) (answeredCurve n a)
+
+abbrev pub judgedSurface : (ℕ → ℕ → Traced) → (ℕ → ℕ → ℤ) → ℕ → SurfaceAnswer
+judgedSurface g s n = byVerdict refusedSurface (verdict (histories (surfaceEntries g n))) (answeredSurface n s)

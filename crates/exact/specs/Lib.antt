@@ -1,5 +1,6 @@
 pub mod Kinds
 pub mod Order
 pub mod Answer
-pub mod Composite
+pub mod Formula
 pub mod Judged
+pub mod Composite

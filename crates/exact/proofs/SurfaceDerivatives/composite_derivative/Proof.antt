@@ -6,15 +6,9 @@ use Rattle.calculus.specs.Carry.{compositeDerivative}
 use Rattle.exact.specs.Kinds.{checked}
 use Rattle.exact.specs.Answer.{curveValues, surfaceValues}
 use Rattle.exact.proofs.Orders.{by-none, by-some}
-use Prim.Native.Nat.{ℕ, suc, _+_, _-_, _≤_, _<_}
-use native.Mathlib.Omega.{arith}
 use borrow.Author.Needs.{needs}
 use Rattle.exact.proofs.SurfaceDerivatives.composite_derivative.Statement.{statement}
 use Rattle.exact.proofs.SurfaceDerivatives.composite_derivative.Tie as tie
-use Rattle.exact.proofs.SurfaceDerivatives.composite_derivative.Reads as reads
-use Rattle.exact.proofs.SurfaceDerivatives.composite_derivative.Lts as lts
-use Rattle.exact.proofs.carry.derivative.Reads as derivative-reads
-use Rattle.exact.proofs.composite.refusal.Reads as refusal-reads
 
 refusal-requires : tie.Need-refusal-requires
 refusal-requires c κs = search needs

@@ -3,16 +3,9 @@ use mathlib.Core.Path.{_∙_, sym, ap}
 use Rattle.exact.specs.Answer.{refusedCurve, curveAnswer}
 use Rattle.exact.proofs.Masks.{carriedJet}
 use Rattle.exact.proofs.Orders.{by-none, by-some}
-use Prim.Native.Nat.{ℕ, suc, _+_, _-_, _≤_, _<_}
-use native.Mathlib.Omega.{arith}
 use borrow.Author.Needs.{needs}
 use Rattle.exact.proofs.SurfaceDerivatives.composite_derivatives.Statement.{statement}
 use Rattle.exact.proofs.SurfaceDerivatives.composite_derivatives.Tie as tie
-use Rattle.exact.proofs.SurfaceDerivatives.composite_derivatives.Reads as reads
-use Rattle.exact.proofs.SurfaceDerivatives.composite_derivatives.Lts as lts
-use Rattle.exact.proofs.carry.derivatives.Reads as derivatives-reads
-use Rattle.exact.proofs.composite.refusal.Reads as refusal-reads
-use Rattle.exact.proofs.refused_curve.Reads as refused-curve-reads
 
 refusal-requires : tie.Need-refusal-requires
 refusal-requires c κs = search needs

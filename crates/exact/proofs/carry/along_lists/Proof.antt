@@ -1,15 +1,14 @@
 -- `exact::carry::along_lists` meets its contract. The invariant: from the sum so far, the lists still to come lead to the whole total. The measure is
 -- how many lists are still to come. Assumes nothing.
-use mathlib.Core.Path.{_≡_, refl, sym, _∙_, ap, ap₂, subst}
+use mathlib.Core.Path.{_≡_, sym, _∙_, ap, ap₂, subst}
 use mathlib.Core.Bool.{true, false}
-use mathlib.Core.List.{List, [], _∷_}
+use mathlib.Core.List.{List, _∷_}
 use lib.IntN.{ℤ}
 use lib.ListN.{length, take, length-take}
 use borrow.Author.Tests.{not-true, not-false}
 use denote.Ref.{now}
 use Rattle.partitions.specs.Parts.{lists}
-use Rattle.partitions.specs.Walk.{started, stepped, remaining}
-use Rattle.partitions.specs.declared.Stepped.{Stepped}
+use Rattle.partitions.specs.Walk.{stepped, remaining}
 use Rattle.partitions.proofs.Lists.{Is}
 use Rattle.calculus.specs.Kind.{regular}
 use Rattle.calculus.specs.InTurn.{alongList}
@@ -17,18 +16,12 @@ use Rattle.calculus.specs.Carry.{summand as Summand, coordinates, surfaceEntry}
 use Rattle.whole.specs.declared.Whole.{Whole}
 use Rattle.exact.specs.Kinds.{checked}
 use Rattle.exact.specs.Answer.{curveValues, surfaceValues}
-use Rattle.exact.proofs.Walking.{Walks, Steps, pending, pending-some, pending-none, steps, starts, first-step, is-list}
-use Prim.Native.Nat.{ℕ, suc, _+_, _-_, _≤_, _<_}
+use Rattle.exact.proofs.Walking.{Walks, Steps, pending, pending-some, pending-none, steps, first-step, is-list}
+use Prim.Native.Nat.{ℕ, _<_}
 use native.Mathlib.Omega.{arith}
 use borrow.Author.Needs.{needs}
 use Rattle.exact.proofs.carry.along_lists.Statement.{statement}
 use Rattle.exact.proofs.carry.along_lists.Tie as tie
-use Rattle.exact.proofs.carry.along_lists.Reads as reads
-use Rattle.exact.proofs.carry.along_lists.Lts as lts
-use Rattle.exact.proofs.carry.summand.Reads as summand-reads
-use Rattle.partitions.proofs.CompositionIter.step.Reads as step-reads
-use Rattle.partitions.proofs.CompositionIter.try_new.Reads as try-new-reads
-use Rattle.whole.proofs.plus.Reads as plus-reads
 
 abbrev terms : List ℤ → List ℤ → List ℤ → List ℕ → Whole
 terms entries u v = Summand (regular checked) 2 (coordinates (curveValues u) (curveValues v)) (surfaceEntry (surfaceValues entries))

@@ -1,5 +1,5 @@
 -- `exact::carry::derivative` meets its contract. The invariant: the total is that of the lens passed. Assumes nothing.
-use mathlib.Core.Path.{_≡_, refl, sym, _∙_, ap, ap₂, subst}
+use mathlib.Core.Path.{_≡_, refl, _∙_, ap, ap₂}
 use mathlib.Core.List.{List}
 use native.Mathlib.Numerals.{add-one}
 use lib.IntN.{ℤ}
@@ -11,14 +11,11 @@ use Rattle.calculus.specs.Carry.{summand, throughLen, coordinates, surfaceEntry
 use Rattle.whole.specs.declared.Whole.{Whole}
 use Rattle.exact.specs.Kinds.{checked}
 use Rattle.exact.specs.Answer.{curveValues, surfaceValues}
-use Prim.Native.Nat.{ℕ, suc, _+_, _-_, _≤_, _<_}
+use Prim.Native.Nat.{ℕ, _-_, _≤_}
 use native.Mathlib.Omega.{arith}
 use borrow.Author.Needs.{needs}
 use Rattle.exact.proofs.carry.derivative.Statement.{statement}
 use Rattle.exact.proofs.carry.derivative.Tie as tie
-use Rattle.exact.proofs.carry.derivative.Reads as reads
-use Rattle.exact.proofs.carry.derivative.Lts as lts
-use Rattle.exact.proofs.carry.along_lists.Reads as along-lists-reads
 
 abbrev through : List ℤ → List ℤ → List ℤ → ℕ → ℕ → Whole
 through entries u v = throughLen (regular checked) 2 (coordinates (curveValues u) (curveValues v)) (surfaceEntry (surfaceValues entries))

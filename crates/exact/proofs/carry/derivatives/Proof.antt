@@ -1,17 +1,12 @@
 -- `exact::carry::derivatives` meets its contract. The invariant: the entries passed stand in the array. Assumes nothing.
-use mathlib.Core.Path.{_≡_, sym, _∙_}
+use mathlib.Core.Path.{sym, _∙_}
 use denote.Ref.{now}
 use Rattle.exact.proofs.Masks.{carriedJet}
 use Rattle.exact.proofs.Progress.{CurveProgress, curve-begins, curve-goes-on, curve-stops, curve-ends}
-use Prim.Native.Nat.{ℕ, suc, _+_, _-_, _≤_, _<_}
-use native.Mathlib.Omega.{arith}
+use Prim.Native.Nat.{suc, _-_}
 use borrow.Author.Needs.{needs}
 use Rattle.exact.proofs.carry.derivatives.Statement.{statement}
 use Rattle.exact.proofs.carry.derivatives.Tie as tie
-use Rattle.exact.proofs.carry.derivatives.Reads as reads
-use Rattle.exact.proofs.carry.derivatives.Lts as lts
-use Rattle.exact.proofs.carry.entry.Reads as entry-reads
-use Rattle.exact.proofs.refused_curve.Reads as refused-curve-reads
 
 abbrev Inv-loop : tie.InvT-loop
 Inv-loop entries u v order r₀ m₀ r m = CurveProgress (carriedJet entries u v) order m r

@@ -1,5 +1,5 @@
 -- `exact::carry::entry` meets its contract. Assumes nothing.
-use mathlib.Core.Path.{_≡_, _∙_, ap}
+use mathlib.Core.Path.{_∙_, ap}
 use lib.IntN.{pos}
 use lib.ListN.{getD}
 use mir.Syntax.{w64}
@@ -8,14 +8,9 @@ use mir.Facts.{toZ-ofZ}
 use denote.Ref.{now}
 use Rattle.whole.specs.declared.Whole.the-variants.{Value}
 use Rattle.exact.proofs.Masks.{carried-value, carried-derivative}
-use Prim.Native.Nat.{ℕ, suc, _+_, _-_, _≤_, _<_}
-use native.Mathlib.Omega.{arith}
 use borrow.Author.Needs.{needs}
 use Rattle.exact.proofs.carry.entry.Statement.{statement}
 use Rattle.exact.proofs.carry.entry.Tie as tie
-use Rattle.exact.proofs.carry.entry.Reads as reads
-use Rattle.exact.proofs.carry.entry.Lts as lts
-use Rattle.exact.proofs.carry.derivative.Reads as derivative-reads
 
 element-copy-out-x : tie.Need-element-copy-out-x
 element-copy-out-x c = search needs

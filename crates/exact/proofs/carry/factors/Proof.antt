@@ -1,8 +1,8 @@
 -- `exact::carry::factors` meets its contract. The invariant: the product so far, times the factors still to come, is the whole. Assumes nothing.
-use mathlib.Core.Path.{_≡_, refl, sym, _∙_, ap, ap₂}
+use mathlib.Core.Path.{_≡_, refl, sym, _∙_, ap}
 use mathlib.Core.Logic.{⊎-elim}
 use lib.ListN.{length, drop, getD}
-use lib.IntN.{ℤ, pos}
+use lib.IntN.{pos}
 use mir.Syntax.{w64}
 use mir.Val.{SFits, toZ}
 use mir.Facts.{toZ-ofZ}
@@ -13,14 +13,11 @@ use Rattle.exact.specs.Kinds.{checked}
 use Rattle.exact.specs.Answer.{curveValues}
 use Rattle.whole.specs.declared.Whole.the-variants.{Value}
 use Rattle.exact.proofs.Masks.{factors-at, factors-past, by-u, by-v}
-use Prim.Native.Nat.{ℕ, suc, _+_, _-_, _/_, _%_, _≤_, _<_}
+use Prim.Native.Nat.{_+_, _-_, _/_, _%_, _≤_}
 use native.Mathlib.Omega.{arith}
 use borrow.Author.Needs.{needs}
 use Rattle.exact.proofs.carry.factors.Statement.{statement}
 use Rattle.exact.proofs.carry.factors.Tie as tie
-use Rattle.exact.proofs.carry.factors.Reads as reads
-use Rattle.exact.proofs.carry.factors.Lts as lts
-use Rattle.whole.proofs.times.Reads as times-reads
 
 abbrev Inv-loop : tie.InvT-loop
 Inv-loop u v list mask product₀ rest₀ p₀ product rest p = (Factors checked 2 (coordinates (curveValues u) (curveValues v)) product (drop p list) rest ≡ Factors checked 2 (coordinates (curveValues u) (curveValues v)) (checked .one) list mask) × (p ≤ length list)

@@ -1,9 +1,8 @@
 -- `exact::carry::summand` meets its contract. Assumes nothing.
-use mathlib.Core.Path.{_≡_, refl, sym, _∙_, ap, ap₂, subst}
-use Prim.Native.Nat.{_^_}
-use lib.IntN.{ℤ, pos}
+use mathlib.Core.Path.{_≡_, sym, _∙_, ap, ap₂}
+use lib.IntN.{pos}
 use mir.Syntax.{w64}
-use mir.Val.{SFits, toZ, ofZ}
+use mir.Val.{SFits}
 use mir.Facts.{toZ-ofZ}
 use denote.Ref.{now}
 use Rattle.partitions.specs.Parts.{multiplicity}
@@ -12,16 +11,11 @@ use Rattle.partitions.specs.declared.Count.the-variants as Counts
 use Rattle.whole.specs.declared.Whole.the-variants.{Value}
 use Rattle.exact.specs.Kinds.{checked}
 use Rattle.exact.proofs.Walking.{counted-list, list-short, multiplicity-fits, coefficient-formed}
-use Prim.Native.Nat.{ℕ, suc, _+_, _-_, _≤_, _<_}
+use Prim.Native.Nat.{ℕ}
 use native.Mathlib.Omega.{arith}
 use borrow.Author.Needs.{needs}
 use Rattle.exact.proofs.carry.summand.Statement.{statement}
 use Rattle.exact.proofs.carry.summand.Tie as tie
-use Rattle.exact.proofs.carry.summand.Reads as reads
-use Rattle.exact.proofs.carry.summand.Lts as lts
-use Rattle.exact.proofs.carry.tensor.Reads as tensor-reads
-use Rattle.partitions.proofs.multiplicity.Reads as multiplicity-reads
-use Rattle.whole.proofs.times.Reads as times-reads
 
 tensor-requires : tie.Need-tensor-requires
 tensor-requires c κs = (list-short (now (c .before .args .list)) (c .before .pre .0) (c .before .pre .1), c .before .pre .1)

@@ -5,7 +5,7 @@ use native.Mathlib.Nat.{le-antisymm}
 use native.Mathlib.Numerals.{add-one}
 use lib.Count.{ones, ones-le}
 use lib.ListN.{length, getD}
-use lib.IntN.{ℤ, pos}
+use lib.IntN.{pos}
 use mir.Syntax.{w64}
 use mir.Val.{SFits, toZ, ofZ}
 use mir.Facts.{toZ-ofZ}
@@ -15,17 +15,13 @@ use Rattle.calculus.specs.Carry.{digits, surfaceEntry}
 use Rattle.whole.specs.declared.Whole.the-variants.{Value}
 use Rattle.exact.specs.Kinds.{checked}
 use Rattle.exact.specs.Answer.{surfaceValues}
-use Rattle.exact.proofs.Masks.{termOf, entry-at, square-le, masks-le, masks-shift}
-use Prim.Native.Nat.{ℕ, suc, _+_, _-_, _≤_, _<_}
+use Rattle.exact.proofs.Masks.{termOf, entry-at, masks-le, masks-shift}
+use Rattle.exact.proofs.Terms.{small-square}
+use Prim.Native.Nat.{_+_, _-_, _≤_, _<_}
 use native.Mathlib.Omega.{arith}
 use borrow.Author.Needs.{needs}
 use Rattle.exact.proofs.carry.tensor.Statement.{statement}
 use Rattle.exact.proofs.carry.tensor.Tie as tie
-use Rattle.exact.proofs.carry.tensor.Reads as reads
-use Rattle.exact.proofs.carry.tensor.Lts as lts
-use Rattle.exact.proofs.carry.factors.Reads as factors-reads
-use Rattle.whole.proofs.plus.Reads as plus-reads
-use Rattle.whole.proofs.times.Reads as times-reads
 
 abbrev Inv-loop : tie.InvT-loop
 Inv-loop entries u v list len last end sum₀ mask₀ sum mask = (sum ≡ inTurn (checked .plus) (checked .nought) (termOf entries u v list) mask) × (mask ≤ 2 ^ length list)
@@ -37,10 +33,10 @@ add-last : tie.Need-add-last Inv-loop μ-loop
 add-last c = omega arith
 
 mul-last : tie.Need-mul-last Inv-loop μ-loop
-mul-last c = omega (arith, square-le (length (c .before .args .list .now)) (c .before .pre .0))
+mul-last c = omega (arith, small-square (length (c .before .args .list .now)) (c .before .pre .0))
 
 add-last-2 : tie.Need-add-last-2 Inv-loop μ-loop
-add-last-2 c = omega (arith, square-le (length (c .before .args .list .now)) (c .before .pre .0))
+add-last-2 c = omega (arith, small-square (length (c .before .args .list .now)) (c .before .pre .0))
 
 cast-end : tie.Need-cast-end Inv-loop μ-loop
 cast-end c = omega arith
@@ -68,10 +64,10 @@ sub-e : tie.Need-sub-e Inv-loop μ-loop
 sub-e c = omega (arith, few c)
 
 mul-e : tie.Need-mul-e Inv-loop μ-loop
-mul-e c = omega (arith, square-le (length (c .before .before .before .args .list .now)) (c .before .before .before .pre .0))
+mul-e c = omega (arith, small-square (length (c .before .before .before .args .list .now)) (c .before .before .before .pre .0))
 
 element-copy-out-e : tie.Need-element-copy-out-e Inv-loop μ-loop
-element-copy-out-e c = omega (arith, square-le (length (c .before .before .before .args .list .now)) (c .before .before .before .pre .0))
+element-copy-out-e c = omega (arith, small-square (length (c .before .before .before .args .list .now)) (c .before .before .before .pre .0))
 
 factors-requires : tie.Need-factors-requires Inv-loop μ-loop
 factors-requires c κs = c .before .before .before .before .pre .1

@@ -1,12 +1,7 @@
 -- `exact::composite::refusal` meets its contract: by the first test that holds. Assumes nothing.
 use Rattle.exact.proofs.Orders.{surface-high, curve-high, order-high, surface-low, curve-low, within}
-use Prim.Native.Nat.{ℕ, suc, _+_, _-_, _≤_, _<_}
-use native.Mathlib.Omega.{arith}
-use borrow.Author.Needs.{needs}
 use Rattle.exact.proofs.composite.refusal.Statement.{statement}
 use Rattle.exact.proofs.composite.refusal.Tie as tie
-use Rattle.exact.proofs.composite.refusal.Reads as reads
-use Rattle.exact.proofs.composite.refusal.Lts as lts
 
 returns : tie.Need-returns
 returns c = let s = c .before .args in surface-high (λ x. x) 0 (s .surface) (s .curve) (s .order) (c .if1 .taken)
