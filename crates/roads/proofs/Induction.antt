@@ -19,7 +19,7 @@ use Rattle.exact.specs.declared.ParameterCurve.{ParameterCurve}
 use Rattle.exact.specs.declared.CurveAnswer.{CurveAnswer}
 use Rattle.exact.specs.declared.SurfaceAnswer.{SurfaceAnswer}
 use Rattle.exact.specs.Answer.{refusedCurve, refusedSurface, answeredCurve}
-use Rattle.exact.specs.Judged.{unlessBy}
+use Rattle.exact.specs.Judged.{byVerdict}
 use Rattle.exact.specs.Composite.{alongCurve}
 use Rattle.roads.specs.declared.Step.{Step}
 use Rattle.roads.specs.Recipe.{with, namesEarlier, worked}
@@ -50,8 +50,8 @@ module _ {k : ℕ} (high : k ≤ 20) where
       let a = surfaces .apply (s .operation) (hand (s .left)) (hand (s .right)) in
       (((i : ℕ) → i < suc m → with hand m (a .jet) i .order ≡ k) → worked surfaces (with hand m (a .jet)) (suc m) ss .refusal ≡ 0 →
       worked surfaces (with hand m (a .jet)) (suc m) ss .jet .order ≡ k) →
-      (x : ℕ) → a .refusal ≡ x → unlessBy refusedSurface (worked surfaces (with hand m (a .jet)) (suc m) ss) x .refusal ≡ 0 →
-      unlessBy refusedSurface (worked surfaces (with hand m (a .jet)) (suc m) ss) x .jet .order ≡ k
+      (x : ℕ) → a .refusal ≡ x → byVerdict refusedSurface x (worked surfaces (with hand m (a .jet)) (suc m) ss) .refusal ≡ 0 →
+      byVerdict refusedSurface x (worked surfaces (with hand m (a .jet)) (suc m) ss) .jet .order ≡ k
   order-goes-on s ss hand m h l r next zero e f =
       next (λ i b. ⊎-elim
       (λ q. ap (λ (x : ℕ). with hand m a (x) .order) q ∙ ap (λ (x : SurfaceDerivatives). x .order) (with-new hand m a) ∙ result-order high (s .operation) (hand (s .left)) (hand (s .right)) (h (s .left) l) (h (s .right) r) e)
@@ -75,7 +75,7 @@ module _ {k : ℕ} (high : k ≤ 20) where
 module _ (c : ParameterCurve) (k n : ℕ) (o : Orders c k n) where
   -- the first road, from what the steps answer on the surfaces
   abbrev pub thenCarry : SurfaceAnswer → CurveAnswer
-  thenCarry a = unlessBy refusedCurve (alongCurve (a .jet) c n) (a .refusal)
+  thenCarry a = byVerdict refusedCurve (a .refusal) (alongCurve (a .jet) c n)
 
   -- the last surface carried
   last-carried : {s : SurfaceDerivatives} {a : CurveDerivatives} {z : ℕ → ℤ} → Meets c k n s a z → alongCurve s c n .refusal ≡ 0 →
@@ -130,11 +130,11 @@ module _ (c : ParameterCurve) (k n : ℕ) (o : Orders c k n) where
 
     step-met : (Hands (with hs m (first .jet)) (with hc m (alongJet c k n (first .jet))) handed (suc m) →
         Met (with hs m (first .jet)) (with hc m (alongJet c k n (first .jet))) handed (suc m) ss) →
-        (x : ℕ) → first .refusal ≡ x → thenCarry (unlessBy refusedSurface after x) .refusal ≡ 0 →
-        unlessBy refusedCurve (worked curves (with hc m (second .jet)) (suc m) ss) (second .refusal)
-        ≡ cond (every inRange (numbers (taken (stepWith s hz) n ++ stepsTake c n handed (suc m) ss))) (thenCarry (unlessBy refusedSurface after x)) (refusedCurve 9)
+        (x : ℕ) → first .refusal ≡ x → thenCarry (byVerdict refusedSurface x after) .refusal ≡ 0 →
+        byVerdict refusedCurve (second .refusal) (worked curves (with hc m (second .jet)) (suc m) ss)
+        ≡ cond (every inRange (numbers (taken (stepWith s hz) n ++ stepsTake c n handed (suc m) ss))) (thenCarry (byVerdict refusedSurface x after)) (refusedCurve 9)
     step-met next zero e f =
-        ap (λ (a : CurveAnswer). unlessBy refusedCurve (worked curves (with hc m (a .jet)) (suc m) ss) (a .refusal))
+        ap (λ (a : CurveAnswer). byVerdict refusedCurve (a .refusal) (worked curves (with hc m (a .jet)) (suc m) ss))
         (step-answer c k n o (s .operation) (h (s .left) l) (h (s .right) r) e)
         ∙ by (every inRange (numbers (taken (stepWith s hz) n)))
         (next (hands-more m h (step-meets c k n o (s .operation) (h (s .left) l) (h (s .right) r) e)) f)
@@ -142,8 +142,7 @@ module _ (c : ParameterCurve) (k n : ℕ) (o : Orders c k n) where
       where
         by : (t : Bool) → worked curves (with hc m (alongJet c k n (first .jet))) (suc m) ss
             ≡ cond (every inRange (numbers (stepsTake c n handed (suc m) ss))) (thenCarry after) (refusedCurve 9) →
-            unlessBy refusedCurve (worked curves (with hc m (cond t (answeredCurve n (alongNumbers c k n (first .jet))) (refusedCurve 9) .jet)) (suc m) ss)
-            (cond t (answeredCurve n (alongNumbers c k n (first .jet))) (refusedCurve 9) .refusal)
+            byVerdict refusedCurve (cond t (answeredCurve n (alongNumbers c k n (first .jet))) (refusedCurve 9) .refusal) (worked curves (with hc m (cond t (answeredCurve n (alongNumbers c k n (first .jet))) (refusedCurve 9) .jet)) (suc m) ss)
             ≡ cond (cond t (every inRange (numbers (stepsTake c n handed (suc m) ss))) false) (thenCarry after) (refusedCurve 9)
         by true g = g
         by false g = refl

@@ -16,7 +16,7 @@ use Rattle.exact.specs.declared.ParameterCurve.{ParameterCurve}
 use Rattle.exact.specs.declared.CurveAnswer.{CurveAnswer}
 use Rattle.exact.specs.declared.SurfaceAnswer.{SurfaceAnswer}
 use Rattle.exact.specs.Answer.{refusedCurve, refusedSurface, answeredCurve}
-use Rattle.exact.specs.Judged.{unlessBy}
+use Rattle.exact.specs.Judged.{byVerdict}
 use Rattle.exact.specs.Composite.{withinOrders, alongCurve}
 use Rattle.roads.specs.declared.Step.{Step}
 use Rattle.roads.specs.Recipe.{namesEarlier, wellFormed, someAbove20, smallest}

@@ -1,8 +1,12 @@
-pub mod Tests
+-- the two roads meet
+pub mod Theorem
+-- what its proof is made of, from a single number up
 pub mod Sound
 pub mod Judged
 pub mod Operations
 pub mod Meeting
 pub mod Induction
 pub mod Inputs
-pub mod Theorem
+-- the loops of the functions
+pub mod Tests
+pub mod Working

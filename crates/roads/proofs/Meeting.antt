@@ -11,13 +11,14 @@ use lib.IntN.{ℤ, pos}
 use lib.ListN.{getD}
 use borrow.Author.Tests.{lt-ltb, le-ltb}
 use Rattle.whole.specs.declared.Whole.{Whole}
+use Rattle.whole.specs.declared.Whole.the-variants.{Value}
 use Rattle.whole.specs.Checked.{inRange}
-use Rattle.whole.specs.History.{Traced, given, verdict, settle, exact, numbers, every}
+use Rattle.whole.specs.History.{Traced, given, verdict, numbers, every}
 use Rattle.whole.proofs.History.{settle-given}
 use Rattle.calculus.specs.Kind.{regular, plain}
 use Rattle.calculus.specs.Array.{curveArray}
 use Rattle.calculus.specs.Carry.{compositeDerivatives}
-use Rattle.calculus.proofs.Related.{same}
+use Rattle.calculus.proofs.Related.{same, regulars}
 use Rattle.calculus.proofs.UpTo.{CurvesAgree, SurfacesAgree}
 use Rattle.calculus.proofs.CarryAlike.{compositeDerivatives-alike}
 use Rattle.calculus.proofs.Laws.{carried, carry-upto}
@@ -30,15 +31,16 @@ use Rattle.exact.specs.declared.CurveAnswer.{CurveAnswer}
 use Rattle.exact.specs.declared.SurfaceAnswer.{SurfaceAnswer}
 use Rattle.exact.specs.Kinds.{checked, traced}
 use Rattle.exact.specs.Answer.{curveNumbers, surfaceNumbers, curveValues, surfaceValues, refusedCurve, refusedSurface, answeredCurve, answeredSurface, curveAnswer, surfaceAnswer, onCurves, onSurfaces}
-use Rattle.exact.specs.Judged.{curveTraces, surfaceTraces, histories}
+use Rattle.exact.specs.Judged.{histories}
 use Rattle.exact.specs.Composite.{alongCurve}
-use Rattle.exact.proofs.Judged.{Settles, settles, Valued, valued}
-use Rattle.exact.proofs.CarryJudged.{derivatives-settle, carried-values}
+use Rattle.exact.proofs.Judged.{Settled, settled, Valued, valued}
+use Rattle.exact.proofs.Same.{curve-entries-same}
+use Rattle.exact.proofs.CarryJudged.{carry-in-range}
 use Rattle.roads.specs.declared.Operation.{Operation}
 use Rattle.roads.specs.Operation.{curveOperation, surfaceOperation}
 use Rattle.roads.specs.Formed.{taken, carriedWith}
-use Rattle.roads.proofs.Sound.{Sound, soundModule, exact-none}
-use Rattle.roads.proofs.Judged.{array-same, listed-same, curve-exact, surface-answered}
+use Rattle.roads.proofs.Sound.{Sound}
+use Rattle.roads.proofs.Judged.{curve-exact, surface-answered}
 use Rattle.roads.proofs.Operations.{curve-alike, surface-alike, carry-operation, carry-exact}
 
 -- ---- calls on jets of one order
@@ -67,25 +69,23 @@ module _ {k : ℕ} (high : k ≤ 20) (op : Operation) (s r : SurfaceDerivatives)
   on = onSurfaces (surfaceOperation checked op) s r
 
   abbrev entries : ℕ → ℕ → Traced
-  entries = surfaceOperation traced op (surfaceTraces (s .entries)) (surfaceTraces (r .entries))
+  entries = surfaceOperation traced op (λ i j. given (surfaceNumbers (s .entries) i j)) (λ i j. given (surfaceNumbers (r .entries) i j))
 
   abbrev values : ℕ → ℕ → Whole
   values = surfaceOperation checked op (surfaceValues (s .entries)) (surfaceValues (r .entries))
 
-  entries-settle : (i j : ℕ) → settle (entries i j) ≡ values i j
-  entries-settle i j =
-      surface-alike Settles traced checked settles (i + j) op (surfaceTraces (s .entries)) (surfaceTraces (r .entries)) (surfaceValues (s .entries)) (surfaceValues (r .entries))
-      (λ i j l. settle-given (surfaceNumbers (s .entries) i j)) (λ i j l. settle-given (surfaceNumbers (r .entries) i j)) i j (le-refl (i + j))
+  integers : ℕ → ℕ → ℤ
+  integers = surfaceOperation plain op (surfaceNumbers (s .entries)) (surfaceNumbers (r .entries))
 
-  entries-value : (i j : ℕ) → entries i j .value ≡ surfaceOperation plain op (surfaceNumbers (s .entries)) (surfaceNumbers (r .entries)) i j
-  entries-value i j =
-      surface-alike Valued traced plain valued (i + j) op (surfaceTraces (s .entries)) (surfaceTraces (r .entries)) (surfaceNumbers (s .entries)) (surfaceNumbers (r .entries))
-      (λ i j l. refl) (λ i j l. refl) i j (le-refl (i + j))
-
-  answered : (on ≡ answeredSurface k (λ i j. entries i j .value)) × ((i j : ℕ) → i + j ≤ k → verdict (entries i j .history) ≡ 0)
+  answered : (on ≡ answeredSurface k integers) × ((i j : ℕ) → i + j ≤ k → verdict (entries i j .history) ≡ 0)
+  unfolding integers
   answered =
       let is = on-surfaces high (surfaceOperation checked op) s r p q in
-      let h = surface-answered entries k values entries-settle (sym (ap (λ (x : SurfaceAnswer). x .refusal) is) ∙ e) in
+      let h = surface-answered k values entries integers
+      (surface-alike Settled traced checked settled k op _ _ (surfaceValues (s .entries)) (surfaceValues (r .entries))
+      (λ i j l. settle-given (surfaceNumbers (s .entries) i j)) (λ i j l. settle-given (surfaceNumbers (r .entries) i j)))
+      (surface-alike Valued traced plain valued k op _ _ (surfaceNumbers (s .entries)) (surfaceNumbers (r .entries)) (λ i j l. refl) (λ i j l. refl))
+      (sym (ap (λ (x : SurfaceAnswer). x .refusal) is) ∙ e) in
       (is ∙ h .0, h .1)
 
   -- no entry was refused, and the result has the order k and the numbers of the integers
@@ -96,9 +96,10 @@ module _ {k : ℕ} (high : k ≤ 20) (op : Operation) (s r : SurfaceDerivatives)
   result-order = ap (λ (x : SurfaceAnswer). x .jet .order) (answered .0)
 
   result-numbers : SurfacesAgree k (surfaceNumbers (on .jet .entries)) (surfaceOperation plain op (surfaceNumbers (s .entries)) (surfaceNumbers (r .entries)))
+  unfolding integers
   result-numbers i j l =
       ap (λ (x : SurfaceAnswer). surfaceNumbers (x .jet .entries) i j) (answered .0)
-      ∙ array-at (pos 0) (pos 0) (λ i j. entries i j .value) k i j high l ∙ entries-value i j
+      ∙ array-at (pos 0) (pos 0) integers k i j high l
 
 -- ---- along the curve c, up to the order n; the recipe works on the surfaces at the order k
 module _ (c : ParameterCurve) (k n : ℕ) where
@@ -122,13 +123,10 @@ module _ (c : ParameterCurve) (k n : ℕ) where
     pub asked : n ≤ k
     pub reach : n ≤ c .order
 
-  carried-sound : (s : SurfaceDerivatives) (m : ℕ) → m ≤ n → Sound (carriedWith c s m) (alongNumbers s m)
-  carried-sound s =
-      compositeDerivatives-alike Sound Sound (regular traced) (regular plain) soundModule n (curveTraces (c .u)) (curveTraces (c .v)) (curveNumbers (c .u)) (curveNumbers (c .v))
-      (surfaceTraces (s .entries)) (surfaceNumbers (s .entries)) (λ i l. (refl, exact-none)) (λ i l. (refl, exact-none)) (λ i j l. (refl, exact-none))
-
   pub carried-value : (s : SurfaceDerivatives) (m : ℕ) → carriedWith c s m .value ≡ alongNumbers s m
-  carried-value s = carried-values (s .entries) (c .u) (c .v)
+  carried-value s m =
+      compositeDerivatives-alike Valued Valued (regular traced) (regular plain) (regulars valued) m _ _ (curveNumbers (c .u)) (curveNumbers (c .v)) _ (surfaceNumbers (s .entries))
+      (λ i l. refl) (λ i l. refl) (λ i j l. refl) m (le-refl m)
 
   pub along-within : (s : SurfaceDerivatives) → s .order ≤ 20 → c .order ≤ 20 → n ≤ s .order → n ≤ c .order →
       alongCurve s c n ≡ cond (every inRange (numbers (taken (carriedWith c s) n))) (answeredCurve n (alongNumbers s)) (refusedCurve 9)
@@ -140,10 +138,7 @@ module _ (c : ParameterCurve) (k n : ℕ) where
       ∙ ap (λ (t : Bool). cond t (refusedCurve 1) (cond (ltb (s .order) n) (refusedCurve 2) (cond (ltb (c .order) n) (refusedCurve 2) answer))) (le-ltb 20 n hn)
       ∙ ap (λ (t : Bool). cond t (refusedCurve 2) (cond (ltb (c .order) n) (refusedCurve 2) answer)) (le-ltb (s .order) n ls)
       ∙ ap (λ (t : Bool). cond t (refusedCurve 2) answer) (le-ltb (c .order) n lc)
-      ∙ curve-exact (carriedWith c s) (compositeDerivatives (regular checked) (curveValues (c .u)) (curveValues (c .v)) (surfaceValues (s .entries))) n
-      (derivatives-settle (s .entries) (c .u) (c .v)) (λ m l. carried-sound s m l .1)
-      ∙ ap (λ (l : List ℤ). cond (every inRange (numbers (taken (carriedWith c s) n))) (record { refusal = 0; jet = record { order = n; entries = l } }) (refusedCurve 9))
-      (array-same (λ m. carriedWith c s m .value) (alongNumbers s) n (λ m l. carried-value s m))
+      ∙ carry-in-range (curveNumbers (c .u)) (curveNumbers (c .v)) (surfaceNumbers (s .entries)) n
 
   -- the same operation on the curves that the surfaces meet
   module _ (o : Orders) (op : Operation) {s r : SurfaceDerivatives} {a b : CurveDerivatives} {y z : ℕ → ℤ} (p : Meets s a y) (q : Meets r b z)
@@ -151,7 +146,7 @@ module _ (c : ParameterCurve) (k n : ℕ) where
     abbrev jet : SurfaceDerivatives
     jet = onSurfaces (surfaceOperation checked op) s r .jet
 
-    verdicts : (i j : ℕ) → i + j ≤ k → verdict (surfaceOperation traced op (surfaceTraces (s .entries)) (surfaceTraces (r .entries)) i j .history) ≡ 0
+    verdicts : (i j : ℕ) → i + j ≤ k → verdict (surfaceOperation traced op (λ i j. given (surfaceNumbers (s .entries) i j)) (λ i j. given (surfaceNumbers (r .entries) i j)) i j .history) ≡ 0
     verdicts = result-verdicts (o .high) op s r (p .order) (q .order) e
 
     result-along : CurvesAgree n (curveOperation plain op (alongNumbers s) (alongNumbers r)) (alongNumbers (jet))
@@ -159,15 +154,12 @@ module _ (c : ParameterCurve) (k n : ℕ) where
         carry-operation (curveNumbers (c .u)) (curveNumbers (c .v)) (surfaceNumbers (s .entries)) (surfaceNumbers (r .entries)) k n (o .asked) op verdicts i l
         ∙ sym (carry-upto (curveNumbers (c .u)) (curveNumbers (c .v)) n (λ i j b. result-numbers (o .high) op s r (p .order) (q .order) e i j (omega (arith, o .asked))) i l)
 
-    -- the operation on the curves, by the integers in hand, by those carried, and by the arrays
+    -- the operation on the curves, by the integers in hand, and by those carried
     abbrev pub inHand : ℕ → Traced
     inHand = curveOperation traced op (λ i. given (y i)) (λ i. given (z i))
 
     abbrev byNumbers : ℕ → Traced
     byNumbers = curveOperation traced op (λ i. given (alongNumbers s i)) (λ i. given (alongNumbers r i))
-
-    abbrev byArrays : ℕ → Traced
-    byArrays = curveOperation traced op (curveTraces (alongJet s .entries)) (curveTraces (alongJet r .entries))
 
     small : n ≤ 20
     small = omega (arith, o .high, o .asked)
@@ -176,33 +168,31 @@ module _ (c : ParameterCurve) (k n : ℕ) where
     hand-numbers =
         curve-alike (λ (a b : Traced). a ≡ b) traced traced (same traced) n op _ _ _ _ (λ i l. ap given (p .number i l)) (λ i l. ap given (q .number i l))
 
-    arrays-numbers : CurvesAgree n byArrays byNumbers
-    arrays-numbers =
-        curve-alike (λ (a b : Traced). a ≡ b) traced traced (same traced) n op _ _ _ _
-        (λ i l. ap given (curve-array-at small (alongNumbers s) i l)) (λ i l. ap given (curve-array-at small (alongNumbers r) i l))
-
-    arrays-settle : (m : ℕ) → settle (byArrays m) ≡ curveOperation checked op (curveValues (alongJet s .entries)) (curveValues (alongJet r .entries)) m
-    arrays-settle m =
-        curve-alike Settles traced checked settles m op (curveTraces (alongJet s .entries)) (curveTraces (alongJet r .entries)) (curveValues (alongJet s .entries)) (curveValues (alongJet r .entries))
-        (λ i l. settle-given (curveNumbers (alongJet s .entries) i)) (λ i l. settle-given (curveNumbers (alongJet r .entries) i)) m (le-refl m)
-
     numbers-sound : (m : ℕ) → m ≤ n → Sound (byNumbers m) (curveOperation plain op (alongNumbers s) (alongNumbers r) m)
     numbers-sound = carry-exact (curveNumbers (c .u)) (curveNumbers (c .v)) (surfaceNumbers (s .entries)) (surfaceNumbers (r .entries)) k n (o .asked) op verdicts
 
-    hand-value : CurvesAgree n (λ m. inHand m .value) (alongNumbers (jet))
-    hand-value m l = ap (λ (t : Traced). t .value) (hand-numbers m l) ∙ numbers-sound m l .0 ∙ result-along m l
+    numbers-settle : (m : ℕ) → m ≤ n → Settled (byNumbers m) (curveOperation checked op (curveValues (alongJet s .entries)) (curveValues (alongJet r .entries)) m)
+    numbers-settle =
+        curve-alike Settled traced checked settled n op _ _ (curveValues (alongJet s .entries)) (curveValues (alongJet r .entries))
+        (λ i l. settle-given (alongNumbers s i) ∙ ap Value (sym (curve-array-at small (alongNumbers s) i l)))
+        (λ i l. settle-given (alongNumbers r i) ∙ ap Value (sym (curve-array-at small (alongNumbers r) i l)))
+
+    numbers-value : (m : ℕ) → m ≤ n → Valued (byNumbers m) (alongNumbers jet m)
+    numbers-value m l = numbers-sound m l .0 ∙ result-along m l
 
     -- the second road's step is answered with the first one's result carried, or refused 9
-    pub step-answer : onCurves (curveOperation checked op) a b ≡ cond (every inRange (numbers (taken inHand n))) (answeredCurve n (alongNumbers (jet))) (refusedCurve 9)
+    pub step-answer : onCurves (curveOperation checked op) a b ≡ cond (every inRange (numbers (taken inHand n))) (answeredCurve n (alongNumbers jet)) (refusedCurve 9)
     step-answer =
         ap₂ (onCurves (curveOperation checked op)) (p .curve) (q .curve)
         ∙ on-curves small (curveOperation checked op) (alongJet s .entries) (alongJet r .entries)
-        ∙ curve-exact byArrays (curveOperation checked op (curveValues (alongJet s .entries)) (curveValues (alongJet r .entries))) n arrays-settle
-        (λ m l. ap (λ (t : Traced). exact (t .history)) (arrays-numbers m l) ∙ numbers-sound m l .1)
-        ∙ ap₂ (λ (h : List Traced) (l : List ℤ). cond (every inRange (numbers (histories h))) (record { refusal = 0; jet = record { order = n; entries = l } }) (refusedCurve 9))
-        (listed-same byArrays inHand 0 (suc n) (λ i l. arrays-numbers (0 + i) (omega arith) ∙ sym (hand-numbers (0 + i) (omega arith))))
-        (array-same (λ m. byArrays m .value) (alongNumbers (jet)) n
-        (λ m l. ap (λ (t : Traced). t .value) (arrays-numbers m l ∙ sym (hand-numbers m l)) ∙ hand-value m l))
+        ∙ curve-exact n (curveOperation checked op (curveValues (alongJet s .entries)) (curveValues (alongJet r .entries))) byNumbers (alongNumbers jet)
+        numbers-settle numbers-value (λ m l. numbers-sound m l .1)
+        ∙ ap (λ (h : List Traced). cond (every inRange (numbers (histories h))) (answeredCurve n (alongNumbers jet)) (refusedCurve 9))
+        (sym (curve-entries-same n hand-numbers))
 
-    pub step-meets : Meets (jet) (alongJet (jet)) (λ m. inHand m .value)
-    step-meets = record { order = result-order (o .high) op s r (p .order) (q .order) e; curve = refl; number = hand-value }
+    pub step-meets : Meets jet (alongJet jet) (λ m. inHand m .value)
+    step-meets = record {
+      order = result-order (o .high) op s r (p .order) (q .order) e;
+      curve = refl;
+      number = λ m l. ap (λ (t : Traced). t .value) (hand-numbers m l) ∙ numbers-value m l;
+    }

@@ -2,13 +2,14 @@
 use mathlib.Core.Path.{_≡_, refl, sym, ap, ap₂, _∙_}
 use mathlib.Core.Bool.{Bool, true, false, cond}
 use mathlib.Core.List.{List, [], _∷_, map}
+use mathlib.Core.Logic.{⊎-elim}
 use Prim.Native.Nat.{ℕ, zero, suc, _+_, _-_, _≤_, _<_, min}
-use native.Mathlib.Nat.{not-suc-le-zero, min-eq-left, min-le-left}
+use native.Mathlib.Nat.{not-suc-le-zero, lt-irrefl, min-eq-left, min-eq-right, min-le-left, eq-or-lt-of-le, le-of-suc-le-suc}
 use native.Mathlib.Numerals.{add-one}
 use native.Mathlib.Omega.{arith}
 use lib.Dec.{ltb, eqb}
-use lib.ListN.{length, getD, take, drop, length-take}
-use lib.Seq.{drop-cons, getD-take, drop-nil}
+use lib.ListN.{length, getD, take, drop, set, length-take}
+use lib.Seq.{drop-cons, getD-take, drop-nil, getD-set-same, getD-set-other}
 use borrow.Author.Tests.{lt-ltb, le-ltb}
 use Rattle.roads.specs.declared.Step.{Step}
 use Rattle.roads.specs.Recipe.{someAbove20, smallest, namesEarlier}
@@ -29,7 +30,7 @@ module _ (l : List ℕ) (i : ℕ) (h : i < length l) where
   unfolding smallest
   smallest-at = ap smallest (drop-cons l i 0 h) ∙ ap (λ (k : ℕ). min (getD l i 0) (smallest (drop k l))) (sym (add-one i))
 
-past : {X : Type 0} (l : List X) (i : ℕ) → length l ≤ i → drop i l ≡ []
+pub past : {X : Type 0} (l : List X) (i : ℕ) → length l ≤ i → drop i l ≡ []
 past [] i h = drop-nil i
 past (x ∷ l) zero h = absurd (not-suc-le-zero h)
 past (x ∷ l) (suc i) h = past l i (omega arith)
@@ -41,6 +42,19 @@ above-none l i h = ap someAbove20 (past l i h)
 pub smallest-none : (l : List ℕ) (i : ℕ) → length l ≤ i → smallest (drop i l) ≡ 20
 unfolding smallest
 smallest-none l i h = ap smallest (past l i h)
+
+-- one order more, from the right
+module _ (l : List ℕ) (i least : ℕ) (p : 0 < i) (h : i ≤ length l) (e : least ≡ smallest (drop i l)) where
+  one-less : smallest (drop (i - 1) l) ≡ min (getD l (i - 1) 0) least
+  one-less =
+      let b : i - 1 + 1 ≡ i = omega arith in
+      smallest-at l (i - 1) (omega arith) ∙ ap (λ (k : ℕ). min (getD l (i - 1) 0) (smallest (drop k l))) b ∙ ap (min (getD l (i - 1) 0)) (sym e)
+
+  pub smaller : getD l (i - 1) 0 < least → getD l (i - 1) 0 ≡ smallest (drop (i - 1) l)
+  smaller b = sym (one-less ∙ min-eq-left (omega arith))
+
+  pub not-smaller : least ≤ getD l (i - 1) 0 → least ≡ smallest (drop (i - 1) l)
+  not-smaller b = sym (one-less ∙ min-eq-right b)
 
 -- ---- the steps from i on, of the first n
 module _ (program : List Step) (d : Step) (n i m : ℕ) (h : i < n) (l : n ≤ length program) where
@@ -81,3 +95,10 @@ four-orders f d (a ∷ b ∷ []) h = absurd (omega arith)
 four-orders f d (a ∷ b ∷ x ∷ []) h = absurd (omega arith)
 four-orders f d (a ∷ b ∷ x ∷ y ∷ []) h = refl
 four-orders f d (a ∷ b ∷ x ∷ y ∷ z ∷ l) h = absurd (omega arith)
+
+-- ---- a list that is written in turn: the first i hold f's values
+pub written : {X : Type 0} (f : ℕ → X) (l : List X) (d : X) (i : ℕ) (v : X) → i < length l → ((k : ℕ) → k < i → getD l k d ≡ f k) → v ≡ f i →
+    (k : ℕ) → k < i + 1 → getD (set l i v) k d ≡ f k
+written f l d i v h p e k b =
+    ⊎-elim (λ q. ap (λ (x : ℕ). getD (set l i v) x d) q ∙ getD-set-same l i v d h ∙ e ∙ ap f (sym q))
+    (λ q. getD-set-other l i k v d (λ r. lt-irrefl k (omega arith)) ∙ p k q) (eq-or-lt-of-le (omega arith))

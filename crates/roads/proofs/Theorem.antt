@@ -18,7 +18,7 @@ use Rattle.exact.specs.declared.ParameterCurve.{ParameterCurve}
 use Rattle.exact.specs.declared.CurveAnswer.{CurveAnswer}
 use Rattle.exact.specs.declared.SurfaceAnswer.{SurfaceAnswer}
 use Rattle.exact.specs.Answer.{refusedCurve, refusedSurface}
-use Rattle.exact.specs.Judged.{unlessBy}
+use Rattle.exact.specs.Judged.{byVerdict}
 use Rattle.exact.specs.Composite.{alongCurve}
 use Rattle.roads.specs.declared.Step.{Step}
 use Rattle.roads.specs.declared.SurfaceRecipe.{SurfaceRecipe}
@@ -37,7 +37,7 @@ passed false true w f h e = (refl, refl)
 passed false false w f h e = absurd (suc-ne-zero 3 (sym (h 3) ∙ e))
 
 -- an answered first road's two calls
-two-calls : (x : ℕ) (a : CurveAnswer) → unlessBy refusedCurve a x .refusal ≡ 0 → (x ≡ 0) × (a .refusal ≡ 0)
+two-calls : (x : ℕ) (a : CurveAnswer) → byVerdict refusedCurve x a .refusal ≡ 0 → (x ≡ 0) × (a .refusal ≡ 0)
 two-calls zero a e = (refl, e)
 two-calls (suc x) a e = absurd (suc-ne-zero x e)
 
@@ -61,7 +61,7 @@ module _ (r : SurfaceRecipe) (four : length (r .surfaces) ≡ 4) (c : ParameterC
   work = worked surfaces first-hand (r .inputs) steps
 
   abbrev carry : SurfaceAnswer → CurveAnswer
-  carry a = unlessBy refusedCurve (alongCurve (a .jet) c n) (a .refusal)
+  carry a = byVerdict refusedCurve (a .refusal) (alongCurve (a .jet) c n)
 
   -- the second road's recipe, on the curves l
   abbrev rebuild : List CurveDerivatives → CurveAnswer
@@ -118,7 +118,7 @@ module _ (r : SurfaceRecipe) (four : length (r .surfaces) ≡ 4) (c : ParameterC
         (count .names) (sym (ap (λ (a : SurfaceAnswer). carry a .refusal) built-is) ∙ e)
 
     by : (t : Bool) → every inRange (numbers (carriesTake c n inputs)) ≡ t →
-        unlessBy refusedCurve (rebuild (take (r .inputs) (map (λ (a : CurveAnswer). a .jet) (map (λ s. alongCurve s c n) inputs)))) (cond t 0 9)
+        byVerdict refusedCurve (cond t 0 9) (rebuild (take (r .inputs) (map (λ (a : CurveAnswer). a .jet) (map (λ s. alongCurve s c n) inputs))))
         ≡ cond (cond t (every inRange (numbers (stepsTake c n third-hand (r .inputs) steps))) false) (carry work) (refusedCurve 9)
     unfolding jets
     by true h =
@@ -128,7 +128,7 @@ module _ (r : SurfaceRecipe) (four : length (r .surfaces) ≡ 4) (c : ParameterC
 
     pub two-roads : carryThenBuild r c n ≡ cond (every inRange (numbersFormed r c n)) (buildThenCarry r c n) (refusedCurve 9)
     two-roads =
-        ap (unlessBy refusedCurve (rebuild (take (r .inputs) (map (λ (a : CurveAnswer). a .jet) (map (λ s. alongCurve s c n) inputs)))))
+        ap (λ (x : ℕ). byVerdict refusedCurve x (rebuild (take (r .inputs) (map (λ (a : CurveAnswer). a .jet) (map (λ s. alongCurve s c n) inputs)))))
         (inputs-refusal c k n (orders .parameter) (orders .reach) inputs (checks .0) (orders .asked))
         ∙ by (every inRange (numbers (carriesTake c n inputs))) refl
         ∙ ap₂ (λ (t : Bool) (a : SurfaceAnswer). cond t (carry a) (refusedCurve 9))

@@ -11,7 +11,8 @@ use Rattle.exact.specs.declared.SurfaceDerivatives.{SurfaceDerivatives}
 use Rattle.exact.specs.declared.ParameterCurve.{ParameterCurve}
 use Rattle.exact.specs.Kinds.{traced}
 use Rattle.exact.specs.Order.{curveEntries}
-use Rattle.exact.specs.Judged.{curveTraces, surfaceTraces, histories}
+use Rattle.exact.specs.Answer.{curveNumbers, surfaceNumbers}
+use Rattle.exact.specs.Judged.{histories}
 use Rattle.roads.specs.declared.Step.{Step}
 use Rattle.roads.specs.declared.SurfaceRecipe.{SurfaceRecipe}
 use Rattle.roads.specs.Operation.{curveOperation}
@@ -24,7 +25,8 @@ taken t n = histories (curveEntries t n)
 
 -- a surface's numbers carried along a curve, and an operation on two jets of numbers
 abbrev pub carriedWith : ParameterCurve → SurfaceDerivatives → ℕ → Traced
-carriedWith c s = compositeDerivatives (regular traced) (curveTraces (c .u)) (curveTraces (c .v)) (surfaceTraces (s .entries))
+carriedWith c s =
+    compositeDerivatives (regular traced) (λ i. given (curveNumbers (c .u) i)) (λ i. given (curveNumbers (c .v) i)) (λ i j. given (surfaceNumbers (s .entries) i j))
 
 abbrev pub stepWith : Step → (ℕ → ℕ → ℤ) → ℕ → Traced
 stepWith s hand = curveOperation traced (s .operation) (λ i. given (hand (s .left) i)) (λ i. given (hand (s .right) i))

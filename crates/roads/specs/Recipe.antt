@@ -5,7 +5,7 @@ use mathlib.Core.List.{List, [], _∷_, map}
 use Prim.Native.Nat.{ℕ, zero, suc, _-_, min}
 use lib.Dec.{ltb, eqb}
 use lib.ListN.{getD, take}
-use Rattle.exact.specs.Judged.{unlessBy}
+use Rattle.exact.specs.Judged.{byVerdict}
 use Rattle.roads.specs.declared.Operation.{Operation}
 use Rattle.roads.specs.declared.Step.{Step}
 
@@ -52,7 +52,7 @@ module _ {J A : Type 0} (K : Jets J A) where
   worked hand m [] = K .answered (hand (m - 1))
   worked hand m (s ∷ ss) =
       let a = K .apply (s .operation) (hand (s .left)) (hand (s .right)) in
-      unlessBy (K .refused) (worked (with hand m (K .jet a)) (suc m) ss) (K .refusal a)
+      byVerdict (K .refused) (K .refusal a) (worked (with hand m (K .jet a)) (suc m) ss)
 
   -- the jets that are there have orders up to 20, or it is 1; the recipe is well formed, or it is 4; and every step works at the smallest
   -- order of all the jets given, used or not

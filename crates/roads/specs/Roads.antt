@@ -13,7 +13,7 @@ use Rattle.exact.specs.declared.SurfaceAnswer.{SurfaceAnswer}
 use Rattle.exact.specs.Kinds.{checked}
 use Rattle.exact.specs.Answer.{refusedCurve, refusedSurface, onCurves, onSurfaces}
 use Rattle.exact.specs.Composite.{alongCurve}
-use Rattle.exact.specs.Judged.{unlessBy}
+use Rattle.exact.specs.Judged.{byVerdict}
 use Rattle.roads.specs.declared.SurfaceRecipe.{SurfaceRecipe}
 use Rattle.roads.specs.declared.CurveRecipe.{CurveRecipe}
 use Rattle.roads.specs.Operation.{curveOperation, surfaceOperation}
@@ -51,7 +51,7 @@ builtCurve r = built curves (r .inputs) (r .curves) (r .steps) (r .program)
 
 -- the first road: work the recipe on the surfaces, then carry its result
 abbrev pub buildThenCarry : SurfaceRecipe → ParameterCurve → ℕ → CurveAnswer
-buildThenCarry r c n = let a = builtSurface r in unlessBy refusedCurve (alongCurve (a .jet) c n) (a .refusal)
+buildThenCarry r c n = let a = builtSurface r in byVerdict refusedCurve (a .refusal) (alongCurve (a .jet) c n)
 
 unfoldable pub firstRefusal : List CurveAnswer → ℕ
 firstRefusal [] = 0
@@ -61,5 +61,4 @@ firstRefusal (a ∷ rest) = orElse (a .refusal) (firstRefusal rest)
 abbrev pub carryThenBuild : SurfaceRecipe → ParameterCurve → ℕ → CurveAnswer
 carryThenBuild r c n =
     let carried = map (λ s. alongCurve s c n) (take (r .inputs) (r .surfaces)) in
-    unlessBy refusedCurve (builtCurve (record { inputs = r .inputs; curves = map (λ a. a .jet) carried; steps = r .steps; program = r .program }))
-    (firstRefusal carried)
+    byVerdict refusedCurve (firstRefusal carried) (builtCurve (record { inputs = r .inputs; curves = map (λ a. a .jet) carried; steps = r .steps; program = r .program }))

@@ -8,6 +8,8 @@ use exact::SurfaceAnswer;
 use exact::SurfaceDerivatives;
 
 mod checks;
+mod curves;
+mod roads;
 mod surfaces;
 
 // What a step does with its two jets.

@@ -5,7 +5,7 @@ use Rattle.roads.specs.Recipe.{namesEarlier}
 use Prim.Native.Nat.{ℕ, suc, _+_, _-_, _≤_, _<_}
 use native.Mathlib.Omega.{arith}
 use borrow.Author.Needs.{needs}
-use native.Mathlib.Nat.{add-zero}
+use native.Mathlib.Nat.{add-zero, add-assoc}
 use Rattle.roads.proofs.Tests.{names-left, names-right, names-later, names-none}
 use Rattle.roads.proofs.checks.names_earlier.Statement.{statement}
 use Rattle.roads.proofs.checks.names_earlier.Tie as tie
@@ -31,10 +31,16 @@ add-m : tie.Need-add-m Inv-loop μ-loop
 add-m c = search needs
 
 returns : tie.Need-returns Inv-loop μ-loop
-returns c = ?
+returns c =
+    let l = c .before .before .before .before in
+    let a = l .before .args in
+    sym (sym (l .loop .inv .1) ∙ names-left (a .t3) _ (a .steps) (l .loop .i) (a .inputs + l .loop .i) (search needs) (search needs) (c .if1 .taken))
 
 returns-2 : tie.Need-returns-2 Inv-loop μ-loop
-returns-2 c = ?
+returns-2 c =
+    let l = c .before .before .before .before .before .before in
+    let a = l .before .args in
+    sym (sym (l .loop .inv .1) ∙ names-right (a .t3) _ (a .steps) (l .loop .i) (a .inputs + l .loop .i) (search needs) (search needs) (c .before .before .if1 .left) (c .if2 .taken))
 
 add-i : tie.Need-add-i Inv-loop μ-loop
 add-i c = search needs
@@ -43,10 +49,18 @@ loop-less : tie.Need-loop-less Inv-loop μ-loop
 loop-less c = search needs
 
 loop-again : tie.Need-loop-again Inv-loop μ-loop
-loop-again c = ?
+loop-again c =
+    let l = c .before .before .before .before .before .before in
+    let a = l .before .args in (
+      omega arith,
+      ap (λ (m : ℕ). namesEarlier m (drop (l .loop .i + 1) (take (a .steps) (a .t3)))) (sym (add-assoc (a .inputs) (l .loop .i) 1))
+          ∙ sym (names-later (a .t3) _ (a .steps) (l .loop .i) (a .inputs + l .loop .i) (search needs) (search needs) (c .before .before .if1 .left) (c .if2 .left)) ∙ l .loop .inv .1,
+    )
 
 returns-3 : tie.Need-returns-3 Inv-loop μ-loop
-returns-3 c = ?
+returns-3 c =
+    let a = c .before .before .args in
+    sym (sym (c .before .loop .inv .1) ∙ names-none (a .t3) (a .steps) (c .before .loop .i) (a .inputs + c .before .loop .i) (c .loop-test .left))
 
 pub names-earlier-spec : {M : Type 1} → statement M
 names-earlier-spec =

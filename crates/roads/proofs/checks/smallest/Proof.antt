@@ -6,7 +6,7 @@ use Prim.Native.Nat.{ℕ, suc, _+_, _-_, _≤_, _<_}
 use native.Mathlib.Omega.{arith}
 use borrow.Author.Needs.{needs}
 use denote.Ref.{now}
-use Rattle.roads.proofs.Tests.{smallest-at, smallest-none}
+use Rattle.roads.proofs.Tests.{smaller, not-smaller, smallest-none}
 use Rattle.roads.proofs.checks.smallest.Statement.{statement}
 use Rattle.roads.proofs.checks.smallest.Tie as tie
 use Rattle.roads.proofs.checks.smallest.Reads as reads
@@ -34,16 +34,22 @@ loop-less : tie.Need-loop-less Inv-loop μ-loop
 loop-less c = search needs
 
 loop-again : tie.Need-loop-again Inv-loop μ-loop
-loop-again c = ?
+loop-again c =
+    let l = c .before .before .before in
+    (omega arith, smaller (now (l .before .args .orders)) (l .loop .i) (l .loop .least) (c .before .before .loop-test .taken) (l .loop .inv .0) (l .loop .inv .1) (c .if1 .taken))
 
 loop-less-2 : tie.Need-loop-less-2 Inv-loop μ-loop
 loop-less-2 c = search needs
 
 loop-again-2 : tie.Need-loop-again-2 Inv-loop μ-loop
-loop-again-2 c = ?
+loop-again-2 c =
+    let l = c .before .before .before in
+    (omega arith, not-smaller (now (l .before .args .orders)) (l .loop .i) (l .loop .least) (c .before .before .loop-test .taken) (l .loop .inv .0) (l .loop .inv .1) (c .if1 .left))
 
 returns : tie.Need-returns Inv-loop μ-loop
-returns c = c .before .loop .inv .1 ∙ ?
+returns c =
+    let e : c .before .loop .i ≡ 0 = omega arith in
+    c .before .loop .inv .1 ∙ ap (λ (k : ℕ). smallest (drop k (now (c .before .before .args .orders)))) e
 
 pub smallest-spec : {M : Type 1} → statement M
 smallest-spec =
