@@ -125,7 +125,8 @@ module _ (c : ParameterCurve) (k n : ℕ) where
 
   pub carried-value : (s : SurfaceDerivatives) (m : ℕ) → carriedWith c s m .value ≡ alongNumbers s m
   carried-value s m =
-      compositeDerivatives-alike Valued Valued (regular traced) (regular plain) (regulars valued) m _ _ (curveNumbers (c .u)) (curveNumbers (c .v)) _ (surfaceNumbers (s .entries))
+      compositeDerivatives-alike Valued Valued (regular traced) (regular plain) (regulars valued) m
+      (λ i. given (curveNumbers (c .u) i)) (λ i. given (curveNumbers (c .v) i)) (curveNumbers (c .u)) (curveNumbers (c .v)) (λ i j. given (surfaceNumbers (s .entries) i j)) (surfaceNumbers (s .entries))
       (λ i l. refl) (λ i l. refl) (λ i j l. refl) m (le-refl m)
 
   pub along-within : (s : SurfaceDerivatives) → s .order ≤ 20 → c .order ≤ 20 → n ≤ s .order → n ≤ c .order →

@@ -3,8 +3,10 @@ use mathlib.Core.Path.{_≡_, refl, sym, ap, _∙_}
 use lib.ListN.{getD}
 use Rattle.roads.specs.Roads.{surfaces}
 use Prim.Native.Nat.{ℕ, suc, _+_, _-_, _≤_, _<_}
+use native.Mathlib.Nat.{not-suc-le-zero}
 use native.Mathlib.Omega.{arith}
 use borrow.Author.Needs.{needs}
+use Rattle.roads.proofs.Tests.{written}
 use Rattle.roads.proofs.surfaces.cut.Statement.{statement}
 use Rattle.roads.proofs.surfaces.cut.Tie as tie
 use Rattle.roads.proofs.surfaces.cut.Reads as reads
@@ -21,7 +23,7 @@ refused-surface-requires : tie.Need-refused-surface-requires Inv-loop μ-loop
 refused-surface-requires c κs = search needs
 
 loop-holds : tie.Need-loop-holds Inv-loop μ-loop
-loop-holds c = ?
+loop-holds c = (omega arith, λ k h. absurd (not-suc-le-zero h))
 
 mul-s : tie.Need-mul-s Inv-loop μ-loop
 mul-s c = search needs
@@ -42,10 +44,15 @@ loop-less : tie.Need-loop-less Inv-loop μ-loop
 loop-less c = search needs
 
 loop-again : tie.Need-loop-again Inv-loop μ-loop
-loop-again c = ?
+loop-again c =
+    let l = c .before .before .before in
+    let a = l .before .before .before .args in
+    (omega arith,
+    written (λ k. surfaces .cut (a .order) (getD (a .jets) k (surfaces .blank))) (l .loop .hand) (surfaces .blank) (l .loop .i)
+    (surfaces .cut (a .order) (getD (a .jets) (l .loop .i) (surfaces .blank))) (search needs) (l .loop .inv .1) refl)
 
 returns : tie.Need-returns Inv-loop μ-loop
-returns c = ?
+returns c = λ i b. c .before .loop .inv .1 i (omega (arith, b, c .loop-test .left))
 
 pub cut-spec : {M : Type 1} → statement M
 cut-spec =
