@@ -10,3 +10,4 @@ pub mod Inputs
 -- the loops of the functions
 pub mod Tests
 pub mod Working
+pub mod Carrying

@@ -10,9 +10,9 @@ use native.Mathlib.Omega.{arith}
 use lib.Dec.{ltb, eqb}
 use lib.ListN.{length, getD, take, drop, set, length-take}
 use lib.Seq.{drop-cons, getD-take, drop-nil, getD-set-same, getD-set-other}
-use borrow.Author.Tests.{lt-ltb, le-ltb}
+use borrow.Author.Tests.{lt-ltb, le-ltb, eq-eqb, ne-eqb}
 use Rattle.roads.specs.declared.Step.{Step}
-use Rattle.roads.specs.Recipe.{someAbove20, smallest, namesEarlier}
+use Rattle.roads.specs.Recipe.{someAbove20, smallest, namesEarlier, wellFormed}
 
 -- ---- the orders from i on
 module _ (l : List ℕ) (i : ℕ) (h : i < length l) where
@@ -102,3 +102,23 @@ pub written : {X : Type 0} (f : ℕ → X) (l : List X) (d : X) (i : ℕ) (v : X
 written f l d i v h p e k b =
     ⊎-elim (λ q. ap (λ (x : ℕ). getD (set l i v) x d) q ∙ getD-set-same l i v d h ∙ e ∙ ap f (sym q))
     (λ q. getD-set-other l i k v d (λ r. lt-irrefl k (omega arith)) ∙ p k q) (eq-or-lt-of-le (omega arith))
+
+-- ---- the tests of a recipe's counts, in turn
+module _ (inputs steps : ℕ) (program : List Step) where
+  pub no-inputs : inputs ≡ 0 → false ≡ wellFormed inputs steps program
+  no-inputs e = rw (eq-eqb inputs 0 e)
+
+  module _ (a : ¬ (inputs ≡ 0)) where
+    pub many-inputs : 4 < inputs → false ≡ wellFormed inputs steps program
+    many-inputs e = rw (ne-eqb inputs 0 a, lt-ltb 4 inputs e)
+
+    module _ (b : inputs ≤ 4) where
+      pub no-steps : steps ≡ 0 → false ≡ wellFormed inputs steps program
+      no-steps e = rw (ne-eqb inputs 0 a, le-ltb 4 inputs b, eq-eqb steps 0 e)
+
+      module _ (d : ¬ (steps ≡ 0)) where
+        pub many-steps : 12 < steps → false ≡ wellFormed inputs steps program
+        many-steps e = rw (ne-eqb inputs 0 a, le-ltb 4 inputs b, ne-eqb steps 0 d, lt-ltb 12 steps e)
+
+        pub all-counts : steps ≤ 12 → namesEarlier inputs program ≡ wellFormed inputs steps program
+        all-counts e = rw (ne-eqb inputs 0 a, le-ltb 4 inputs b, ne-eqb steps 0 d, le-ltb 12 steps e)

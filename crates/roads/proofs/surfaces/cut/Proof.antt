@@ -1,6 +1,6 @@
 -- `roads::surfaces::cut` meets its contract. The invariant: the jets passed are in hand, at the order of work. Assumes nothing.
 use mathlib.Core.Path.{_≡_, refl, sym, ap, _∙_}
-use lib.ListN.{getD}
+use lib.ListN.{length, getD, length-set}
 use Rattle.roads.specs.Roads.{surfaces}
 use Prim.Native.Nat.{ℕ, suc, _+_, _-_, _≤_, _<_}
 use native.Mathlib.Nat.{not-suc-le-zero}
@@ -14,7 +14,7 @@ use Rattle.roads.proofs.surfaces.cut.Lts as lts
 use Rattle.roads.proofs.refused_surface.Reads as refused-surface-reads
 
 abbrev Inv-loop : tie.InvT-loop
-Inv-loop inputs order jets hand₀ i₀ hand i = (i ≤ inputs) × ((k : ℕ) → k < i → getD hand k (surfaces .blank) ≡ surfaces .cut order (getD jets k (surfaces .blank)))
+Inv-loop inputs order jets hand₀ i₀ hand i = (i ≤ inputs) × (length hand ≡ 16) × ((k : ℕ) → k < i → getD hand k (surfaces .blank) ≡ surfaces .cut order (getD jets k (surfaces .blank)))
 
 abbrev μ-loop : tie.MeasureT-loop
 μ-loop inputs order jets hand₀ i₀ hand i = inputs - i
@@ -23,7 +23,7 @@ refused-surface-requires : tie.Need-refused-surface-requires Inv-loop μ-loop
 refused-surface-requires c κs = search needs
 
 loop-holds : tie.Need-loop-holds Inv-loop μ-loop
-loop-holds c = (omega arith, λ k h. absurd (not-suc-le-zero h))
+loop-holds c = (omega arith, refl, λ k h. absurd (not-suc-le-zero h))
 
 mul-s : tie.Need-mul-s Inv-loop μ-loop
 mul-s c = search needs
@@ -46,13 +46,15 @@ loop-less c = search needs
 loop-again : tie.Need-loop-again Inv-loop μ-loop
 loop-again c =
     let l = c .before .before .before in
-    let a = l .before .before .before .args in
-    (omega arith,
-    written (λ k. surfaces .cut (a .order) (getD (a .jets) k (surfaces .blank))) (l .loop .hand) (surfaces .blank) (l .loop .i)
-    (surfaces .cut (a .order) (getD (a .jets) (l .loop .i) (surfaces .blank))) (search needs) (l .loop .inv .1) refl)
+    let a = l .before .before .before .args in (
+      omega arith,
+      length-set (l .loop .hand) (l .loop .i) _ ∙ l .loop .inv .1,
+      written (λ k. surfaces .cut (a .order) (getD (a .t1) k (surfaces .blank))) (l .loop .hand) (surfaces .blank) (l .loop .i)
+          (surfaces .cut (a .order) (getD (a .t1) (l .loop .i) (surfaces .blank))) (omega (arith, l .loop .inv .1)) (l .loop .inv .2) refl,
+    )
 
 returns : tie.Need-returns Inv-loop μ-loop
-returns c = λ i b. c .before .loop .inv .1 i (omega (arith, b, c .loop-test .left))
+returns c = λ i b. c .before .loop .inv .2 i (omega (arith, b, c .loop-test .left))
 
 pub cut-spec : {M : Type 1} → statement M
 cut-spec =
