@@ -1,18 +1,19 @@
 -- The loop that carries every input in turn: the jets so far stand in a list, and the refusal of those left is that of all. Assumes nothing.
 use mathlib.Core.Path.{_≡_, refl, sym, ap, ap₂, _∙_}
-use mathlib.Core.List.{List, [], _∷_, _++_, map, map-append}
-use Prim.Native.Nat.{ℕ, zero, suc, _+_, _≤_, _<_}
-use native.Mathlib.Nat.{suc-ne-zero}
+use mathlib.Core.List.{List, [], _∷_, _++_, map, map-append, map-map}
+use Prim.Native.Nat.{ℕ, zero, suc, _+_, _≤_, _<_, min}
+use native.Mathlib.Nat.{min-le-left}
 use native.Mathlib.Numerals.{add-one}
 use native.Mathlib.Omega.{arith}
-use lib.ListN.{length, getD, set, take, drop, length-set, length-take}
-use lib.Seq.{drop-cons, getD-take, length-take-le, take-suc, take-suc-set}
+use lib.ListN.{length, getD, set, take, drop, length-set, length-take, length-map}
+use lib.Seq.{drop-cons, getD-take, length-take-le, take-suc, take-suc-set, take-all}
 use Rattle.whole.specs.History.{orElse}
 use Rattle.exact.specs.declared.CurveDerivatives.{CurveDerivatives}
 use Rattle.exact.specs.declared.SurfaceDerivatives.{SurfaceDerivatives}
 use Rattle.exact.specs.declared.CurveAnswer.{CurveAnswer}
 use Rattle.roads.specs.Roads.{surfaces, firstRefusal}
 use Rattle.roads.proofs.Tests.{past}
+use Rattle.roads.proofs.Building.{take-four}
 
 module _ (along : SurfaceDerivatives → CurveAnswer) (jets : List SurfaceDerivatives) (count : ℕ) where
   abbrev jet : SurfaceDerivatives → CurveDerivatives
@@ -71,3 +72,19 @@ module _ (along : SurfaceDerivatives → CurveAnswer) (jets : List SurfaceDeriva
     carry-done =
         let e : i ≡ count = omega (arith, w .upto) in
         ap (λ (k : ℕ). take k curves) (sym e) ∙ w .done ∙ ap (λ (k : ℕ). map jet (take k jets)) e
+
+-- ---- the second road, from what the loop answers for the first g of the surfaces
+module _ (along : SurfaceDerivatives → CurveAnswer) (jets : List SurfaceDerivatives) (four : length jets ≡ 4) (inputs g : ℕ) (ge : g ≡ min inputs 4) where
+  abbrev carried : List CurveAnswer
+  carried = map along (take inputs jets)
+
+  pub all-refusals : {x : ℕ} → x ≡ firstRefusal (map along (take g jets)) → x ≡ firstRefusal carried
+  all-refusals e = e ∙ ap (λ (l : List SurfaceDerivatives). firstRefusal (map along l)) (take-four jets four inputs g ge)
+
+  pub all-carried : (l : List CurveDerivatives) → length l ≡ 4 → take g l ≡ map (λ s. along s .jet) (take g jets) →
+      take inputs l ≡ take inputs (map (λ (a : CurveAnswer). a .jet) carried)
+  all-carried l long e =
+      let n : length (map (λ (a : CurveAnswer). a .jet) carried) ≡ length (take inputs jets) = length-map carried (λ (a : CurveAnswer). a .jet) ∙ length-map (take inputs jets) along in
+      sym (take-four l long inputs g ge) ∙ e ∙ ap (map (λ s. along s .jet)) (take-four jets four inputs g ge)
+      ∙ sym (map-map (λ (a : CurveAnswer). a .jet) along (take inputs jets))
+      ∙ sym (take-all inputs (map (λ (a : CurveAnswer). a .jet) carried) (omega (arith, n, length-take inputs jets, min-le-left inputs (length jets))))

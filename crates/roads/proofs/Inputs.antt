@@ -34,18 +34,19 @@ then-true : (t u : Bool) → cond t true u ≡ false → (t ≡ false) × (u ≡
 then-true true u e = let z : _≡_ {A = ℕ} 0 1 = cc in absurd (suc-ne-zero 0 (sym z))
 then-true false u e = (refl, e)
 
-pub record Counts (inputs : ℕ) (steps : List Step) : Type 0 where
+pub record Counts (inputs count : ℕ) (steps : List Step) : Type 0 where
   pub some : 0 < inputs
   pub four : inputs ≤ 4
+  pub twelve : count ≤ 12
   pub names : namesEarlier inputs steps ≡ true
 
-pub counts : (inputs count : ℕ) (steps : List Step) → wellFormed inputs count steps ≡ true → Counts inputs steps
+pub counts : (inputs count : ℕ) (steps : List Step) → wellFormed inputs count steps ≡ true → Counts inputs count steps
 counts inputs count steps e =
     let a = then-false (eqb inputs 0) _ e in
     let b = then-false (ltb 4 inputs) _ (a .1) in
     let d = then-false (eqb count 0) _ (b .1) in
     let f = then-false (ltb 12 count) _ (d .1) in
-    record { some = positive inputs (eqb-false inputs 0 (a .0)); four = ltb-false 4 inputs (b .0); names = f .1 }
+    record { some = positive inputs (eqb-false inputs 0 (a .0)); four = ltb-false 4 inputs (b .0); twelve = ltb-false 12 count (f .0); names = f .1 }
   where
     positive : (x : ℕ) → ¬ (x ≡ 0) → 0 < x
     positive zero h = absurd (h refl)

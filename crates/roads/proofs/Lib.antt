@@ -11,3 +11,4 @@ pub mod Inputs
 pub mod Tests
 pub mod Working
 pub mod Carrying
+pub mod Building

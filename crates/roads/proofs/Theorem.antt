@@ -77,7 +77,7 @@ module _ (r : SurfaceRecipe) (four : length (r .surfaces) ≡ 4) (c : ParameterC
     built-is =
         ap₂ (λ (t u : Bool). cond t (refusedSurface 1) (cond u work (refusedSurface 4))) (checks .0) (checks .1)
 
-    count : Counts (r .inputs) steps
+    count : Counts (r .inputs) (r .steps) steps
     count = counts (r .inputs) (r .steps) steps (checks .1)
 
     calls : (work .refusal ≡ 0) × (alongCurve (work .jet) c n .refusal ≡ 0)

@@ -3,7 +3,7 @@
 ghost use mathlib.Core.Path.{_≡_};
 ghost use mathlib.Core.List.{map};
 ghost use Prim.Native.Nat.{_≤_};
-ghost use lib.ListN.{take};
+ghost use lib.ListN.{length, take};
 ghost use Rattle.exact.specs.Composite.{alongCurve};
 ghost use Rattle.roads.specs.Roads.{firstRefusal, buildThenCarry, carryThenBuild};
 use crate::CurveRecipe;
@@ -28,7 +28,7 @@ fn carry_each(
     order: usize,
 ) -> Carried
     requires { ⌜ count ≤ 4 ⌝ }
-    ensures { λ r. ⌜ (r .refusal ≡ firstRefusal (map (λ s. alongCurve s curve order) (take count jets))) × (r .refusal ≡ 0 → take count (r .curves) ≡ map (λ s. alongCurve s curve order .jet) (take count jets)) ⌝ }
+    ensures { λ r. ⌜ (r .refusal ≡ firstRefusal (map (λ s. alongCurve s curve order) (take count jets))) × (r .refusal ≡ 0 → take count (r .curves) ≡ map (λ s. alongCurve s curve order .jet) (take count jets)) × (length jets ≡ 4) × (length (r .curves) ≡ 4) ⌝ }
 {
     let none = crate::refused_curve(0);
     let blank = none.jet;

@@ -39,7 +39,7 @@ returns c =
     let l = c .before .before .before .before in
     let a = l .before .before .before .args in
     let four : length (a .t1) ≡ 4 = search needs in
-    (carry-stops (λ s. alongCurve s (a .curve) (a .order)) (a .t1) (a .count) four (l .before .before .before .pre) (l .loop .inv) (c .before .before .before .loop-test .taken) (c .before .composite-derivatives .ensures) (c .if1 .taken), λ e. absurd (c .if1 .taken e))
+    (carry-stops (λ s. alongCurve s (a .curve) (a .order)) (a .t1) (a .count) four (l .before .before .before .pre) (l .loop .inv) (c .before .before .before .loop-test .taken) (c .before .composite-derivatives .ensures) (c .if1 .taken), λ e. absurd (c .if1 .taken e), four, l .loop .inv .long)
 
 mul-curves : tie.Need-mul-curves Inv-loop μ-loop
 mul-curves c = search needs
@@ -65,7 +65,7 @@ returns-2 c =
     let l = c .before in
     let a = l .before .before .before .args in
     let four : length (a .t1) ≡ 4 = search needs in
-    (carry-ends (λ s. alongCurve s (a .curve) (a .order)) (a .t1) (a .count) four (l .before .before .before .pre) (l .loop .inv) (c .loop-test .left), λ e. carry-done (λ s. alongCurve s (a .curve) (a .order)) (a .t1) (a .count) four (l .before .before .before .pre) (l .loop .inv) (c .loop-test .left))
+    (carry-ends (λ s. alongCurve s (a .curve) (a .order)) (a .t1) (a .count) four (l .before .before .before .pre) (l .loop .inv) (c .loop-test .left), λ e. carry-done (λ s. alongCurve s (a .curve) (a .order)) (a .t1) (a .count) four (l .before .before .before .pre) (l .loop .inv) (c .loop-test .left), four, l .loop .inv .long)
 
 pub carry-each-spec : {M : Type 1} → statement M
 carry-each-spec =

@@ -23,7 +23,7 @@ array-copy-out-d : tie.Need-array-copy-out-d
 array-copy-out-d c = search needs
 
 returns : tie.Need-returns
-returns c = four-orders (surfaces .order) (surfaces .blank) (c .before .before .before .before .args .t1) (search needs)
+returns c = (four-orders (surfaces .order) (surfaces .blank) (c .before .before .before .before .args .t1) (search needs), search needs)
 
 pub orders-spec : {M : Type 1} → statement M
 orders-spec =
