@@ -1,5 +1,6 @@
 -- the two roads meet
 pub mod Theorem
+pub mod Examples
 -- what its proof is made of, from a single number up
 pub mod Sound
 pub mod Judged
