@@ -30,6 +30,10 @@ fn skip(text: &[u8], from: usize) -> usize {
     at
 }
 
+fn wide(x: u8) -> u64 {
+    x as u64
+}
+
 fn digits(text: &[u8], from: usize, negative: bool) -> Number {
     let mut magnitude: u64 = 0;
     let mut at = from;
@@ -47,7 +51,7 @@ fn digits(text: &[u8], from: usize, negative: bool) -> Number {
         } else {
             0
         };
-        let digit = (b - b'0') as u64;
+        let digit = wide(b - b'0');
         magnitude = std::num::wrapping_add_u64(tens, digit);
         at += 1;
     }
@@ -58,7 +62,7 @@ fn digits(text: &[u8], from: usize, negative: bool) -> Number {
     }
 }
 
-fn number(text: &[u8], from: usize) -> Number {
+fn read_number(text: &[u8], from: usize) -> Number {
     let at = skip(text, from);
     if at < text.len() {
         let b = text[at];
@@ -72,9 +76,17 @@ fn number(text: &[u8], from: usize) -> Number {
 fn value(n: Number) -> i64 {
     if n.magnitude < 9223372036854775808 {
         let a = n.magnitude as i64;
-        if n.negative { 0 - a } else { a }
+        if n.negative { negated(a) } else { a }
     } else {
         -9223372036854775808
+    }
+}
+
+fn negated(a: i64) -> i64 {
+    let z = whole::sub(0, a);
+    match z {
+        whole::Whole::Value(x) => x,
+        whole::Whole::Refused(_) => 0,
     }
 }
 
@@ -84,15 +96,15 @@ struct Entries {
 }
 
 // How many entries are stored, and these.
-fn entries(text: &[u8], from: usize) -> Entries {
-    let count = number(text, from);
+fn read_entries(text: &[u8], from: usize) -> Entries {
+    let count = read_number(text, from);
     let stored = count.magnitude;
     let mut values = [0i64; 231];
     let mut at = count.at;
     let mut i = 0;
     while i < 231 {
         if (i as u64) < stored {
-            let n = number(text, at);
+            let n = read_number(text, at);
             at = n.at;
             values[i] = value(n);
         }
@@ -107,13 +119,13 @@ struct Coordinate {
     at: usize,
 }
 
-fn coordinate(text: &[u8], from: usize, count: u64) -> Coordinate {
+fn read_coordinate(text: &[u8], from: usize, count: u64) -> Coordinate {
     let mut values = [0i64; 21];
     let mut at = from;
     let mut i = 0;
     while i < 21 {
         if (i as u64) < count {
-            let n = number(text, at);
+            let n = read_number(text, at);
             at = n.at;
             values[i] = value(n);
         }
@@ -127,7 +139,7 @@ struct Surfaces {
     at: usize,
 }
 
-fn surfaces(text: &[u8], from: usize, count: usize) -> Surfaces {
+fn read_surfaces(text: &[u8], from: usize, count: usize) -> Surfaces {
     let zeros = [0i64; 231];
     let blank = SurfaceDerivatives {
         order: 0,
@@ -138,8 +150,8 @@ fn surfaces(text: &[u8], from: usize, count: usize) -> Surfaces {
     let mut i = 0;
     while i < 4 {
         if i < count {
-            let order = number(text, at);
-            let e = entries(text, order.at);
+            let order = read_number(text, at);
+            let e = read_entries(text, order.at);
             let values = e.values;
             at = e.at;
             jets[i] = SurfaceDerivatives {
@@ -157,7 +169,7 @@ struct Curves {
     at: usize,
 }
 
-fn curves(text: &[u8], from: usize, count: usize) -> Curves {
+fn read_curves(text: &[u8], from: usize, count: usize) -> Curves {
     let zeros = [0i64; 21];
     let blank = CurveDerivatives {
         order: 0,
@@ -168,9 +180,9 @@ fn curves(text: &[u8], from: usize, count: usize) -> Curves {
     let mut i = 0;
     while i < 4 {
         if i < count {
-            let order = number(text, at);
-            let stored = number(text, order.at);
-            let e = coordinate(text, stored.at, stored.magnitude);
+            let order = read_number(text, at);
+            let stored = read_number(text, order.at);
+            let e = read_coordinate(text, stored.at, stored.magnitude);
             let values = e.values;
             at = e.at;
             jets[i] = CurveDerivatives {
@@ -197,7 +209,7 @@ struct Program {
     at: usize,
 }
 
-fn program(text: &[u8], from: usize, count: usize) -> Program {
+fn read_program(text: &[u8], from: usize, count: usize) -> Program {
     let none = Step {
         operation: Operation::Sum,
         left: 0,
@@ -208,9 +220,9 @@ fn program(text: &[u8], from: usize, count: usize) -> Program {
     let mut i = 0;
     while i < 12 {
         if i < count {
-            let op = number(text, at);
-            let left = number(text, op.at);
-            let right = number(text, left.at);
+            let op = read_number(text, at);
+            let left = read_number(text, op.at);
+            let right = read_number(text, left.at);
             at = right.at;
             steps[i] = Step {
                 operation: operation(op.magnitude),
@@ -270,10 +282,10 @@ fn answered(a: CurveAnswer, before: u64) -> u64 {
 }
 
 fn curve_case(text: &[u8], from: usize, c: Counts) -> Counts {
-    let inputs = number(text, from);
-    let given = curves(text, inputs.at, inputs.magnitude as usize);
-    let steps = number(text, given.at);
-    let p = program(text, steps.at, steps.magnitude as usize);
+    let inputs = read_number(text, from);
+    let given = read_curves(text, inputs.at, inputs.magnitude as usize);
+    let steps = read_number(text, given.at);
+    let p = read_program(text, steps.at, steps.magnitude as usize);
     let jets = given.jets;
     let list = p.steps;
     let recipe = CurveRecipe {
@@ -294,15 +306,15 @@ fn curve_case(text: &[u8], from: usize, c: Counts) -> Counts {
 }
 
 fn surface_case(text: &[u8], from: usize, c: Counts) -> Counts {
-    let inputs = number(text, from);
-    let given = surfaces(text, inputs.at, inputs.magnitude as usize);
-    let steps = number(text, given.at);
-    let p = program(text, steps.at, steps.magnitude as usize);
-    let top = number(text, p.at);
-    let stored = number(text, top.at);
-    let u = coordinate(text, stored.at, stored.magnitude);
-    let v = coordinate(text, u.at, stored.magnitude);
-    let asked = number(text, v.at);
+    let inputs = read_number(text, from);
+    let given = read_surfaces(text, inputs.at, inputs.magnitude as usize);
+    let steps = read_number(text, given.at);
+    let p = read_program(text, steps.at, steps.magnitude as usize);
+    let top = read_number(text, p.at);
+    let stored = read_number(text, top.at);
+    let u = read_coordinate(text, stored.at, stored.magnitude);
+    let v = read_coordinate(text, u.at, stored.magnitude);
+    let asked = read_number(text, v.at);
     let jets = given.jets;
     let list = p.steps;
     let us = u.values;
@@ -333,7 +345,7 @@ fn surface_case(text: &[u8], from: usize, c: Counts) -> Counts {
 }
 
 fn one_case(text: &[u8], c: Counts) -> Counts {
-    let kind = number(text, c.at);
+    let kind = read_number(text, c.at);
     if kind.magnitude == 0 {
         surface_case(text, kind.at, c)
     } else {
