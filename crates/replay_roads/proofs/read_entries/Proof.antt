@@ -1,0 +1,59 @@
+-- `replay_roads::read_entries` is safe and ends. Assumes nothing.
+use Prim.Native.Nat.{ℕ, _+_, _-_, _≤_, _<_}
+use lib.ListN.{length}
+use borrow.Author.Needs.{needs}
+use Rattle.replay_roads.proofs.read_entries.Statement.{statement}
+use Rattle.replay_roads.proofs.read_entries.Tie as tie
+
+abbrev Inv-loop : tie.InvT-loop
+Inv-loop text from stored values₀ at₀ i₀ values at i = i ≤ 231
+
+abbrev μ-loop : tie.MeasureT-loop
+μ-loop text from stored values₀ at₀ i₀ values at i = 231 - i
+
+read-number-requires : tie.Need-read-number-requires Inv-loop μ-loop
+read-number-requires c κs = search needs
+
+loop-holds : tie.Need-loop-holds Inv-loop μ-loop
+loop-holds c = search needs
+
+read-number-requires-2 : tie.Need-read-number-requires-2 Inv-loop μ-loop
+read-number-requires-2 c κs = search needs
+
+value-requires : tie.Need-value-requires Inv-loop μ-loop
+value-requires c κs = search needs
+
+mul-values : tie.Need-mul-values Inv-loop μ-loop
+mul-values c = search needs
+
+array-set-from-values : tie.Need-array-set-from-values Inv-loop μ-loop
+array-set-from-values c = search needs
+
+add-i : tie.Need-add-i Inv-loop μ-loop
+add-i c = search needs
+
+loop-less : tie.Need-loop-less Inv-loop μ-loop
+loop-less c = search needs
+
+loop-again : tie.Need-loop-again Inv-loop μ-loop
+loop-again c = search needs
+
+returns : tie.Need-returns Inv-loop μ-loop
+returns c = search needs
+
+pub read-entries-spec : {M : Type 1} → statement M
+read-entries-spec =
+    tie.close
+    (tie.spec
+    Inv-loop
+    μ-loop
+    read-number-requires
+    loop-holds
+    read-number-requires-2
+    value-requires
+    mul-values
+    array-set-from-values
+    add-i
+    loop-less
+    loop-again
+    returns)

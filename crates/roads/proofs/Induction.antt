@@ -1,0 +1,161 @@
+-- The steps of a recipe, on the surfaces of the first road and on the curves of the second at once: one induction over the steps, over all kinds
+-- of step. Assumes nothing.
+use mathlib.Core.Path.{_≡_, refl, sym, ap, ap₂, _∙_, subst}
+use mathlib.Core.Bool.{Bool, true, false, cond}
+use mathlib.Core.List.{List, [], _∷_, _++_}
+use mathlib.Core.Logic.{⊎-elim}
+use Prim.Native.Nat.{ℕ, zero, suc, _+_, _-_, _≤_, _<_}
+use native.Mathlib.Nat.{le-refl, eq-or-lt-of-le, le-of-suc-le-suc, suc-ne-zero}
+use native.Mathlib.Omega.{arith}
+use lib.Dec.{ltb, eqb}
+use lib.IntN.{ℤ}
+use borrow.Author.Tests.{ltb-true, eq-eqb, ne-eqb}
+use Rattle.whole.specs.Checked.{inRange}
+use Rattle.whole.specs.History.{Event, numbers, every}
+use Rattle.whole.proofs.History.{numbers-append, every-append}
+use Rattle.exact.specs.declared.CurveDerivatives.{CurveDerivatives}
+use Rattle.exact.specs.declared.SurfaceDerivatives.{SurfaceDerivatives}
+use Rattle.exact.specs.declared.ParameterCurve.{ParameterCurve}
+use Rattle.exact.specs.declared.CurveAnswer.{CurveAnswer}
+use Rattle.exact.specs.declared.SurfaceAnswer.{SurfaceAnswer}
+use Rattle.exact.specs.Answer.{refusedCurve, refusedSurface, answeredCurve}
+use Rattle.exact.specs.Judged.{byVerdict}
+use Rattle.exact.specs.Composite.{alongCurve}
+use Rattle.roads.specs.declared.Step.{Step}
+use Rattle.roads.specs.Recipe.{with, namesEarlier, worked}
+use Rattle.roads.specs.Roads.{surfaces, curves}
+use Rattle.roads.specs.Formed.{taken, carriedWith, stepWith, stepsTake}
+use Rattle.roads.proofs.Meeting.{alongNumbers, alongJet, Meets, Orders, result-order, along-within, step-answer, step-meets}
+
+-- ---- tests
+pub both-true : (t u : Bool) → cond t u false ≡ true → (t ≡ true) × (u ≡ true)
+both-true true u e = (refl, e)
+both-true false u e = let z : _≡_ {A = ℕ} 0 1 = cc in absurd (suc-ne-zero 0 (sym z))
+
+-- the tests on two lists of events, one after the other
+pub every-two : (h k : List Event) → every inRange (numbers (h ++ k)) ≡ cond (every inRange (numbers h)) (every inRange (numbers k)) false
+every-two h k = ap (every inRange) (numbers-append h k) ∙ every-append inRange (numbers h) (numbers k)
+
+-- ---- jets in hand
+module _ {X : Type 0} (hand : ℕ → X) (m : ℕ) (x : X) where
+  with-new : with hand m x m ≡ x
+  with-new = ap (λ (t : Bool). cond t x (hand m)) (eq-eqb m m refl)
+
+  with-old : (i : ℕ) → i < m → with hand m x i ≡ hand i
+  with-old i l = ap (λ (t : Bool). cond t x (hand i)) (ne-eqb i m (λ e. omega arith))
+
+-- ---- the result of the steps on surfaces of the order k has the order k
+module _ {k : ℕ} (high : k ≤ 20) where
+  order-goes-on : (s : Step) (ss : List Step) (hand : ℕ → SurfaceDerivatives) (m : ℕ) → ((i : ℕ) → i < m → hand i .order ≡ k) → s .left < m → s .right < m →
+      let a = surfaces .apply (s .operation) (hand (s .left)) (hand (s .right)) in
+      (((i : ℕ) → i < suc m → with hand m (a .jet) i .order ≡ k) → worked surfaces (with hand m (a .jet)) (suc m) ss .refusal ≡ 0 →
+      worked surfaces (with hand m (a .jet)) (suc m) ss .jet .order ≡ k) →
+      (x : ℕ) → a .refusal ≡ x → byVerdict refusedSurface x (worked surfaces (with hand m (a .jet)) (suc m) ss) .refusal ≡ 0 →
+      byVerdict refusedSurface x (worked surfaces (with hand m (a .jet)) (suc m) ss) .jet .order ≡ k
+  order-goes-on s ss hand m h l r next zero e f =
+      next (λ i b. ⊎-elim
+      (λ q. ap (λ (x : ℕ). with hand m a (x) .order) q ∙ ap (λ (x : SurfaceDerivatives). x .order) (with-new hand m a) ∙ result-order high (s .operation) (hand (s .left)) (hand (s .right)) (h (s .left) l) (h (s .right) r) e)
+      (λ q. ap (λ (x : SurfaceDerivatives). x .order) (with-old hand m a i q) ∙ h i q) (eq-or-lt-of-le (le-of-suc-le-suc b))) f
+    where
+      a : SurfaceDerivatives
+      a = surfaces .apply (s .operation) (hand (s .left)) (hand (s .right)) .jet
+  order-goes-on s ss hand m h l r next (suc x) e f = absurd (suc-ne-zero x f)
+
+  pub steps-order : (ss : List Step) (hand : ℕ → SurfaceDerivatives) (m : ℕ) → 0 < m → ((i : ℕ) → i < m → hand i .order ≡ k) → namesEarlier m ss ≡ true →
+      worked surfaces hand m ss .refusal ≡ 0 → worked surfaces hand m ss .jet .order ≡ k
+  unfolding worked namesEarlier
+  steps-order [] hand m p h e r = h (m - 1) (omega arith)
+  steps-order (s ∷ ss) hand m p h e r =
+      let f = both-true (ltb (s .left) m) (cond (ltb (s .right) m) (namesEarlier (suc m) ss) false) e in
+      let g = both-true (ltb (s .right) m) (namesEarlier (suc m) ss) (f .1) in
+      let a = surfaces .apply (s .operation) (hand (s .left)) (hand (s .right)) in
+      order-goes-on s ss hand m h (ltb-true (s .left) m (f .0)) (ltb-true (s .right) m (g .0))
+      (λ hs r. steps-order ss (with hand m (a .jet)) (suc m) (omega arith) hs (g .1) r) (a .refusal) refl r
+
+module _ (c : ParameterCurve) (k n : ℕ) (o : Orders c k n) where
+  -- the first road, from what the steps answer on the surfaces
+  abbrev pub thenCarry : SurfaceAnswer → CurveAnswer
+  thenCarry a = byVerdict refusedCurve (a .refusal) (alongCurve (a .jet) c n)
+
+  -- the last surface carried
+  last-carried : {s : SurfaceDerivatives} {a : CurveDerivatives} {z : ℕ → ℤ} → Meets c k n s a z → alongCurve s c n .refusal ≡ 0 →
+      record { refusal = 0; jet = a } ≡ alongCurve s c n
+  last-carried {s} {a} p e =
+      let eq = along-within c k n s (omega (arith, p .order, o .high)) (o .parameter) (omega (arith, p .order, o .asked)) (o .reach) in
+      ap (λ (x : CurveDerivatives). record { refusal = 0; jet = x }) (p .curve)
+      ∙ by (every inRange (numbers (taken (carriedWith c s) n))) (sym (ap (λ (x : CurveAnswer). x .refusal) eq) ∙ e) ∙ sym eq
+    where
+      by : (t : Bool) → cond t (answeredCurve n (alongNumbers c k n s)) (refusedCurve 9) .refusal ≡ 0 →
+          answeredCurve n (alongNumbers c k n s) ≡ cond t (answeredCurve n (alongNumbers c k n s)) (refusedCurve 9)
+      by true e = refl
+      by false e = absurd (suc-ne-zero 8 e)
+
+  -- the hands of the two roads, and the jets over the integers
+  abbrev pub Hands : (ℕ → SurfaceDerivatives) → (ℕ → CurveDerivatives) → (ℕ → ℕ → ℤ) → ℕ → Type 0
+  Hands hs hc hz m = (i : ℕ) → i < m → Meets c k n (hs i) (hc i) (hz i)
+
+  -- a number more
+  hands-more : {hs : ℕ → SurfaceDerivatives} {hc : ℕ → CurveDerivatives} {hz : ℕ → ℕ → ℤ} (m : ℕ) {s : SurfaceDerivatives} {a : CurveDerivatives} {z : ℕ → ℤ} →
+      Hands hs hc hz m → Meets c k n s a z → Hands (with hs m s) (with hc m a) (with hz m z) (suc m)
+  hands-more {hs} {hc} {hz} m {s} {a} {z} h p i b = ⊎-elim (λ e. at (eqb i m) (eq-eqb i m e)) (λ l. past (eqb i m) l (ne-eqb i m (λ e. omega arith))) (eq-or-lt-of-le (le-of-suc-le-suc b))
+    where
+      at : (t : Bool) → t ≡ true → Meets c k n (cond t s (hs i)) (cond t a (hc i)) (cond t z (hz i))
+      at true e = p
+      at false e = let f : _≡_ {A = ℕ} 0 1 = cc in absurd (suc-ne-zero 0 (sym f))
+
+      past : (t : Bool) → i < m → t ≡ false → Meets c k n (cond t s (hs i)) (cond t a (hc i)) (cond t z (hz i))
+      past false l e = h i l
+      past true l e = let f : _≡_ {A = ℕ} 0 1 = cc in absurd (suc-ne-zero 0 (sym f))
+
+  -- what is to be shown of the steps from the number m on
+  abbrev pub Met : (ℕ → SurfaceDerivatives) → (ℕ → CurveDerivatives) → (ℕ → ℕ → ℤ) → ℕ → List Step → Type 0
+  Met hs hc hz m ss =
+      thenCarry (worked surfaces hs m ss) .refusal ≡ 0 →
+      worked curves hc m ss ≡ cond (every inRange (numbers (stepsTake c n hz m ss))) (thenCarry (worked surfaces hs m ss)) (refusedCurve 9)
+
+  -- one step, and then those after it
+  module _ (s : Step) (ss : List Step) {hs : ℕ → SurfaceDerivatives} {hc : ℕ → CurveDerivatives} {hz : ℕ → ℕ → ℤ} (m : ℕ) (h : Hands hs hc hz m)
+      (l : s .left < m) (r : s .right < m) where
+    abbrev first : SurfaceAnswer
+    first = surfaces .apply (s .operation) (hs (s .left)) (hs (s .right))
+
+    abbrev second : CurveAnswer
+    second = curves .apply (s .operation) (hc (s .left)) (hc (s .right))
+
+    abbrev after : SurfaceAnswer
+    after = worked surfaces (with hs m (first .jet)) (suc m) ss
+
+    abbrev handed : ℕ → ℕ → ℤ
+    handed = with hz m (λ i. stepWith s hz i .value)
+
+    step-met : (Hands (with hs m (first .jet)) (with hc m (alongJet c k n (first .jet))) handed (suc m) →
+        Met (with hs m (first .jet)) (with hc m (alongJet c k n (first .jet))) handed (suc m) ss) →
+        (x : ℕ) → first .refusal ≡ x → thenCarry (byVerdict refusedSurface x after) .refusal ≡ 0 →
+        byVerdict refusedCurve (second .refusal) (worked curves (with hc m (second .jet)) (suc m) ss)
+        ≡ cond (every inRange (numbers (taken (stepWith s hz) n ++ stepsTake c n handed (suc m) ss))) (thenCarry (byVerdict refusedSurface x after)) (refusedCurve 9)
+    step-met next zero e f =
+        ap (λ (a : CurveAnswer). byVerdict refusedCurve (a .refusal) (worked curves (with hc m (a .jet)) (suc m) ss))
+        (step-answer c k n o (s .operation) (h (s .left) l) (h (s .right) r) e)
+        ∙ by (every inRange (numbers (taken (stepWith s hz) n)))
+        (next (hands-more m h (step-meets c k n o (s .operation) (h (s .left) l) (h (s .right) r) e)) f)
+        ∙ ap (λ (t : Bool). cond t (thenCarry after) (refusedCurve 9)) (sym (every-two (taken (stepWith s hz) n) (stepsTake c n handed (suc m) ss)))
+      where
+        by : (t : Bool) → worked curves (with hc m (alongJet c k n (first .jet))) (suc m) ss
+            ≡ cond (every inRange (numbers (stepsTake c n handed (suc m) ss))) (thenCarry after) (refusedCurve 9) →
+            byVerdict refusedCurve (cond t (answeredCurve n (alongNumbers c k n (first .jet))) (refusedCurve 9) .refusal) (worked curves (with hc m (cond t (answeredCurve n (alongNumbers c k n (first .jet))) (refusedCurve 9) .jet)) (suc m) ss)
+            ≡ cond (cond t (every inRange (numbers (stepsTake c n handed (suc m) ss))) false) (thenCarry after) (refusedCurve 9)
+        by true g = g
+        by false g = refl
+    step-met next (suc x) e f = absurd (suc-ne-zero x f)
+
+  pub steps-met : (ss : List Step) (hs : ℕ → SurfaceDerivatives) (hc : ℕ → CurveDerivatives) (hz : ℕ → ℕ → ℤ) (m : ℕ) → 0 < m → Hands hs hc hz m → namesEarlier m ss ≡ true →
+      Met hs hc hz m ss
+  unfolding worked stepsTake namesEarlier numbers every
+  steps-met [] hs hc hz m p h e f = last-carried (h (m - 1) (omega arith)) f
+  steps-met (s ∷ ss) hs hc hz m p h e f =
+      let x = both-true (ltb (s .left) m) (cond (ltb (s .right) m) (namesEarlier (suc m) ss) false) e in
+      let y = both-true (ltb (s .right) m) (namesEarlier (suc m) ss) (x .1) in
+      let a = surfaces .apply (s .operation) (hs (s .left)) (hs (s .right)) in
+      step-met s ss m h (ltb-true (s .left) m (x .0)) (ltb-true (s .right) m (y .0))
+      (λ g. steps-met ss (with hs m (a .jet)) (with hc m (alongJet c k n (a .jet))) (with hz m (λ i. stepWith s hz i .value)) (suc m) (omega arith) g (y .1))
+      (a .refusal) refl f

@@ -1,0 +1,15 @@
+-- the two roads meet
+pub mod Theorem
+pub mod Examples
+-- what its proof is made of, from a single number up
+pub mod Sound
+pub mod Judged
+pub mod Operations
+pub mod Meeting
+pub mod Induction
+pub mod Inputs
+-- the loops of the functions
+pub mod Tests
+pub mod Working
+pub mod Carrying
+pub mod Building

@@ -1,0 +1,87 @@
+-- `roads::roads::carry_each` meets its contract. The invariant: the surfaces passed are carried, and the refusal of those left is that of all. Assumes nothing.
+use mathlib.Core.Path.{_≡_, refl, sym, ap, _∙_}
+use Prim.Native.Nat.{ℕ, _+_, _-_, _≤_, _<_}
+use native.Mathlib.Omega.{arith}
+use lib.ListN.{length, length-set}
+use borrow.Author.Needs.{needs}
+use Rattle.exact.specs.Composite.{alongCurve}
+use Rattle.roads.proofs.Carrying.{Carrying, carry-begins, carry-goes-on, carry-stops, carry-ends, carry-done}
+use Rattle.roads.proofs.roads.carry_each.Statement.{statement}
+use Rattle.roads.proofs.roads.carry_each.Tie as tie
+use Rattle.roads.proofs.roads.carry_each.Reads as reads
+use Rattle.roads.proofs.roads.carry_each.Lts as lts
+use Rattle.exact.proofs.SurfaceDerivatives.composite_derivatives.Reads as composite-derivatives-reads
+use Rattle.roads.proofs.refused_curve.Reads as refused-curve-reads
+
+abbrev Inv-loop : tie.InvT-loop
+Inv-loop count curve order jets curves₀ i₀ curves i = Carrying (λ s. alongCurve s curve order) jets count curves i
+
+abbrev μ-loop : tie.MeasureT-loop
+μ-loop count curve order jets curves₀ i₀ curves i = count - i
+
+refused-curve-requires : tie.Need-refused-curve-requires Inv-loop μ-loop
+refused-curve-requires c κs = search needs
+
+loop-holds : tie.Need-loop-holds Inv-loop μ-loop
+loop-holds c = carry-begins (λ s. alongCurve s (c .before .before .args .curve) (c .before .before .args .order)) (c .before .before .args .t1) (c .before .before .args .count) _ refl
+
+mul-s : tie.Need-mul-s Inv-loop μ-loop
+mul-s c = search needs
+
+array-copy-out-s : tie.Need-array-copy-out-s Inv-loop μ-loop
+array-copy-out-s c = search needs
+
+composite-derivatives-requires : tie.Need-composite-derivatives-requires Inv-loop μ-loop
+composite-derivatives-requires c κs = search needs
+
+returns : tie.Need-returns Inv-loop μ-loop
+returns c =
+    let l = c .before .before .before .before in
+    let a = l .before .before .before .args in
+    let four : length (a .t1) ≡ 4 = search needs in
+    (carry-stops (λ s. alongCurve s (a .curve) (a .order)) (a .t1) (a .count) four (l .before .before .before .pre) (l .loop .inv) (c .before .before .before .loop-test .taken) (c .before .composite-derivatives .ensures) (c .if1 .taken), λ e. absurd (c .if1 .taken e), four, l .loop .inv .long)
+
+mul-curves : tie.Need-mul-curves Inv-loop μ-loop
+mul-curves c = search needs
+
+array-set-from-curves : tie.Need-array-set-from-curves Inv-loop μ-loop
+array-set-from-curves c = search needs
+
+add-i : tie.Need-add-i Inv-loop μ-loop
+add-i c = search needs
+
+loop-less : tie.Need-loop-less Inv-loop μ-loop
+loop-less c = search needs
+
+loop-again : tie.Need-loop-again Inv-loop μ-loop
+loop-again c =
+    let l = c .before .before .before .before .before in
+    let a = l .before .before .before .args in
+    let four : length (a .t1) ≡ 4 = search needs in
+    carry-goes-on (λ s. alongCurve s (a .curve) (a .order)) (a .t1) (a .count) four (l .before .before .before .pre) (l .loop .inv) (c .before .before .before .before .loop-test .taken) (c .before .before .composite-derivatives .ensures) (c .before .if1 .left)
+
+returns-2 : tie.Need-returns-2 Inv-loop μ-loop
+returns-2 c =
+    let l = c .before in
+    let a = l .before .before .before .args in
+    let four : length (a .t1) ≡ 4 = search needs in
+    (carry-ends (λ s. alongCurve s (a .curve) (a .order)) (a .t1) (a .count) four (l .before .before .before .pre) (l .loop .inv) (c .loop-test .left), λ e. carry-done (λ s. alongCurve s (a .curve) (a .order)) (a .t1) (a .count) four (l .before .before .before .pre) (l .loop .inv) (c .loop-test .left), four, l .loop .inv .long)
+
+pub carry-each-spec : {M : Type 1} → statement M
+carry-each-spec =
+    tie.close
+    (tie.spec
+    Inv-loop
+    μ-loop
+    refused-curve-requires
+    loop-holds
+    mul-s
+    array-copy-out-s
+    composite-derivatives-requires
+    returns
+    mul-curves
+    array-set-from-curves
+    add-i
+    loop-less
+    loop-again
+    returns-2)

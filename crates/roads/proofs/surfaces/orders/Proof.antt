@@ -1,0 +1,31 @@
+-- `roads::surfaces::orders` meets its contract. Assumes nothing.
+use mathlib.Core.Path.{_≡_, refl, sym, ap, _∙_}
+use Prim.Native.Nat.{ℕ, suc, _+_, _-_, _≤_, _<_}
+use native.Mathlib.Omega.{arith}
+use borrow.Author.Needs.{needs}
+use Rattle.roads.specs.Roads.{surfaces}
+use Rattle.roads.proofs.Tests.{four-orders}
+use Rattle.roads.proofs.surfaces.orders.Statement.{statement}
+use Rattle.roads.proofs.surfaces.orders.Tie as tie
+use Rattle.roads.proofs.surfaces.orders.Reads as reads
+use Rattle.roads.proofs.surfaces.orders.Lts as lts
+
+array-copy-out-a : tie.Need-array-copy-out-a
+array-copy-out-a c = search needs
+
+array-copy-out-b : tie.Need-array-copy-out-b
+array-copy-out-b c = search needs
+
+array-copy-out-c : tie.Need-array-copy-out-c
+array-copy-out-c c = search needs
+
+array-copy-out-d : tie.Need-array-copy-out-d
+array-copy-out-d c = search needs
+
+returns : tie.Need-returns
+returns c = (four-orders (surfaces .order) (surfaces .blank) (c .before .before .before .before .args .t1) (search needs), search needs)
+
+pub orders-spec : {M : Type 1} → statement M
+orders-spec =
+    tie.close
+    (tie.spec array-copy-out-a array-copy-out-b array-copy-out-c array-copy-out-d returns)

@@ -1,0 +1,50 @@
+-- The numbers that the second road forms, over the integers, which have no bound: each call's entries in the order of work, with what each took.
+-- A jet that is handed on is given numbers: what they took is not counted again. Assumes nothing.
+use mathlib.Core.List.{List, [], _∷_, _++_}
+use Prim.Native.Nat.{ℕ, suc}
+use lib.IntN.{ℤ}
+use lib.ListN.{getD, take}
+use Rattle.whole.specs.History.{Event, Traced, given, numbers}
+use Rattle.calculus.specs.Kind.{regular}
+use Rattle.calculus.specs.Carry.{compositeDerivatives}
+use Rattle.exact.specs.declared.SurfaceDerivatives.{SurfaceDerivatives}
+use Rattle.exact.specs.declared.ParameterCurve.{ParameterCurve}
+use Rattle.exact.specs.Kinds.{traced}
+use Rattle.exact.specs.Order.{curveEntries}
+use Rattle.exact.specs.Answer.{curveNumbers, surfaceNumbers}
+use Rattle.exact.specs.Judged.{histories}
+use Rattle.roads.specs.declared.Step.{Step}
+use Rattle.roads.specs.declared.SurfaceRecipe.{SurfaceRecipe}
+use Rattle.roads.specs.Operation.{curveOperation}
+use Rattle.roads.specs.Recipe.{with}
+use Rattle.roads.specs.Roads.{surfaces}
+
+-- what the entries up to the order n of a jet took
+abbrev pub taken : (ℕ → Traced) → ℕ → List Event
+taken t n = histories (curveEntries t n)
+
+-- a surface's numbers carried along a curve, and an operation on two jets of numbers
+abbrev pub carriedWith : ParameterCurve → SurfaceDerivatives → ℕ → Traced
+carriedWith c s =
+    compositeDerivatives (regular traced) (λ i. given (curveNumbers (c .u) i)) (λ i. given (curveNumbers (c .v) i)) (λ i j. given (surfaceNumbers (s .entries) i j))
+
+abbrev pub stepWith : Step → (ℕ → ℕ → ℤ) → ℕ → Traced
+stepWith s hand = curveOperation traced (s .operation) (λ i. given (hand (s .left) i)) (λ i. given (hand (s .right) i))
+
+module _ (c : ParameterCurve) (n : ℕ) where
+  -- of carrying each surface
+  unfoldable pub carriesTake : List SurfaceDerivatives → List Event
+  carriesTake [] = []
+  carriesTake (s ∷ ss) = taken (carriedWith c s) n ++ carriesTake ss
+
+  -- of the steps on the jets in hand, the first of which makes the number m
+  unfoldable pub stepsTake : (ℕ → ℕ → ℤ) → ℕ → List Step → List Event
+  stepsTake hand m [] = []
+  stepsTake hand m (s ∷ ss) = taken (stepWith s hand) n ++ stepsTake (with hand m (λ i. stepWith s hand i .value)) (suc m) ss
+
+-- all numbers that the second road forms, in the order of work
+abbrev pub numbersFormed : SurfaceRecipe → ParameterCurve → ℕ → List ℤ
+numbersFormed r c n =
+    let inputs = take (r .inputs) (r .surfaces) in
+    numbers (carriesTake c n inputs
+    ++ stepsTake c n (λ k i. carriedWith c (getD inputs k (surfaces .blank)) i .value) (r .inputs) (take (r .steps) (r .program)))

@@ -1,0 +1,4 @@
+pub mod Operation
+pub mod Recipe
+pub mod Roads
+pub mod Formed

@@ -1,0 +1,66 @@
+-- A recipe (document 01's term): from 1 to 4 jets, numbered from 0, 1 to 12 steps, numbered on from them, each the sum, difference, product or
+-- quotient of two earlier jets. One definition over the kind of jet. Assumes nothing.
+use mathlib.Core.Bool.{Bool, true, false, cond}
+use mathlib.Core.List.{List, [], _∷_, map}
+use Prim.Native.Nat.{ℕ, zero, suc, _-_, min}
+use lib.Dec.{ltb, eqb}
+use lib.ListN.{getD, take}
+use Rattle.exact.specs.Judged.{byVerdict}
+use Rattle.roads.specs.declared.Operation.{Operation}
+use Rattle.roads.specs.declared.Step.{Step}
+
+-- what a recipe asks of its jets, of the kind J, and of the answers to its steps, of the kind A
+pub record Jets (J A : Type 0) : Type 0 where
+  pub order : J → ℕ
+  -- the same jet at a smaller order: the entries past it are not read
+  pub cut : ℕ → J → J
+  -- what stands past the end of a list of jets
+  pub blank : J
+  pub apply : Operation → J → J → A
+  pub refusal : A → ℕ
+  pub jet : A → J
+  pub answered : J → A
+  pub refused : ℕ → A
+
+-- the jets in hand, by number, and j as the number m
+abbrev pub with : {J : Type 0} → (ℕ → J) → ℕ → J → ℕ → J
+with hand m j i = cond (eqb i m) j (hand i)
+
+-- each step names numbers before its own; m is the first one's
+unfoldable pub namesEarlier : ℕ → List Step → Bool
+namesEarlier m [] = true
+namesEarlier m (s ∷ ss) = cond (ltb (s .left) m) (cond (ltb (s .right) m) (namesEarlier (suc m) ss) false) false
+
+-- 1 to 4 jets, 1 to 12 steps, and each step names earlier numbers
+abbrev pub wellFormed : ℕ → ℕ → List Step → Bool
+wellFormed inputs steps program =
+    cond (eqb inputs 0) false (cond (ltb 4 inputs) false (cond (eqb steps 0) false (cond (ltb 12 steps) false (namesEarlier inputs program))))
+
+-- of the orders of the jets that are there: one is above 20; and the smallest of orders up to 20
+unfoldable pub someAbove20 : List ℕ → Bool
+someAbove20 [] = false
+someAbove20 (n ∷ ns) = cond (ltb 20 n) true (someAbove20 ns)
+
+unfoldable pub smallest : List ℕ → ℕ
+smallest [] = 20
+smallest (n ∷ ns) = min n (smallest ns)
+
+module _ {J A : Type 0} (K : Jets J A) where
+  -- the steps in turn, on the jets before the number m: each adds its jet to those in hand, unless it is refused, which is the outcome then;
+  -- the last number's jet is the result
+  unfoldable pub worked : (ℕ → J) → ℕ → List Step → A
+  worked hand m [] = K .answered (hand (m - 1))
+  worked hand m (s ∷ ss) =
+      let a = K .apply (s .operation) (hand (s .left)) (hand (s .right)) in
+      byVerdict (K .refused) (K .refusal a) (worked (with hand m (K .jet a)) (suc m) ss)
+
+  -- the jets that are there have orders up to 20, or it is 1; the recipe is well formed, or it is 4; and every step works at the smallest
+  -- order of all the jets given, used or not
+  abbrev pub built : ℕ → List J → ℕ → List Step → A
+  built inputs jets steps program =
+      let given = take inputs jets in
+      let orders = map (K .order) given in
+      cond (someAbove20 orders) (K .refused 1)
+      (cond (wellFormed inputs steps (take steps program))
+      (worked (λ i. K .cut (smallest orders) (getD given i (K .blank))) inputs (take steps program))
+      (K .refused 4))
