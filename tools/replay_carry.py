@@ -227,20 +227,27 @@ def cases():
         add(1, 1, [0, 1], surface_of(e01=-(2**62)), [], [0, 2 + over])
         add(1, 1, [0, 1], surface_of(e01=LOW), [], [0, 1 - 2 * over])
         add(1, 1, [0, 1], surface_of(e10=3037000499), [0, 3037000499 + over])
+        add(1, 1, [1], surface_of(e10=-1, e01=2**62), [0, 1], [0, 1 + over])
+        add(1, 1, [1], surface_of(e10=2**62, e01=-1), [0, 1 + over], [0, 1])
         # the sum over masks, from above and from below
         add(1, 1, [0, 1], surface_of(e10=HIGH, e01=over), [0, 1], [0, 1])
         add(1, 1, [0, 1], surface_of(e10=LOW, e01=-over), [0, 1], [0, 1])
-        # a sum that comes back: the order of the masks decides
+        # sums that come back: the order of the masks decides, and which part a mask's bit is for
         add(2, 2, [1, 2], surface_of(e20=HIGH, e11=over, e02=-2 * over), [0, 1], [0, 1])
+        add(3, 3, [3], surface_of(e20=HIGH, e11=1, e02=HIGH), [0, 1, 1], [0, 1 - 2 * over, 2 * over - 1])
         # by the multiplicity: 3 for the list (2, 1)
         third = HIGH // 3
         add(3, 3, [2, 3], surface_of(e20=third + over), [0, 1, 1])
         add(3, 3, [2, 3], surface_of(e20=-third - over), [0, 1, 1])
+        add(3, 3, [3], surface_of(e10=-5, e20=third + over), [0, 1, 1, 1])
         # the running total: over lists of one len, and from one len to the next
         add(2, 2, [1, 2], surface_of(e10=HIGH, e20=over), [0, 1, 1])
         add(2, 2, [1, 2], surface_of(e10=LOW, e20=-over), [0, 1, 1])
         add(4, 4, [3, 4], surface_of(e10=over, e20=1), [0, 1, 1, 2**61 - 1, 1])
         add(4, 4, [3, 4], surface_of(e10=-1 - over, e20=-1), [0, 1, 1, 2**61 - 1, 1])
+        # totals that come back: the order of the lists decides, and that of the lens
+        add(4, 4, [4], surface_of(e10=HIGH - 2, e20=1 - 2 * over), [0, 1, 1, -1, 1])
+        add(3, 3, [3], surface_of(e10=HIGH, e20=2 * over - 1, e30=3 - 6 * over), [0, 1, 1, 1])
         # only a later order is refused, or only an earlier one
         add(3, 3, range(4), surface_of(e30=2**62), [0, 1 + over])
         add(3, 3, range(4), surface_of(e00=4, e10=HIGH, e01=over), [0, 1, 0, 0], [0, 1, 0, 0])
