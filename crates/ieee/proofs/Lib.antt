@@ -1,0 +1,14 @@
+pub mod Tests
+pub mod Finite
+pub mod Isqrt
+pub mod Recurrence
+pub mod Scaled
+pub mod Rounded
+pub mod Assembled
+pub mod Fields
+pub mod Units
+pub mod Cases
+pub mod Middle
+pub mod Counted
+pub mod Laws
+pub mod Examples

@@ -1,0 +1,16 @@
+-- What a function with one float for its answer returns: the float, or the number of a refusal. Assumes nothing.
+use mathlib.Core.Bool.{cond}
+use Prim.Native.Nat.{ℕ}
+use lib.Ieee.{Float}
+use lib.Ieee.Scale.{finite}
+use Rattle.ieee.specs.SquareRoot.{squareRoot}
+use Rattle.ieee.specs.declared.Real.{Real}
+use Rattle.ieee.specs.declared.Real.the-variants.{Value, Refused}
+
+-- a float that is to be returned: 10 where it is not finite
+abbrev pub returned : Float → Real
+returned y = cond (finite y) (Value y) (Refused 10)
+
+-- 5 where the input is not finite, 10 where the root is not: that of a negative number
+abbrev pub rootAnswer : Float → Real
+rootAnswer x = cond (finite x) (returned (squareRoot x)) (Refused 5)

@@ -1,0 +1,3 @@
+pub mod SquareRoot
+pub mod Answer
+pub mod Nearest

@@ -1,0 +1,51 @@
+// Floats of 64 bits: whether one is finite, and the square root of IEEE 754, worked with whole numbers.
+ghost use mathlib.Core.Path.{_≡_};
+ghost use lib.Ieee.Scale.{finite};
+ghost use Rattle.ieee.specs.SquareRoot.{squareRoot};
+ghost use Rattle.ieee.specs.Answer.{rootAnswer};
+
+mod root;
+
+// A float, or the number of a refusal.
+pub enum Real {
+    Value(f64),
+    Refused(u8),
+}
+
+// Neither a NaN nor an infinity: only such a number less itself is a number again.
+pub fn is_finite(x: f64) -> bool
+    ensures { λ r. ⌜ r ≡ finite x ⌝ }
+{
+    let d = x - x;
+    d == d
+}
+
+// The root rounded to nearest, ties to even.
+pub fn sqrt(x: f64) -> f64
+    ensures { λ r. ⌜ r ≡ squareRoot x ⌝ }
+{
+    if 0.0 < x {
+        if is_finite(x) {
+            return root::of_positive(x);
+        }
+        return x;
+    }
+    if x == 0.0 {
+        return x;
+    }
+    0.0 / 0.0
+}
+
+// The root, refused where the input (5) or the root (10) is not finite.
+pub fn square_root(x: f64) -> Real
+    ensures { λ r. ⌜ r ≡ rootAnswer x ⌝ }
+{
+    if is_finite(x) {
+        let y = sqrt(x);
+        if is_finite(y) {
+            return Real::Value(y);
+        }
+        return Real::Refused(10);
+    }
+    Real::Refused(5)
+}
