@@ -7,3 +7,10 @@ pub mod Lists
 pub mod Member
 pub mod Successor
 pub mod Walked
+pub mod Out
+pub mod Mult
+pub mod Runs
+pub mod Exact
+pub mod Triangle
+pub mod Stirling
+pub mod Figures

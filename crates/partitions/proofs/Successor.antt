@@ -5,16 +5,16 @@ use mathlib.Core.Bool.{Bool, true, false, cond, true≢false}
 use mathlib.Core.List.{List, [], _∷_, _++_, map, nil≢cons, tail-eq-of-cons-eq}
 use Prim.Native.Nat.{ℕ, zero, suc, _+_, _-_, _*_, _≤_, _<_, min}
 use native.Mathlib.Omega.{arith}
-use native.Mathlib.Nat.{mul-le-mul-right, mul-le-mul-left}
+use native.Mathlib.Nat.{mul-le-mul-right}
 use lib.Dec.{leb}
 use lib.ListN.{length}
 use Rattle.partitions.specs.Parts.{total, parts}
 use Rattle.partitions.specs.Steps.{greatest, canInit, hasNext, nextOf}
-use Rattle.partitions.specs.Walk.{same, from}
+use Rattle.partitions.specs.Walk.{from}
 use Rattle.partitions.proofs.Tests.{by-leb, by-eqb, eqb-yes}
 use Rattle.partitions.proofs.Down.{Down, none, one, long}
 use Rattle.partitions.proofs.Lists.{Every, nil, and, every-weaken, Is, sound, complete, Falling, end, then, falling, Greater}
-use Rattle.partitions.proofs.Member.{by-same, same-refl, same-no, greater-not, from-here, from-there, from-every, from-member}
+use Rattle.partitions.proofs.Member.{by-same, greater-not, from-here, from-there, from-every, from-member}
 
 -- ---- going by cases on the test
 pub by-can : (k n m : ℕ) (P : Bool → Type 0) → (k ≤ n → n ≤ m * k → P true) → (n < k → P false) → (m * k < n → P false) → P (canInit k n m)
@@ -49,6 +49,9 @@ none-high k m n h = nothing (λ l i. no l i) (sound k m n)
     no : (l : List ℕ) → ¬ (Is k m n l)
     no l i = let e : m * length l ≡ m * k = ap (λ x. m * x) (i .long) in omega (arith, e, bounded (i .down), i .sums)
 
+head-of : {P : List ℕ → Type 0} {x : List ℕ} {xs : List (List ℕ)} → Every P (x ∷ xs) → P x
+head-of (and p ps) = p
+
 -- ---- the greatest list is the first
 first-group : (k m n : ℕ) → List (List ℕ)
 first-group k m n = cond (leb (suc m) n) (map (λ l. suc m ∷ l) (parts k (suc m) (n - suc m))) []
@@ -59,7 +62,9 @@ parts-suc k m n = refl
 
 group-yes : (k m n : ℕ) → suc m ≤ n → first-group k m n ≡ map (λ l. suc m ∷ l) (parts k (suc m) (n - suc m))
 unfolding first-group
-group-yes k m n h = by-leb (suc m) n (λ b. cond b (map (λ l. suc m ∷ l) (parts k (suc m) (n - suc m))) [] ≡ map (λ l. suc m ∷ l) (parts k (suc m) (n - suc m))) (λ _. refl) (λ g. absurd (omega arith))
+group-yes k m n h =
+    by-leb (suc m) n (λ b. cond b (map (λ l. suc m ∷ l) (parts k (suc m) (n - suc m))) [] ≡ map (λ l. suc m ∷ l) (parts k (suc m) (n - suc m)))
+    (λ _. refl) (λ g. absurd (omega arith))
 
 group-none : (k m n : ℕ) → n < suc m + k → first-group k m n ≡ []
 unfolding first-group
@@ -99,6 +104,10 @@ first (suc k) (suc m) n h g =
     within : (k m n : ℕ) → suc k ≤ n → n < suc m + k → n ≤ suc m * suc k → n ≤ m * suc k
     within k zero n h f g = absurd (omega arith)
     within k (suc m) n h f g = omega arith
+
+-- the greatest is one of the lists
+pub greatest-is : (k m n : ℕ) → k ≤ n → n ≤ m * k → Is k m n (greatest k n m)
+greatest-is k m n h g = let f = first k m n h g in head-of (subst (Every (Is k m n)) (f .1) (sound k m n))
 
 -- by the test: the greatest is the first, or there is none
 pub greatest-first : (k m n : ℕ) → canInit k n m ≡ true → (r : List (List ℕ)) × (parts k m n ≡ greatest k n m ∷ r)
@@ -200,9 +209,6 @@ from-chain l empty = empty
 from-chain l (last {x = x} h) = by-same l x (λ b. Chain (cond b (x ∷ []) [])) (λ _. last h) (λ _. empty)
 from-chain l (step {x = x} {y = y} {r = r} h e c) = by-same l x (λ b. Chain (cond b (x ∷ y ∷ r) (from l (y ∷ r)))) (λ _. step h e c) (λ _. from-chain l c)
 
-head-of : {P : List ℕ → Type 0} {x : List ℕ} {xs : List (List ℕ)} → Every P (x ∷ xs) → P x
-head-of (and p ps) = p
-
 tail-of : {P : List ℕ → Type 0} {x : List ℕ} {xs : List (List ℕ)} → Every P (x ∷ xs) → Every P xs
 tail-of (and p ps) = ps
 
@@ -262,7 +268,8 @@ pub next-length : (l : List ℕ) → length (nextOf l) ≡ length l
 unfolding nextOf
 next-length [] = refl
 next-length (a ∷ t) =
-    each (a ∷ nextOf t) ((a - 1) ∷ greatest (length t) (total t + 1) (a - 1)) (a ∷ t) (hasNext t) (canInit (length t) (total t + 1) (a - 1)) (ap suc (next-length t)) (ap suc (greatest-length (length t) _ _)) refl
+    each (a ∷ nextOf t) ((a - 1) ∷ greatest (length t) (total t + 1) (a - 1)) (a ∷ t) (hasNext t) (canInit (length t) (total t + 1) (a - 1))
+    (ap suc (next-length t)) (ap suc (greatest-length (length t) _ _)) refl
   where
     each : (x y z : List ℕ) {n : ℕ} (b c : Bool) → length x ≡ n → length y ≡ n → length z ≡ n → length (cond b x (cond c y z)) ≡ n
     each x y z true c p q r = p

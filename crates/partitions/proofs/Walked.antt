@@ -1,22 +1,20 @@
 -- The walk as a whole: a step hands out the first of the lists that remain and leaves the others, so that the walk gives each list once,
 -- greatest first, and says that it has ended after exactly as many steps as there are lists. Assumes nothing.
-use mathlib.Core.Path.{_≡_, refl, sym, _∙_, ap, ap₂, subst}
+use mathlib.Core.Path.{_≡_, refl, sym, _∙_, ap, subst}
 use mathlib.Core.Bool.{Bool, true, false, cond, true≢false}
 use mathlib.Core.List.{List, [], _∷_, _++_, map, nil≢cons}
-use Prim.Native.Nat.{ℕ, zero, suc, _+_, _-_, _*_, _≤_, _<_}
+use Prim.Native.Nat.{ℕ, zero, suc, _-_, _*_, _≤_, _<_}
 use native.Mathlib.Omega.{arith}
 use native.Mathlib.Nat.{suc-ne-zero}
 use lib.Dec.{ltb, eqb}
-use lib.ListN.{length, take, drop, replicate}
-use Rattle.partitions.specs.Parts.{total, parts, lists}
-use Rattle.partitions.specs.Walk.{from, padded, refusal, blank, started, startedBy, startedAt, stepped, steppedBy, refused, atEnd, remaining, moved, handed}
+use lib.ListN.{length, getD, take, drop, replicate}
+use Rattle.partitions.specs.Parts.{parts, lists}
+use Rattle.partitions.specs.Walk.{from, padded, refusal, started, startedBy, startedAt, stepped, steppedBy, refused, atEnd, remaining, moved, handed}
 use Rattle.partitions.specs.Steps.{greatest, hasNext, nextOf}
 use Rattle.partitions.specs.declared.CompositionIter.{CompositionIter}
 use Rattle.partitions.specs.declared.Composition.{Composition}
-use Rattle.partitions.specs.declared.Started.{Started}
 use Rattle.partitions.specs.declared.Stepped.{Stepped}
 use Rattle.partitions.proofs.Tests.{by-leb, by-eqb}
-use Rattle.partitions.proofs.Lists.{Is}
 use Rattle.partitions.proofs.Member.{from-is, from-head, from-here}
 use Rattle.partitions.proofs.Successor.{first, greatest-length, by-next, next-is}
 
@@ -219,20 +217,33 @@ whole w (l ∷ ls) e f g =
       subst (λ x. stepped (walked (length ls) (x .walk)) ≡ atEnd (walked (length ls) (x .walk))) (sym s) (i .1),
     )
 
+each : (i : ℕ) (w : CompositionIter) (ls : List (List ℕ)) → refusal (w .order) (w .len) ≡ 0 → remaining w ≡ ls → i < length ls →
+    stepped (walked i w) .item ≡ answer (getD ls i [])
+unfolding walked
+each i w [] e f h = absurd (omega arith)
+each zero w (l ∷ ls) e f h = ap (λ x. x .item) (stepped-first w l ls e f)
+each (suc i) w (l ∷ ls) e f h =
+    ap (λ x. stepped (walked i (x .walk)) .item) (stepped-first w l ls e f)
+    ∙ each i (moved w ls) ls (moved-range w ls e) (moved-remains w l ls f) (omega arith)
+
 -- for 1 ≤ len ≤ order ≤ 20 (`in-range`): the steps hand out the lists in their order, each once, and the step after them says that the walk has ended
 module _ (order len : ℕ) (e : refusal order len ≡ 0) where
+  started-range : refusal (started order len .walk .order) (started order len .walk .len) ≡ 0
+  started-range = ap (λ s. refusal (s .walk .order) (s .walk .len)) (started-is order len e) ∙ e
+
   through : (items (length (lists order len)) (started order len .walk) ≡ map answer (lists order len))
       × (stepped (walked (length (lists order len)) (started order len .walk)) ≡ atEnd (walked (length (lists order len)) (started order len .walk)))
   through =
       let h = range-of order len e in
       let f = first len order order (h .1) (least-times order len (h .0)) in
-      whole (started order len .walk) (lists order len)
-      (ap (λ s. refusal (s .walk .order) (s .walk .len)) (started-is order len e) ∙ e)
-      (started-remains order len e)
-      (λ z. absurd (nil≢cons (sym z ∙ f .1)))
+      whole (started order len .walk) (lists order len) started-range (started-remains order len e) (λ z. absurd (nil≢cons (sym z ∙ f .1)))
 
   pub walk-gives : items (length (lists order len)) (started order len .walk) ≡ map answer (lists order len)
   walk-gives = through .0
 
   pub walk-ends : stepped (walked (length (lists order len)) (started order len .walk)) .item .ended ≡ true
   walk-ends = ap (λ s. s .item .ended) (through .1)
+
+  -- the step after i steps hands out list i
+  pub walk-at : (i : ℕ) → i < length (lists order len) → stepped (walked i (started order len .walk)) .item ≡ answer (getD (lists order len) i [])
+  walk-at i h = each i (started order len .walk) (lists order len) started-range (started-remains order len e) h
