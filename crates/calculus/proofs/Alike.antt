@@ -1,13 +1,15 @@
 -- The formulas on jets keep a relation that the operations of two kinds keep: results are related as far as the jets are. Assumes nothing.
+use mathlib.Core.Path.{sym, subst₂}
 use Prim.Native.Nat.{ℕ, suc, _+_, _-_, _*_, _<_, _≤_}
 use native.Mathlib.Nat.{sub-zero}
 use native.Mathlib.Omega.{arith}
 use Rattle.calculus.specs.Kind.{Kind, Module, regular}
+use Rattle.calculus.specs.Rising.{before, beforeEntry}
 use Rattle.calculus.specs.Choose.{choose}
 use Rattle.calculus.specs.Curve
 use Rattle.calculus.specs.Surface
 use Rattle.calculus.proofs.Related.{Related, RelatedModules, regulars, CurvesAlike, SurfacesAlike, inTurn-alike, inRows-alike}
-use Rattle.calculus.proofs.Rising.{rising-alike, risingRows-alike}
+use Rattle.calculus.proofs.Rising.{before-below, rising-alike, earlier-row, same-row, risingRows-alike}
 
 -- ---- derivatives: of any entries
 module _ {A B : Type 0} (R : A → B → Type 0) where
@@ -71,6 +73,13 @@ module _ {A B : Type 0} (R : A → B → Type 0) (K : Kind A) (L : Kind B) (r : 
         rising-alike (λ i. R) (K .nought) (L .nought) (Curve.quotientEntry K a c) (Curve.quotientEntry L b d) (suc n)
         (λ m l f g h. r .over _ _ _ _ (owed-alike m (omega arith) f g h) (q 0 (omega arith))) m (omega arith)
 
+    -- what is divided, at each entry
+    pub dividend-alike : CurvesAlike R n (Curve.dividend K a c) (Curve.dividend L b d)
+    dividend-alike m l =
+        owed-alike m l (before (K .nought) (Curve.quotientEntry K a c) m) (before (L .nought) (Curve.quotientEntry L b d) m)
+        (λ i k. subst₂ R (sym (before-below (K .nought) (Curve.quotientEntry K a c) m i k)) (sym (before-below (L .nought) (Curve.quotientEntry L b d) m i k))
+        (quotient-alike i (omega arith)))
+
   module _ (a c : ℕ → ℕ → A) (b d : ℕ → ℕ → B) (p : SurfacesAlike R n a b) (q : SurfacesAlike R n c d) where
     pub surface-product-alike : SurfacesAlike R n (Surface.product K a c) (Surface.product L b d)
     surface-product-alike = surface-productBy-alike R R (regular K) (regular L) (regulars r) n R R (K .times) (L .times) (r .times) a c b d p q
@@ -94,5 +103,17 @@ module _ {A B : Type 0} (R : A → B → Type 0) (K : Kind A) (L : Kind B) (r : 
 
     pub surface-quotient-alike : SurfacesAlike R n (Surface.quotient K a c) (Surface.quotient L b d)
     surface-quotient-alike =
-        risingRows-alike R (K .nought) (L .nought) (Surface.quotientEntry K a c) (Surface.quotientEntry L b d) n
+        risingRows-alike (λ i j. R) (K .nought) (L .nought) (Surface.quotientEntry K a c) (Surface.quotientEntry L b d) n
         (λ i j l f g above left. r .over _ _ _ _ (surface-owed-alike i j l f g above left) (q 0 0 (omega arith)))
+
+    pub surface-dividend-alike : SurfacesAlike R n (Surface.dividend K a c) (Surface.dividend L b d)
+    surface-dividend-alike m k l =
+        surface-owed-alike m k l (beforeEntry (K .nought) s m k) (beforeEntry (L .nought) t m k)
+        (λ i j v w. subst₂ R (sym (earlier-row (K .nought) s m k i j v)) (sym (earlier-row (L .nought) t m k i j v)) (surface-quotient-alike i j w))
+        (λ j v. subst₂ R (sym (same-row (K .nought) s m k j v)) (sym (same-row (L .nought) t m k j v)) (surface-quotient-alike m j (omega arith)))
+      where
+        s : (ℕ → ℕ → A) → ℕ → ℕ → A
+        s = Surface.quotientEntry K a c
+
+        t : (ℕ → ℕ → B) → ℕ → ℕ → B
+        t = Surface.quotientEntry L b d

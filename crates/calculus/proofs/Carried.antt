@@ -7,9 +7,9 @@ use Prim.Native.Nat.{ℕ, zero, suc}
 use native.Mathlib.Omega.{arith}
 use lib.Dec.{eqb}
 use lib.IntN.{ℤ, pos}
-use Rattle.calculus.proofs.Ints.{_⊕_, _⊗_, sum, over}
+use Rattle.calculus.proofs.Ints.{_⊕_, _⊗_, sum}
 use Rattle.calculus.proofs.Jets.{Curve}
-use Rattle.partitions.specs.Parts.{total, fact, parts, multiplicity}
+use Rattle.partitions.specs.Parts.{total, fact, multiplicity}
 use Rattle.calculus.proofs.Space.{Space, tensor, carry}
 use Rattle.calculus.proofs.Ring.{zero-add, mul-zero, mul-one, mul-assoc}
 use Rattle.calculus.proofs.Sums.{sum-cong, sum-front, sum-linear, through-sum, times-right, Linear}

@@ -1,19 +1,19 @@
 -- Carrying keeps a relation that the operations of two kinds of scalar and of entry keep: as far as the field and the curve are related.
 -- Assumes nothing.
-use mathlib.Core.Path.{_≡_, refl, subst₂}
+use mathlib.Core.Path.{_≡_, refl}
 use mathlib.Core.Bool.{Bool, true, false, cond}
 use mathlib.Core.List.{List, [], _∷_}
-use Prim.Native.Nat.{ℕ, zero, suc, _+_, _-_, _/_, _%_, _^_, _<_, _≤_}
+use Prim.Native.Nat.{ℕ, zero, suc, _-_, _/_, _%_, _^_, _≤_}
 use native.Mathlib.Nat.{le-refl}
 use native.Mathlib.Omega.{arith}
 use lib.Dec.{eqb}
 use lib.ListN.{length}
-use Rattle.partitions.specs.Parts.{lists, multiplicity}
-use Rattle.calculus.specs.Kind.{Kind, Module}
+use Rattle.partitions.specs.Parts.{multiplicity}
+use Rattle.calculus.specs.Kind.{Module}
 use Rattle.calculus.specs.Carry.{digits, factors, tensor, summand, throughLen, fieldDerivative, fieldDerivatives, ones, surfaceEntry, coordinates, compositeDerivative, compositeDerivatives}
 use Rattle.calculus.proofs.Related.{RelatedModules, CurvesAlike, SurfacesAlike, inTurn-alike, alongList-alike}
 use Rattle.calculus.proofs.Desc.{Down, none, one}
-use Rattle.calculus.proofs.Lists.{Is, sound}
+use Rattle.calculus.proofs.Lists.{sound}
 
 pub digits-length : (d : ℕ) (l : List ℕ) (mask : ℕ) → length (digits d l mask) ≡ length l
 unfolding digits
@@ -21,7 +21,7 @@ digits-length d [] mask = refl
 digits-length d (a ∷ l) mask = rw (digits-length d l (mask / d)) refl
 
 pub ones-le : (l : List ℕ) (mask : ℕ) → ones (digits 2 l mask) ≤ length l
-unfolding ones digits
+unfolding digits
 ones-le [] mask = omega arith
 ones-le (a ∷ l) mask = omega (arith, ones-le l (mask / 2))
 

@@ -1,12 +1,12 @@
--- Jets with the same entries up to order n agree to order n.
--- Assumes nothing.
+-- Jets with the same entries up to order n have the same derivatives by any n variables. Assumes nothing.
 use mathlib.Core.Path.{_≡_, refl, subst}
-use Prim.Native.Nat.{ℕ, zero, suc, _+_, _-_, _≤_}
+use mathlib.Core.List.{List, [], _∷_}
+use Prim.Native.Nat.{ℕ, zero, suc, _-_, _≤_}
 use native.Mathlib.Omega.{arith}
 use native.Mathlib.Nat.{suc-sub-suc}
-use Rattle.calculus.proofs.Jets.{Surface}
+use lib.ListN.{length}
 use Rattle.calculus.proofs.Jet.{Jet, derive, value, jets, Same}
-use Rattle.calculus.proofs.Agree.{Agree, value as value-only, also}
+use Rattle.calculus.proofs.Plain.{along, entryOf}
 
 same-value : (d n : ℕ) (s t : Jet d) → Same d n s t → value d s ≡ value d t
 same-value zero n s t h = h
@@ -20,9 +20,8 @@ same-derive (suc d) (suc k) n s t h = λ i l. same-derive d k (n - i) (s i) (t i
     one-more : (n i : ℕ) → i ≤ n → suc n - i ≡ suc (n - i)
     one-more n i l = omega arith
 
-pub agree : (d n : ℕ) (s t : Jet d) → Same d n s t → Agree (jets d) n s t
-agree d zero s t h = value-only (same-value d 0 s t h)
-agree d (suc n) s t h = also (same-value d (suc n) s t h) (λ k l. agree d n (derive d k s) (derive d k t) (same-derive d k n s t h))
-
-pub surface-same : (n : ℕ) {s t : Surface} → ((i j : ℕ) → i + j ≤ n → s i j ≡ t i j) → Same 2 n s t
-surface-same n h i l j g = h i j (omega arith)
+pub same-entries : (d n : ℕ) (s t : Jet d) → Same d n s t → (ks : List ℕ) → length ks ≤ n → entryOf (jets d) s ks ≡ entryOf (jets d) t ks
+unfolding along
+same-entries d n s t h [] l = same-value d n s t h
+same-entries d zero s t h (k ∷ ks) l = absurd (omega arith)
+same-entries d (suc n) s t h (k ∷ ks) l = same-entries d n (derive d k s) (derive d k t) (same-derive d k n s t h) ks (omega arith)

@@ -5,7 +5,7 @@ use Prim.Native.Nat.{ℕ, zero, suc}
 use lib.IntN.{pos}
 use Rattle.calculus.proofs.Ints.{_⊕_, _⊗_, neg}
 use Rattle.calculus.proofs.Jet.{Jet, derive, value, jets}
-use Rattle.calculus.proofs.Ring.{middle, zeros, neg-zero, zero-add}
+use Rattle.calculus.proofs.Ring.{middle, zeros, neg-zero, zero-add, add-comm, mul-comm}
 use Rattle.calculus.proofs.Algebra.{Algebra}
 
 abbrev pub plus : (d : ℕ) → Jet d → Jet d → Jet d
@@ -91,3 +91,17 @@ algebra d = record {
   ev-times = value-times d;
   ∂-times = derive-times d;
 }
+
+-- the product is commutative
+plus-comm : (d : ℕ) (a b : Jet d) → plus d a b ≡ plus d b a
+plus-comm zero a b = add-comm a b
+plus-comm (suc d) a b = fun-ext (λ m. plus-comm d (a m) (b m))
+
+leibJ-flip : (d : ℕ) (X : ℕ → ℕ → Jet d) (m : ℕ) → leibJ d X m ≡ leibJ d (λ i j. X j i) m
+leibJ-flip d X zero = refl
+leibJ-flip d X (suc m) = ap₂ (plus d) (leibJ-flip d (λ i j. X (suc i) j) m) (leibJ-flip d (λ i j. X i (suc j)) m) ∙ plus-comm d _ _
+
+pub times-comm : (d : ℕ) (a b : Jet d) → times d a b ≡ times d b a
+times-comm zero a b = mul-comm a b
+times-comm (suc d) a b = fun-ext (λ m.
+    leibJ-flip d (λ i j. times d (a i) (b j)) m ∙ ap (λ X. leibJ d X m) (fun-ext (λ i. fun-ext (λ j. times-comm d (a j) (b i)))))

@@ -1,7 +1,7 @@
 -- Document 01's figures that the definitions alone give, at the integers. Assumes nothing.
 use mathlib.Core.Path.{_≡_, refl}
 use mathlib.Core.List.{List, [], _∷_}
-use Prim.Native.Nat.{ℕ, zero, suc}
+use Prim.Native.Nat.{ℕ}
 use lib.IntN.{ℤ, pos}
 use lib.ListN.{getD}
 use Rattle.partitions.specs.Parts.{total, fact, parts, divide, runsFrom, runs, multiplicity}
@@ -11,8 +11,9 @@ use Rattle.calculus.specs.Rising.{before}
 use Rattle.calculus.specs.Choose.{choose}
 use Rattle.calculus.specs.Curve
 use Rattle.calculus.specs.Surface
-use Rattle.calculus.specs.Carry.{digits, factors, throughLen, ones, compositeDerivatives}
-use Rattle.calculus.specs.Array.{listed}
+use Rattle.calculus.specs.Carry.{digits, factors, throughLen, compositeDerivatives}
+use Rattle.calculus.specs.Graded.{place, graded}
+use Rattle.calculus.specs.Array.{listed, curveArray}
 
 -- the entries of a list, and zero past them
 abbrev curve : List ℤ → ℕ → ℤ
@@ -41,11 +42,11 @@ abbrev carried : (ℕ → ℕ → ℤ) → List ℤ
 carried s = listed (compositeDerivatives (regular plain) (curve (pos 0 ∷ pos 1 ∷ pos 2 ∷ [])) (curve (pos 0 ∷ pos 2 ∷ pos 1 ∷ [])) s) 0 3
 
 carried-surface : carried given ≡ pos 5 ∷ pos 8 ∷ pos 48 ∷ []
-unfolding listed throughLen alongList inTurn factors digits ones multiplicity divide runs runsFrom total fact parts
+unfolding listed throughLen alongList inTurn factors digits multiplicity divide runs runsFrom total fact parts
 carried-surface = refl
 
 carried-square : carried (Surface.product plain given given) ≡ pos 25 ∷ pos 80 ∷ pos 608 ∷ []
-unfolding listed throughLen alongList inTurn inRows choose factors digits ones multiplicity divide runs runsFrom total fact parts
+unfolding listed throughLen alongList inTurn inRows choose factors digits multiplicity divide runs runsFrom total fact parts
 carried-square = refl
 
 -- a surface's quotient: the square over the surface, up to order 2
@@ -56,3 +57,12 @@ over-surface : square-root 0 0 ∷ square-root 0 1 ∷ square-root 0 2 ∷ squar
     ≡ pos 5 ∷ pos 3 ∷ pos 6 ∷ pos 2 ∷ pos 4 ∷ pos 1 ∷ []
 unfolding inTurn inRows before choose
 over-surface = refl
+
+-- an array of 21 with the entries up to the order 1; and the places of a surface's entries up to the order 2
+short : getD (curveArray (pos 0) one-two-three 1) 1 (pos 7) ∷ getD (curveArray (pos 0) one-two-three 1) 2 (pos 7) ∷ [] ≡ pos 2 ∷ pos 0 ∷ []
+unfolding listed
+short = refl
+
+graded-places : listed (graded given) 0 6 ≡ pos 5 ∷ pos 3 ∷ pos 2 ∷ pos 6 ∷ pos 4 ∷ pos 1 ∷ []
+unfolding listed place
+graded-places = refl

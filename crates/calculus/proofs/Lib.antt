@@ -1,9 +1,15 @@
 pub mod Figures
+pub mod Rows
+pub mod Layers
+pub mod Graded
+pub mod Filling
+pub mod SurfaceFilling
 pub mod Related
 pub mod Rising
 pub mod Alike
 pub mod CarryAlike
 pub mod UpTo
+pub mod Plain
 pub mod Ints
 pub mod Ring
 pub mod Sums
@@ -23,7 +29,9 @@ pub mod Tensor
 pub mod Carried
 pub mod Algebra
 pub mod Fields
+pub mod Division
 pub mod Quotient
-pub mod Agree
 pub mod Entries
+pub mod Masks
 pub mod Closed
+pub mod Laws

@@ -1,67 +1,154 @@
--- The recursion for a quotient of curves has the factor as its one solution.
--- Assumes nothing.
+-- Quotients of jets of integers. Where every division along the way is exact, the divisor times the quotient is what was divided; and where
+-- that is a product with the divisor, every division is exact and the quotient is the other factor. Assumes nothing.
 use mathlib.Core.Path.{_≡_, refl, sym, _∙_, ap, ap₂}
-use Prim.Native.Nat.{ℕ, zero, suc, _-_, _*_, _/_, _≤_, _<_}
+use Prim.Native.Nat.{ℕ, suc, _+_, _*_, _≤_, _<_}
 use native.Mathlib.Omega.{arith}
-use native.Mathlib.Nat.{mul-div-cancel, zero-div, sub-zero, le-refl}
-use lib.IntN.{ℤ, pos, negsuc, negℤ}
-use lib.Signed.{quotZ}
+use native.Mathlib.Nat.{sub-zero}
+use lib.IntN.{ℤ, pos, _*ℤ_}
+use lib.Signed.{quotZ, remZ}
+use Rattle.calculus.specs.Kind.{regular, plain}
+use Rattle.calculus.specs.Rising.{before, beforeEntry}
+use Rattle.calculus.specs.Choose.{choose}
+use Rattle.calculus.specs.Curve
+use Rattle.calculus.specs.Surface
 use Rattle.calculus.proofs.Ints.{_⊕_, _⊗_, neg, sum}
-use Rattle.calculus.specs.Choose.{choose as binom}
-use Rattle.calculus.proofs.Jets.{Curve, curveMul, owed, Divides}
-use Rattle.calculus.proofs.Ring.{mul-one, mul-comm, add-assoc, add-neg, add-zero}
-use Rattle.calculus.proofs.Sums.{sum-cong, sum-front}
+use Rattle.calculus.proofs.Ring.{add-assoc, add-comm, add-neg, add-zero, mul-one, mul-comm, neg-add}
+use Rattle.calculus.proofs.Sums.{sum-front}
 use Rattle.calculus.proofs.Binom.{binom-zero}
-use Rattle.calculus.proofs.Curves.{curveMul-is, ·-comm}
+use Rattle.calculus.proofs.Related.{same}
+use Rattle.calculus.proofs.Rising.{before-below, rising-alike, earlier-row, same-row, risingRows-alike}
+use Rattle.calculus.proofs.Alike.{owed-alike, surface-owed-alike}
+use Rattle.calculus.proofs.UpTo.{CurvesAgree, SurfacesAgree}
+use Rattle.calculus.proofs.Plain.{plus-from-zero, minus-turn, plus-rows, minus-rows}
+use Rattle.calculus.proofs.Division.{quot-exact, quot-times}
 
--- the division is exact
-by-negative : (n b : ℕ) → quotZ (negℤ (pos n)) (negsuc b) ≡ pos (n / suc b)
-by-negative zero b = ap (λ x. negℤ (pos x)) (zero-div (suc b)) ∙ ap pos (sym (zero-div (suc b)))
-by-negative (suc n) b = refl
+-- p is the first term y of the rule and the rest r of it
+balance : (x y r p : ℤ) → p ≡ y ⊕ r → x ≡ p → x ⊕ neg r ≡ y
+balance x y r p e h = ap (λ z. z ⊕ neg r) (h ∙ e) ∙ add-assoc y r (neg r) ∙ ap (λ z. y ⊕ z) (add-neg r) ∙ add-zero y
 
-of-negative : (n b : ℕ) → quotZ (negℤ (pos n)) (pos b) ≡ negℤ (pos (n / b))
-of-negative zero b = ap pos (zero-div b) ∙ ap (λ x. negℤ (pos x)) (sym (zero-div b))
-of-negative (suc n) b = refl
+restore : (x y r p : ℤ) → p ≡ y ⊕ r → x ⊕ neg r ≡ y → p ≡ x
+restore x y r p e h =
+    e ∙ ap (λ z. z ⊕ r) (sym h) ∙ add-assoc x (neg r) r ∙ ap (λ z. x ⊕ z) (add-comm (neg r) r ∙ add-neg r) ∙ add-zero x
 
-pub quot-exact : (a d : ℤ) → ¬ (d ≡ pos 0) → quotZ (a ⊗ d) d ≡ a
-unfolding _⊗_
-quot-exact (pos a) (pos zero) h = absurd (h refl)
-quot-exact (negsuc a) (pos zero) h = absurd (h refl)
-quot-exact (pos a) (pos (suc b)) h = ap pos (mul-div-cancel a {n = suc b} (omega arith))
-quot-exact (negsuc a) (pos (suc b)) h = of-negative (suc a * suc b) (suc b) ∙ ap (λ x. negℤ (pos x)) (mul-div-cancel (suc a) {n = suc b} (omega arith))
-quot-exact (pos a) (negsuc b) h = by-negative (a * suc b) b ∙ ap pos (mul-div-cancel a {n = suc b} (omega arith))
-quot-exact (negsuc a) (negsuc b) h = ap (λ x. negℤ (pos x)) (mul-div-cancel (suc a) {n = suc b} (omega arith))
+-- ---- curves
+module _ (d q : ℕ → ℤ) (m : ℕ) where
+  term : ℕ → ℤ
+  term = Curve.leibniz (regular plain) _*ℤ_ d q m
 
--- the product's entry m, the first factor's first entry apart
-apart : (d q : Curve) (m : ℕ) → curveMul d q m ≡ d 0 ⊗ q m ⊕ sum m (λ i. (d (suc i) ⊗ q (m - suc i)) ⊗ pos (binom m (suc i)))
-unfolding curveMul
-apart d q m =
-    sum-front m (λ i. (d i ⊗ q (m - i)) ⊗ pos (binom m i))
-    ∙ ap (λ x. x ⊕ sum m (λ i. (d (suc i) ⊗ q (m - suc i)) ⊗ pos (binom m (suc i))))
-    (ap₂ (λ (x y : ℕ). (d 0 ⊗ q x) ⊗ pos y) (sub-zero m) (binom-zero m) ∙ mul-one _)
+  rest : ℤ
+  rest = sum m (λ i. term (suc i))
 
-solves : (num d q : Curve) (m : ℕ) → num m ≡ curveMul q d m → owed num d q m ≡ q m ⊗ d 0
-unfolding owed
-solves num d q m e =
-    ap (λ x. x ⊕ neg rest) (e ∙ ap (λ x. x m) (curveMul-is q d ∙ ·-comm q d ∙ sym (curveMul-is d q)) ∙ apart d q m)
-    ∙ add-assoc (d 0 ⊗ q m) rest (neg rest) ∙ ap (λ x. d 0 ⊗ q m ⊕ x) (add-neg rest) ∙ add-zero _ ∙ mul-comm (d 0) (q m)
-  where
-    rest : ℤ
-    rest = sum m (λ i. (d (suc i) ⊗ q (m - suc i)) ⊗ pos (binom m (suc i)))
+  term-zero : term 0 ≡ q m ⊗ d 0
+  unfolding term _⊗_
+  term-zero = ap₂ (λ (x y : ℕ). (d 0 *ℤ q x) *ℤ pos y) (sub-zero m) (binom-zero m) ∙ mul-one (d 0 *ℤ q m) ∙ mul-comm (d 0) (q m)
 
-owed-cong : (num d : Curve) {x y : Curve} (m : ℕ) → ((i : ℕ) → i < m → x i ≡ y i) → owed num d x m ≡ owed num d y m
-unfolding owed
-owed-cong num d m h =
-    ap (λ s. num m ⊕ neg s) (sum-cong m (λ i l. ap (λ z. (d (suc i) ⊗ z) ⊗ pos (binom m (suc i))) (h (m - suc i) (omega arith))))
+  product-is : Curve.product plain d q m ≡ q m ⊗ d 0 ⊕ rest
+  unfolding term rest
+  product-is = plus-from-zero term (suc m) ∙ sum-front m term ∙ ap (λ x. x ⊕ rest) term-zero
 
-module _ (n : ℕ) (num d q : Curve) (e : (m : ℕ) → m ≤ n → num m ≡ curveMul q d m) (h : ¬ (d 0 ≡ pos 0)) where
-  pub factor-divides : Divides n num d q
-  factor-divides m l = sym (ap (λ x. quotZ x (d 0)) (solves num d q m (e m l)) ∙ quot-exact (q m) (d 0) h)
+  owed-is : (num : ℕ → ℤ) → Curve.owed plain num d q m ≡ num m ⊕ neg rest
+  unfolding term rest
+  owed-is num = minus-turn (num m) (λ i. term (suc i)) m
 
-  below : (x : Curve) → Divides n num d x → (k m : ℕ) → m < k → m ≤ n → x m ≡ q m
-  below x s zero m l g = absurd (omega arith)
-  below x s (suc k) m l g =
-      s m g ∙ ap (λ y. quotZ y (d 0)) (owed-cong num d m (λ i j. below x s k i (omega arith) (omega arith))) ∙ sym (factor-divides m g)
+owed-cong : (num d f g : ℕ → ℤ) (m : ℕ) → ((i : ℕ) → i < m → f i ≡ g i) → Curve.owed plain num d f m ≡ Curve.owed plain num d g m
+owed-cong num d f g m h = owed-alike (λ (a b : ℤ). a ≡ b) plain plain (same plain) m num d num d (λ i l. refl) (λ i l. refl) m (omega arith) f g h
 
-  pub quotient-unique : (x : Curve) → Divides n num d x → (m : ℕ) → m ≤ n → x m ≡ q m
-  quotient-unique x s m g = below x s (suc m) m (le-refl (suc m)) g
+module _ (n : ℕ) (num d : ℕ → ℤ) where
+  pub exact-product : ((m : ℕ) → m ≤ n → remZ (Curve.dividend plain num d m) (d 0) ≡ pos 0) →
+      CurvesAgree n (Curve.product plain d (Curve.quotient plain num d)) num
+  exact-product h m l =
+      restore (num m) (q m ⊗ d 0) (rest d q m) (Curve.product plain d q m) (product-is d q m)
+      (sym (owed-is d q m num)
+      ∙ owed-cong num d q (before (pos 0) (Curve.quotientEntry plain num d) m) m (λ i k. sym (before-below (pos 0) (Curve.quotientEntry plain num d) m i k))
+      ∙ sym (quot-times (Curve.dividend plain num d m) (d 0) (h m l)))
+    where
+      q : ℕ → ℤ
+      q = Curve.quotient plain num d
+
+  module _ (q : ℕ → ℤ) (e : CurvesAgree n num (Curve.product plain d q)) where
+    owed-factor : (m : ℕ) → m ≤ n → Curve.owed plain num d q m ≡ q m ⊗ d 0
+    owed-factor m l = owed-is d q m num ∙ balance (num m) (q m ⊗ d 0) (rest d q m) (Curve.product plain d q m) (product-is d q m) (e m l)
+
+    pub quotient-factor : ¬ (d 0 ≡ pos 0) → CurvesAgree n (Curve.quotient plain num d) q
+    quotient-factor z m l =
+        rising-alike (λ i (x y : ℤ). x ≡ q i) (pos 0) (pos 0) (Curve.quotientEntry plain num d) (Curve.quotientEntry plain num d) (suc n)
+        (λ i k f g h. ap (λ x. quotZ x (d 0)) (owed-cong num d f q i h ∙ owed-factor i (omega arith)) ∙ quot-exact (q i) (d 0) z) m (omega arith)
+
+    pub dividend-factor : ¬ (d 0 ≡ pos 0) → (m : ℕ) → m ≤ n → Curve.dividend plain num d m ≡ q m *ℤ d 0
+    unfolding _⊗_
+    dividend-factor z m l =
+        owed-cong num d (before (pos 0) (Curve.quotientEntry plain num d) m) q m
+        (λ i k. before-below (pos 0) (Curve.quotientEntry plain num d) m i k ∙ quotient-factor z i (omega arith))
+        ∙ owed-factor m l
+
+-- ---- surfaces
+module _ (d q : ℕ → ℕ → ℤ) (m n : ℕ) where
+  surface-term : ℕ → ℕ → ℤ
+  surface-term = Surface.leibniz (regular plain) _*ℤ_ d q m n
+
+  surface-rest : ℤ
+  surface-rest = sum n (λ j. surface-term 0 (suc j)) ⊕ sum m (λ i. sum (suc n) (surface-term (suc i)))
+
+  surface-term-zero : surface-term 0 0 ≡ q m n ⊗ d 0 0
+  unfolding surface-term _⊗_
+  surface-term-zero =
+      ap₂ (λ (x y : ℕ). (d 0 0 *ℤ q x y) *ℤ pos (choose m 0 * choose n 0)) (sub-zero m) (sub-zero n)
+      ∙ ap₂ (λ (x y : ℕ). (d 0 0 *ℤ q m n) *ℤ pos (x * y)) (binom-zero m) (binom-zero n)
+      ∙ mul-one (d 0 0 *ℤ q m n) ∙ mul-comm (d 0 0) (q m n)
+
+  surface-product-is : Surface.product plain d q m n ≡ q m n ⊗ d 0 0 ⊕ surface-rest
+  unfolding surface-term surface-rest
+  surface-product-is =
+      plus-rows surface-term (suc m) (suc n)
+      ∙ sum-front m (λ i. sum (suc n) (surface-term i))
+      ∙ ap (λ x. x ⊕ sum m (λ i. sum (suc n) (surface-term (suc i)))) (sum-front n (surface-term 0) ∙ ap (λ x. x ⊕ sum n (λ j. surface-term 0 (suc j))) surface-term-zero)
+      ∙ add-assoc _ _ _
+
+  surface-owed-is : (num : ℕ → ℕ → ℤ) → Surface.owed plain num d q m n ≡ num m n ⊕ neg surface-rest
+  unfolding surface-term surface-rest
+  surface-owed-is num =
+      minus-rows _ (λ i. surface-term (suc i)) m (suc n)
+      ∙ ap (λ x. x ⊕ neg (sum m (λ i. sum (suc n) (surface-term (suc i))))) (minus-turn (num m n) (λ j. surface-term 0 (suc j)) n)
+      ∙ add-assoc _ _ _
+      ∙ ap (λ x. num m n ⊕ x) (sym (neg-add (sum n (λ j. surface-term 0 (suc j))) (sum m (λ i. sum (suc n) (surface-term (suc i))))))
+
+surface-owed-cong : (num d f g : ℕ → ℕ → ℤ) (N m n : ℕ) → m + n ≤ N → ((i j : ℕ) → i < m → i + j ≤ N → f i j ≡ g i j) → ((j : ℕ) → j < n → f m j ≡ g m j) →
+    Surface.owed plain num d f m n ≡ Surface.owed plain num d g m n
+surface-owed-cong num d f g N m n l above left =
+    surface-owed-alike (λ (a b : ℤ). a ≡ b) plain plain (same plain) N num d num d (λ i j l. refl) (λ i j l. refl) m n l f g above left
+
+module _ (N : ℕ) (num d : ℕ → ℕ → ℤ) where
+  pub surface-exact-product : ((m n : ℕ) → m + n ≤ N → remZ (Surface.dividend plain num d m n) (d 0 0) ≡ pos 0) →
+      SurfacesAgree N (Surface.product plain d (Surface.quotient plain num d)) num
+  surface-exact-product h m n l =
+      restore (num m n) (q m n ⊗ d 0 0) (surface-rest d q m n) (Surface.product plain d q m n) (surface-product-is d q m n)
+      (sym (surface-owed-is d q m n num)
+      ∙ surface-owed-cong num d q (beforeEntry (pos 0) step m n) N m n l
+      (λ i j k w. sym (earlier-row (pos 0) step m n i j k)) (λ j k. sym (same-row (pos 0) step m n j k))
+      ∙ sym (quot-times (Surface.dividend plain num d m n) (d 0 0) (h m n l)))
+    where
+      step : (ℕ → ℕ → ℤ) → ℕ → ℕ → ℤ
+      step = Surface.quotientEntry plain num d
+
+      q : ℕ → ℕ → ℤ
+      q = Surface.quotient plain num d
+
+  module _ (q : ℕ → ℕ → ℤ) (e : SurfacesAgree N num (Surface.product plain d q)) where
+    surface-owed-factor : (m n : ℕ) → m + n ≤ N → Surface.owed plain num d q m n ≡ q m n ⊗ d 0 0
+    surface-owed-factor m n l =
+        surface-owed-is d q m n num
+        ∙ balance (num m n) (q m n ⊗ d 0 0) (surface-rest d q m n) (Surface.product plain d q m n) (surface-product-is d q m n) (e m n l)
+
+    pub surface-quotient-factor : ¬ (d 0 0 ≡ pos 0) → SurfacesAgree N (Surface.quotient plain num d) q
+    surface-quotient-factor z =
+        risingRows-alike (λ i j (x y : ℤ). x ≡ q i j) (pos 0) (pos 0) (Surface.quotientEntry plain num d) (Surface.quotientEntry plain num d) N
+        (λ i j l f g above left.
+        ap (λ x. quotZ x (d 0 0)) (surface-owed-cong num d f q N i j l above left ∙ surface-owed-factor i j l) ∙ quot-exact (q i j) (d 0 0) z)
+
+    pub surface-dividend-factor : ¬ (d 0 0 ≡ pos 0) → (m n : ℕ) → m + n ≤ N → Surface.dividend plain num d m n ≡ q m n *ℤ d 0 0
+    unfolding _⊗_
+    surface-dividend-factor z m n l =
+        surface-owed-cong num d (beforeEntry (pos 0) (Surface.quotientEntry plain num d) m n) q N m n l
+        (λ i j k w. earlier-row (pos 0) (Surface.quotientEntry plain num d) m n i j k ∙ surface-quotient-factor z i j w)
+        (λ j k. same-row (pos 0) (Surface.quotientEntry plain num d) m n j k ∙ surface-quotient-factor z m j (omega arith))
+        ∙ surface-owed-factor m n l

@@ -1,6 +1,6 @@
 -- Two kinds of number whose operations keep a relation, and two kinds of entry. What is folded in turn keeps it. Assumes nothing.
-use mathlib.Core.Path.{_≡_, refl, ap, ap₂}
-use mathlib.Core.List.{List, [], _∷_}
+use mathlib.Core.Path.{_≡_, refl, ap₂}
+use mathlib.Core.List.{List}
 use Prim.Native.Nat.{ℕ, zero, suc, _+_, _≤_, _<_}
 use native.Mathlib.Nat.{le-refl}
 use native.Mathlib.Omega.{arith}

@@ -1,12 +1,11 @@
 -- Entries that are formed one after the other: those before are what has been formed. A step that keeps a relation between entries, which may
 -- depend on their place, has it for all of them. Assumes nothing.
 use mathlib.Core.Path.{_≡_, refl, sym, ap, _∙_, subst, subst₂}
-use mathlib.Core.Bool.{Bool, true, false, cond}
+use mathlib.Core.Bool.{Bool, cond}
 use mathlib.Core.Logic.{⊎-elim}
 use Prim.Native.Nat.{ℕ, zero, suc, _+_, _-_, _<_, _≤_}
 use native.Mathlib.Nat.{le-refl, not-suc-le-zero, eq-or-lt-of-le, le-of-suc-le-suc}
 use native.Mathlib.Omega.{arith}
-use lib.Dec.{eqb}
 use borrow.Author.Tests.{eq-eqb, ne-eqb}
 use Rattle.calculus.specs.Rising.{before, rising, withRow, risingRow, beforeEntry, risingRows}
 
@@ -68,21 +67,22 @@ module _ {X : Type 0} (blank : X) (step : (ℕ → ℕ → X) → ℕ → ℕ �
   pub later-entry : (j : ℕ) → n ≤ j → beforeEntry blank step m n m j ≡ blank
   later-entry j h = in-row rows m row j ∙ before-above blank (λ q k. step (withRow rows m q) m k) n j h
 
-module _ {X Y : Type 0} (R : X → Y → Type 0) (bx : X) (by : Y) (s : (ℕ → ℕ → X) → ℕ → ℕ → X) (t : (ℕ → ℕ → Y) → ℕ → ℕ → Y) (n : ℕ)
+module _ {X Y : Type 0} (P : ℕ → ℕ → X → Y → Type 0) (bx : X) (by : Y) (s : (ℕ → ℕ → X) → ℕ → ℕ → X) (t : (ℕ → ℕ → Y) → ℕ → ℕ → Y) (n : ℕ)
     (h : (i j : ℕ) → i + j ≤ n → (f : ℕ → ℕ → X) (g : ℕ → ℕ → Y) →
-    ((k l : ℕ) → k < i → k + l ≤ n → R (f k l) (g k l)) → ((l : ℕ) → l < j → R (f i l) (g i l)) → R (s f i j) (t g i j)) where
+    ((k l : ℕ) → k < i → k + l ≤ n → P k l (f k l) (g k l)) → ((l : ℕ) → l < j → P i l (f i l) (g i l)) → P i j (s f i j) (t g i j)) where
   -- the rows i, as far as the order n goes
-  abbrev Row : ℕ → (ℕ → X) → (ℕ → Y) → Type 0
-  Row i p q = (j : ℕ) → i + j ≤ n → R (p j) (q j)
+  abbrev RowsAlike : ℕ → (ℕ → X) → (ℕ → Y) → Type 0
+  RowsAlike i p q = (j : ℕ) → i + j ≤ n → P i j (p j) (q j)
 
-  row-alike : (i : ℕ) → i < suc n → (f : ℕ → ℕ → X) (g : ℕ → ℕ → Y) → ((k : ℕ) → k < i → Row k (f k) (g k)) → Row i (risingRow bx s f i) (risingRow by t g i)
+  row-alike : (i : ℕ) → i < suc n → (f : ℕ → ℕ → X) (g : ℕ → ℕ → Y) → ((k : ℕ) → k < i → RowsAlike k (f k) (g k)) →
+      RowsAlike i (risingRow bx s f i) (risingRow by t g i)
   row-alike i l f g r j b =
-      rising-alike (λ k. R) bx by (λ q k. s (withRow f i q) i k) (λ q k. t (withRow g i q) i k) (suc (n - i))
+      rising-alike (P i) bx by (λ q k. s (withRow f i q) i k) (λ q k. t (withRow g i q) i k) (suc (n - i))
       (λ k c p q e.
       h i k (omega arith) (withRow f i p) (withRow g i q)
-      (λ x y d w. subst₂ R (sym (off-row f i p x y (λ z. omega arith))) (sym (off-row g i q x y (λ z. omega arith))) (r x d y w))
-      (λ y d. subst₂ R (sym (in-row f i p y)) (sym (in-row g i q y)) (e y d)))
+      (λ x y d w. subst₂ (P x y) (sym (off-row f i p x y (λ z. omega arith))) (sym (off-row g i q x y (λ z. omega arith))) (r x d y w))
+      (λ y d. subst₂ (P i y) (sym (in-row f i p y)) (sym (in-row g i q y)) (e y d)))
       j (omega arith)
 
-  pub risingRows-alike : (i j : ℕ) → i + j ≤ n → R (risingRows bx s i j) (risingRows by t i j)
-  risingRows-alike i j b = rising-alike Row (λ j. bx) (λ j. by) (risingRow bx s) (risingRow by t) (suc n) row-alike i (omega arith) j b
+  pub risingRows-alike : (i j : ℕ) → i + j ≤ n → P i j (risingRows bx s i j) (risingRows by t i j)
+  risingRows-alike i j b = rising-alike RowsAlike (λ j. bx) (λ j. by) (risingRow bx s) (risingRow by t) (suc n) row-alike i (omega arith) j b

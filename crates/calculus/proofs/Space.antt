@@ -1,7 +1,7 @@
 -- Carrying a field of any number of variables along a curve: Faà di Bruno's formula, over masks with a digit for each part.
 -- Assumes nothing.
 use mathlib.Core.List.{List, [], _∷_}
-use Prim.Native.Nat.{ℕ, zero, suc, _+_, _-_, _/_, _%_, _^_}
+use Prim.Native.Nat.{ℕ, zero, suc, _/_, _%_, _^_}
 use lib.ListN.{length}
 use lib.IntN.{ℤ, pos}
 use Rattle.calculus.proofs.Ints.{_⊗_, sum, over}

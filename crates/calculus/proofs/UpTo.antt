@@ -1,14 +1,14 @@
 -- Jets that agree up to an order give results that agree up to it: the relational laws at equality. Assumes nothing.
-use mathlib.Core.Path.{_≡_, refl, ap₂}
+use mathlib.Core.Path.{_≡_, ap₂}
 use mathlib.Core.List.{List}
-use Prim.Native.Nat.{ℕ, _+_, _≤_}
+use Prim.Native.Nat.{ℕ, suc, _+_, _≤_}
 use lib.ListN.{length}
 use Rattle.calculus.specs.Kind.{Kind, Module}
 use Rattle.calculus.specs.Curve
 use Rattle.calculus.specs.Surface
 use Rattle.calculus.specs.Carry.{digits, fieldDerivatives, compositeDerivative, compositeDerivatives}
 use Rattle.calculus.proofs.Related.{same, sameModule}
-use Rattle.calculus.proofs.Alike.{sum-alike, difference-alike, surface-sum-alike, surface-difference-alike, productBy-alike, surface-productBy-alike, product-alike, quotient-alike, surface-product-alike, surface-quotient-alike}
+use Rattle.calculus.proofs.Alike.{derivative-alike, derivativeU-alike, derivativeV-alike, sum-alike, difference-alike, surface-sum-alike, surface-difference-alike, productBy-alike, surface-productBy-alike, product-alike, quotient-alike, surface-product-alike, surface-quotient-alike}
 use Rattle.calculus.proofs.CarryAlike.{fieldDerivatives-alike, compositeDerivative-alike, compositeDerivatives-alike}
 
 abbrev pub CurvesAgree : {A : Type 0} → ℕ → (ℕ → A) → (ℕ → A) → Type 0
@@ -19,6 +19,16 @@ SurfacesAgree n a b = (i j : ℕ) → i + j ≤ n → a i j ≡ b i j
 
 abbrev Eq : {A : Type 0} → A → A → Type 0
 Eq a b = a ≡ b
+
+module _ {A : Type 0} (n : ℕ) where
+  pub derivative-upto : {a b : ℕ → A} → CurvesAgree (suc n) a b → CurvesAgree n (Curve.derivative a) (Curve.derivative b)
+  derivative-upto = derivative-alike Eq n
+
+  pub derivativeU-upto : {a b : ℕ → ℕ → A} → SurfacesAgree (suc n) a b → SurfacesAgree n (Surface.derivativeU a) (Surface.derivativeU b)
+  derivativeU-upto = derivativeU-alike Eq n
+
+  pub derivativeV-upto : {a b : ℕ → ℕ → A} → SurfacesAgree (suc n) a b → SurfacesAgree n (Surface.derivativeV a) (Surface.derivativeV b)
+  derivativeV-upto = derivativeV-alike Eq n
 
 module _ {S A : Type 0} (M : Module S A) (n : ℕ) where
   module _ {a b c d : ℕ → A} (p : CurvesAgree n a b) (q : CurvesAgree n c d) where

@@ -1,8 +1,8 @@
 -- Binomial coefficients, by Pascal's rule. Assumes nothing.
 use mathlib.Core.Path.{_≡_}
 use mathlib.Core.List.{List}
-use Prim.Native.Nat.{ℕ, zero, suc, _+_, _<_}
-use lib.ListN.{length, getD}
+use Prim.Native.Nat.{ℕ, zero, suc, _+_, _%_, _^_, _<_}
+use lib.ListN.{length, getD, set}
 
 unfoldable pub choose : ℕ → ℕ → ℕ
 choose zero zero = 1
@@ -14,3 +14,8 @@ choose (suc n) (suc k) = choose n k + choose n (suc k)
 pub record Row (w : ℕ) (c : List ℕ) (m : ℕ) : Type 0 where
   pub long : length c ≡ w
   pub all : (i : ℕ) → i < w → getD c i 0 ≡ choose m i
+
+-- Pascal's rule in place, from the right: to each of the coefficients k .. 1 the one before it is added, in 32 bits
+unfoldable pub pascal : List ℕ → ℕ → List ℕ
+pascal c zero = c
+pascal c (suc k) = pascal (set c (suc k) ((getD c (suc k) 0 + getD c k 0) % 2 ^ 32)) k

@@ -3,7 +3,7 @@
 use Prim.Native.Nat.{ℕ, suc, _-_}
 use Rattle.calculus.specs.Kind.{Kind, Module, regular}
 use Rattle.calculus.specs.InTurn.{inTurn}
-use Rattle.calculus.specs.Rising.{rising}
+use Rattle.calculus.specs.Rising.{before, rising}
 use Rattle.calculus.specs.Choose.{choose}
 
 abbrev pub derivative : {A : Type 0} → (ℕ → A) → ℕ → A
@@ -37,3 +37,7 @@ module _ {A : Type 0} (K : Kind A) where
 
   abbrev pub quotient : (ℕ → A) → (ℕ → A) → ℕ → A
   quotient num d = rising (K .nought) (quotientEntry num d)
+
+  -- what is divided by d[0] to form the quotient's entry m
+  abbrev pub dividend : (ℕ → A) → (ℕ → A) → ℕ → A
+  dividend num d m = owed num d (before (K .nought) (quotientEntry num d) m) m

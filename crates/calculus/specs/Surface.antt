@@ -3,7 +3,7 @@
 use Prim.Native.Nat.{ℕ, suc, _-_, _*_}
 use Rattle.calculus.specs.Kind.{Kind, Module, regular}
 use Rattle.calculus.specs.InTurn.{inTurn, inRows}
-use Rattle.calculus.specs.Rising.{risingRows}
+use Rattle.calculus.specs.Rising.{beforeEntry, risingRows}
 use Rattle.calculus.specs.Choose.{choose}
 
 abbrev pub derivativeU : {A : Type 0} → (ℕ → ℕ → A) → ℕ → ℕ → A
@@ -42,3 +42,7 @@ module _ {A : Type 0} (K : Kind A) where
 
   abbrev pub quotient : (ℕ → ℕ → A) → (ℕ → ℕ → A) → ℕ → ℕ → A
   quotient num d = risingRows (K .nought) (quotientEntry num d)
+
+  -- what is divided by d[0][0] to form the quotient's entry [m][n]
+  abbrev pub dividend : (ℕ → ℕ → A) → (ℕ → ℕ → A) → ℕ → ℕ → A
+  dividend num d m n = owed num d (beforeEntry (K .nought) (quotientEntry num d) m n) m n
