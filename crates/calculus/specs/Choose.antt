@@ -3,6 +3,8 @@ use mathlib.Core.Path.{_≡_}
 use mathlib.Core.List.{List}
 use Prim.Native.Nat.{ℕ, zero, suc, _+_, _%_, _^_, _<_}
 use lib.ListN.{length, getD, set}
+use Rattle.calculus.specs.Graded.{graded}
+use Rattle.calculus.specs.Array.{listed}
 
 unfoldable pub choose : ℕ → ℕ → ℕ
 choose zero zero = 1
@@ -19,3 +21,7 @@ pub record Row (w : ℕ) (c : List ℕ) (m : ℕ) : Type 0 where
 unfoldable pub pascal : List ℕ → ℕ → List ℕ
 pascal c zero = c
 pascal c (suc k) = pascal (set c (suc k) ((getD c (suc k) 0 + getD c k 0) % 2 ^ 32)) k
+
+-- the coefficients of the orders 0 to 20, order after order: [i][j] is the i-th of the order i + j
+abbrev pub binomialTable : List ℕ
+binomialTable = listed (graded (λ i j. choose (i + j) i)) 0 231
