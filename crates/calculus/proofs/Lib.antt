@@ -2,6 +2,7 @@ pub mod Figures
 pub mod Rows
 pub mod Layers
 pub mod Graded
+pub mod Pascal
 pub mod Filling
 pub mod SurfaceFilling
 pub mod Related

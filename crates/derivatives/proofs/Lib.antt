@@ -1,0 +1,5 @@
+pub mod Terms
+pub mod Finite
+pub mod Quotients
+pub mod Curves
+pub mod Answers
