@@ -1,7 +1,15 @@
 // Jets of exact numbers: the derivatives of a curve or of a surface, each a signed 64-bit whole number. A function answers in full, or
 // refuses with a number of document 01's table. Anybody may write the fields: every function tests the orders.
 ghost use mathlib.Core.Path.{_≡_};
+ghost use Prim.Native.Nat.{_+_, _≤_, min};
+ghost use Rattle.calculus.specs.Graded.{index as indexOf};
+ghost use Rattle.exact.specs.Kinds.{checked};
 ghost use Rattle.exact.specs.Answer.{refusedCurve, refusedSurface, refusedParameter};
+use whole::Whole;
+
+mod curve;
+mod parameter;
+mod surface;
 
 // The derivatives of a curve, of the orders 0 to `order`.
 pub struct CurveDerivatives {
@@ -77,4 +85,27 @@ fn refused_parameter(c: u8) -> ParameterAnswer
             v: z,
         },
     }
+}
+
+fn smaller(m: usize, n: usize) -> usize
+    ensures { λ r. ⌜ r ≡ min m n ⌝ }
+{
+    if m < n { m } else { n }
+}
+
+// Where [i][j] stands in a surface's array.
+fn index(i: usize, j: usize) -> usize
+    requires { ⌜ i + j ≤ 20 ⌝ }
+    ensures { λ r. ⌜ r ≡ indexOf i j ⌝ }
+{
+    let n = i + j;
+    n * (n + 1) / 2 + i
+}
+
+// A term of Leibniz's rule.
+fn term(x: i64, y: i64, c: u32) -> Whole
+    ensures { λ r. ⌜ r ≡ checked .times (checked .times (Whole.Value x) (Whole.Value y)) (checked .ofNat c) ⌝ }
+{
+    let k = c as i64;
+    whole::times(whole::mul(x, y), Whole::Value(k))
 }

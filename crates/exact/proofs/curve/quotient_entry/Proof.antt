@@ -1,0 +1,30 @@
+-- `exact::curve::quotient_entry` meets its contract. Assumes nothing.
+use mathlib.Core.Path.{_≡_, refl, sym, ap, ap₂, _∙_}
+use Prim.Native.Nat.{ℕ, suc, _+_, _-_, _≤_, _<_}
+use native.Mathlib.Omega.{arith}
+use denote.Ref.{now}
+use borrow.Author.Needs.{needs}
+use mir.Facts.{toZ-ofZ}
+use Rattle.whole.specs.declared.Whole.the-variants.{Value}
+use Rattle.exact.specs.Kinds.{checked}
+use Rattle.exact.proofs.curve.quotient_entry.Statement.{statement}
+use Rattle.exact.proofs.curve.quotient_entry.Tie as tie
+use Rattle.exact.proofs.curve.quotient_entry.Reads as reads
+use Rattle.exact.proofs.curve.quotient_entry.Lts as lts
+use Rattle.exact.proofs.curve.owed.Reads as owed-reads
+use Rattle.whole.proofs.over.Reads as over-reads
+
+element-copy-out-y : tie.Need-element-copy-out-y
+element-copy-out-y c = search needs
+
+owed-requires : tie.Need-owed-requires
+owed-requires c κs = search needs
+
+over-requires : tie.Need-over-requires
+over-requires c κs = search needs
+
+returns : tie.Need-returns
+returns c = c .over .ensures ∙ ap₂ (checked .over) (c .before .owed .ensures) (ap Value (toZ-ofZ (search needs)))
+
+pub quotient-entry-spec : {M : Type 1} → statement M
+quotient-entry-spec = tie.close (tie.spec element-copy-out-y owed-requires over-requires returns)

@@ -1,0 +1,66 @@
+-- `exact::curve::read` meets its contract. The invariant: the entries passed stand in the array. Assumes nothing.
+use mathlib.Core.Path.{_≡_, refl, sym, ap, ap₂, _∙_}
+use Prim.Native.Nat.{ℕ, suc, _+_, _-_, _≤_, _<_}
+use native.Mathlib.Omega.{arith}
+use denote.Ref.{now}
+use borrow.Author.Needs.{needs}
+use Rattle.exact.specs.Answer.{curveNumbers, curveValues}
+use Rattle.exact.proofs.Progress.{CurveProgress, curve-begins, curve-goes-on, curve-ends, curve-of-numbers}
+use Rattle.exact.proofs.curve.read.Statement.{statement}
+use Rattle.exact.proofs.curve.read.Tie as tie
+use Rattle.exact.proofs.curve.read.Reads as reads
+use Rattle.exact.proofs.curve.read.Lts as lts
+
+abbrev Inv-loop : tie.InvT-loop
+Inv-loop list n r₀ m₀ r m = CurveProgress (curveValues list) n m r
+
+abbrev μ-loop : tie.MeasureT-loop
+μ-loop list n r₀ m₀ r m = suc n - m
+
+loop-holds : tie.Need-loop-holds Inv-loop μ-loop
+loop-holds c = curve-begins (curveValues (now (c .args .list))) (c .args .n)
+
+mul-r : tie.Need-mul-r Inv-loop μ-loop
+mul-r c = search needs
+
+shared-slice-copy-out-r : tie.Need-shared-slice-copy-out-r Inv-loop μ-loop
+shared-slice-copy-out-r c = search needs
+
+mul-r-2 : tie.Need-mul-r-2 Inv-loop μ-loop
+mul-r-2 c = search needs
+
+array-set-from-r : tie.Need-array-set-from-r Inv-loop μ-loop
+array-set-from-r c = search needs
+
+add-m : tie.Need-add-m Inv-loop μ-loop
+add-m c = search needs
+
+loop-less : tie.Need-loop-less Inv-loop μ-loop
+loop-less c = search needs
+
+loop-again : tie.Need-loop-again Inv-loop μ-loop
+loop-again c =
+    let l = c .before .before in
+    let a = l .before .args in
+    curve-goes-on (curveValues (now (a .list))) (a .n) (l .loop .inv) (l .before .pre .0) (c .before .loop-test .taken) (search needs) refl
+
+returns : tie.Need-returns Inv-loop μ-loop
+returns c =
+    let a = c .before .before .args in
+    curve-ends (curveValues (now (a .list))) (a .n) (c .before .loop .inv) (c .loop-test .left) ∙ curve-of-numbers (curveNumbers (now (a .list))) (a .n)
+
+pub read-spec : {M : Type 1} → statement M
+read-spec =
+    tie.close
+    (tie.spec
+    Inv-loop
+    μ-loop
+    loop-holds
+    mul-r
+    shared-slice-copy-out-r
+    mul-r-2
+    array-set-from-r
+    add-m
+    loop-less
+    loop-again
+    returns)

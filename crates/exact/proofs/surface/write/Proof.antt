@@ -1,0 +1,117 @@
+-- `exact::surface::write` meets its contract. The invariant: the entries passed are written. Assumes nothing.
+use mathlib.Core.Path.{_≡_, refl, sym, ap, ap₂, _∙_}
+use Prim.Native.Nat.{ℕ, suc, _+_, _-_, _*_, _≤_, _<_}
+use native.Mathlib.Omega.{arith}
+use denote.Ref.{now}
+use borrow.Author.Needs.{needs}
+use lib.IntN.{ℤ, pos}
+use lib.ListN.{length, getD}
+use mir.Syntax.{w64}
+use mir.Val.{SFits}
+use mir.Facts.{toZ-ofZ}
+use Rattle.calculus.proofs.Graded.{index-231}
+use Rattle.exact.specs.Order.{surfaceEntries}
+use Rattle.exact.specs.Answer.{surfaceNumbers}
+use Rattle.exact.proofs.Work.{Inside, surfaceLeft, surface-start, surface-next, surface-row, surface-end}
+use Rattle.exact.proofs.Progress.{room}
+use Rattle.exact.proofs.Writing.{Writing, writing-begins, in-list, writing-goes-on, writing-turns, writing-ends, rows-length}
+use Rattle.exact.proofs.surface.write.Statement.{statement}
+use Rattle.exact.proofs.surface.write.Tie as tie
+
+abbrev Inv-loop : tie.InvT-loop
+Inv-loop a n out₀ i₀ j₀ l₀ out i j l = Writing (surfaceEntries (surfaceNumbers a) n) out (surfaceLeft (surfaceNumbers a) n i j) l × Inside n i j
+
+abbrev μ-loop : tie.MeasureT-loop
+μ-loop a n out₀ i₀ j₀ l₀ out i j l = (suc n - i) * 22 + (suc n - j)
+
+loop-holds : tie.Need-loop-holds Inv-loop μ-loop
+loop-holds c =
+    let a = c .args in
+    (writing-begins (surfaceEntries (surfaceNumbers (now (a .a))) (a .n)) (now (a .out)) (surface-start (surfaceNumbers (now (a .a))) (a .n)) (c .pre .1 ∙ sym (rows-length (surfaceNumbers (now (a .a))) 0 (suc (a .n)))), (omega arith, λ h. omega arith))
+
+index-requires : tie.Need-index-requires Inv-loop μ-loop
+index-requires c κs =
+    let l = c .before in
+    omega (arith, l .loop .inv .1 .1 (c .loop-test .taken))
+
+mul-out : tie.Need-mul-out Inv-loop μ-loop
+mul-out c =
+    let l = c .before .before in
+    omega (arith, c .index .ensures, index-231 (l .loop .i) (l .loop .j) (omega (arith, l .loop .inv .1 .1 (c .before .loop-test .taken))))
+
+element-copy-out-out : tie.Need-element-copy-out-out Inv-loop μ-loop
+element-copy-out-out c =
+    let l = c .before .before in
+    omega (arith, c .index .ensures, index-231 (l .loop .i) (l .loop .j) (omega (arith, l .loop .inv .1 .1 (c .before .loop-test .taken))))
+
+mul-t13 : tie.Need-mul-t13 Inv-loop μ-loop
+mul-t13 c =
+    let l = c .before .before .before in
+    let a = c .before .before .before .before .args in
+    let h : l .loop .l < length (l .loop .out) = in-list (surfaceEntries (surfaceNumbers (now (a .a))) (a .n)) (l .loop .inv .0) (surface-next (surfaceNumbers (now (a .a))) (a .n) (l .loop .i) (l .loop .j) (l .loop .inv .1 .1 (c .before .before .loop-test .taken))) in
+    omega (arith, h, l .loop .inv .0 .long, rows-length (surfaceNumbers (now (a .a))) 0 (suc (a .n)), room (c .before .before .before .before .pre .0))
+
+slice-set-from-out : tie.Need-slice-set-from-out Inv-loop μ-loop
+slice-set-from-out c =
+    let l = c .before .before .before in
+    let a = c .before .before .before .before .args in
+    in-list (surfaceEntries (surfaceNumbers (now (a .a))) (a .n)) (l .loop .inv .0) (surface-next (surfaceNumbers (now (a .a))) (a .n) (l .loop .i) (l .loop .j) (l .loop .inv .1 .1 (c .before .before .loop-test .taken)))
+
+add-l : tie.Need-add-l Inv-loop μ-loop
+add-l c =
+    let l = c .before .before .before in
+    let a = c .before .before .before .before .args in
+    let h : l .loop .l < length (l .loop .out) = in-list (surfaceEntries (surfaceNumbers (now (a .a))) (a .n)) (l .loop .inv .0) (surface-next (surfaceNumbers (now (a .a))) (a .n) (l .loop .i) (l .loop .j) (l .loop .inv .1 .1 (c .before .before .loop-test .taken))) in
+    omega (arith, h, l .loop .inv .0 .long, rows-length (surfaceNumbers (now (a .a))) 0 (suc (a .n)), room (c .before .before .before .before .pre .0))
+
+add-j : tie.Need-add-j Inv-loop μ-loop
+add-j c =
+    let l = c .before .before .before in
+    omega (arith, l .loop .inv .1 .1 (c .before .before .loop-test .taken))
+
+add-if1 : tie.Need-add-if1 Inv-loop μ-loop
+add-if1 c =
+    let l = c .before .before .before in
+    omega (arith, l .loop .inv .1 .1 (c .before .before .loop-test .taken))
+
+add-i : tie.Need-add-i Inv-loop μ-loop
+add-i c = search needs
+
+loop-less : tie.Need-loop-less Inv-loop μ-loop
+loop-less c =
+    let l = c .before .before .before .before in
+    omega (arith, l .loop .inv .1 .1 (c .before .before .before .loop-test .taken))
+
+loop-again : tie.Need-loop-again Inv-loop μ-loop
+loop-again c =
+    let l = c .before .before .before .before in
+    let a = c .before .before .before .before .before .args in
+    let f : SFits w64 (getD (now (a .a)) (c .before .before .index .result) (pos 0)) = search needs in
+    (writing-turns (surfaceEntries (surfaceNumbers (now (a .a))) (a .n)) (rw (toZ-ofZ f, c .before .before .index .ensures) (writing-goes-on (surfaceEntries (surfaceNumbers (now (a .a))) (a .n)) (l .loop .inv .0) (surface-next (surfaceNumbers (now (a .a))) (a .n) (l .loop .i) (l .loop .j) (l .loop .inv .1 .1 (c .before .before .before .loop-test .taken))))) (surface-row (surfaceNumbers (now (a .a))) (a .n) (l .loop .i) (l .loop .j + 1) (c .if1 .taken)), (omega arith, λ h. omega arith))
+
+loop-less-2 : tie.Need-loop-less-2 Inv-loop μ-loop
+loop-less-2 c =
+    let l = c .before .before .before .before in
+    omega (arith, l .loop .inv .1 .1 (c .before .before .before .loop-test .taken))
+
+loop-again-2 : tie.Need-loop-again-2 Inv-loop μ-loop
+loop-again-2 c =
+    let l = c .before .before .before .before in
+    let a = c .before .before .before .before .before .args in
+    let f : SFits w64 (getD (now (a .a)) (c .before .before .index .result) (pos 0)) = search needs in
+    (rw (toZ-ofZ f, c .before .before .index .ensures) (writing-goes-on (surfaceEntries (surfaceNumbers (now (a .a))) (a .n)) (l .loop .inv .0) (surface-next (surfaceNumbers (now (a .a))) (a .n) (l .loop .i) (l .loop .j) (l .loop .inv .1 .1 (c .before .before .before .loop-test .taken)))), (omega arith, λ h. c .if1 .left))
+
+same-length : tie.Need-same-length Inv-loop μ-loop
+same-length c =
+    let a = c .before .before .args in
+    c .before .loop .inv .0 .long ∙ rows-length (surfaceNumbers (now (a .a))) 0 (suc (a .n)) ∙ sym (c .before .before .pre .1)
+
+returns : tie.Need-returns Inv-loop μ-loop
+returns c =
+    let l = c .before in
+    let a = c .before .before .args in
+    let e : l .loop .j ≡ 0 = omega arith in
+    writing-ends (surfaceEntries (surfaceNumbers (now (a .a))) (a .n)) (l .loop .inv .0) (ap (surfaceLeft (surfaceNumbers (now (a .a))) (a .n) (l .loop .i)) e ∙ surface-end (surfaceNumbers (now (a .a))) (a .n) (c .loop-test .left))
+
+pub write-spec : {M : Type 1} → statement M
+write-spec = tie.close (tie.spec Inv-loop μ-loop loop-holds index-requires mul-out element-copy-out-out mul-t13 slice-set-from-out add-l add-j add-if1 add-i loop-less loop-again loop-less-2 loop-again-2 same-length returns)
