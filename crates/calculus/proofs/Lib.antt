@@ -5,6 +5,9 @@ pub mod Graded
 pub mod Pascal
 pub mod Filling
 pub mod SurfaceFilling
+pub mod Places
+pub mod Left
+pub mod Writing
 pub mod Related
 pub mod Rising
 pub mod Alike

@@ -11,6 +11,8 @@ ghost use Rattle.derivatives.specs.Answer.{curveNumbers, surfaceNumbers,
 use ieee::Real;
 
 mod curve;
+mod parameter;
+mod surface;
 
 // The derivatives of a curve, of the orders 0 to `order`.
 pub struct CurveDerivatives {
