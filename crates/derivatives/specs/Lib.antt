@@ -3,3 +3,4 @@ pub mod Rational
 pub mod Norm
 pub mod Answer
 pub mod Formula
+pub mod Composite
