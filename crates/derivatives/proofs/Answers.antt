@@ -37,7 +37,7 @@ module _ {A : Type 0} (b : Bool) (x y : A) where
   pub no : b ≡ false → cond b x y ≡ y
   no e = ap (λ (t : Bool). cond t x y) e
 
-second-not : (b d : Bool) → d ≡ false → (b && d) ≡ false
+pub second-not : (b d : Bool) → d ≡ false → (b && d) ≡ false
 second-not true d e = e
 second-not false d e = refl
 
@@ -110,26 +110,28 @@ module _ {J K M N A : Type 0} (R : Reading J M) (S : Reading K N) (refused : ℕ
               op (R .numbers a) (S .numbers b) ≡ onTwoAt R S refused op a b m
           at-worked o p q = at-tested o p q
 
+-- ---- a jet of a curve that has been computed
+module _ (f : ℕ → Float) (n : ℕ) (l : n ≤ 20) {r : List Float} (h : r ≡ curveArray nil f n) where
+  jet-finite : {t : Bool} → finiteCurve (curveNumbers r) n ≡ t → finiteCurve f n ≡ t
+  jet-finite q = sym (filled-finite 21 f (suc n) (omega arith)) ∙ sym (ap (λ (z : List Float). finiteCurve (curveNumbers z) n) h) ∙ q
+
+  pub jet-infinite : finiteCurve (curveNumbers r) n ≡ false → refusedCurve 10 ≡ returnedCurve n f
+  jet-infinite q = sym (no (finiteCurve f n) (answeredCurve n f) (refusedCurve 10) (jet-finite q))
+
+  pub jet-returned : finiteCurve (curveNumbers r) n ≡ true → made n r ≡ returnedCurve n f
+  jet-returned q = ap (made n) h ∙ sym (yes (finiteCurve f n) (answeredCurve n f) (refusedCurve 10) (jet-finite q))
+
 -- ---- a formula on curves, worked
 module _ (f : CurveFormula) (x y : ℕ → Float) (n : ℕ) where
   pub by-zero : divisionByZero f (y 0) ≡ true → refusedCurve 7 ≡ byCurveFormula f x y n
   by-zero e = sym (yes (divisionByZero f (y 0)) (refusedCurve 7) (returnedCurve n (curveOf f x y)) e)
 
   module _ (e : divisionByZero f (y 0) ≡ false) (l : n ≤ 20) {r : List Float} (h : r ≡ curveArray nil (curveOf f x y) n) where
-    entries-finite : {t : Bool} → finiteCurve (curveNumbers r) n ≡ t → finiteCurve (curveOf f x y) n ≡ t
-    entries-finite q =
-        sym (filled-finite 21 (curveOf f x y) (suc n) (omega arith)) ∙ sym (ap (λ (z : List Float). finiteCurve (curveNumbers z) n) h) ∙ q
-
     pub by-infinite : finiteCurve (curveNumbers r) n ≡ false → refusedCurve 10 ≡ byCurveFormula f x y n
-    by-infinite q =
-        sym (no (divisionByZero f (y 0)) (refusedCurve 7) (returnedCurve n (curveOf f x y)) e
-        ∙ no (finiteCurve (curveOf f x y) n) (answeredCurve n (curveOf f x y)) (refusedCurve 10) (entries-finite q))
+    by-infinite q = jet-infinite (curveOf f x y) n l h q ∙ sym (no (divisionByZero f (y 0)) (refusedCurve 7) (returnedCurve n (curveOf f x y)) e)
 
     pub by-formula : finiteCurve (curveNumbers r) n ≡ true → made n r ≡ byCurveFormula f x y n
-    by-formula q =
-        ap (made n) h
-        ∙ sym (no (divisionByZero f (y 0)) (refusedCurve 7) (returnedCurve n (curveOf f x y)) e
-        ∙ yes (finiteCurve (curveOf f x y) n) (answeredCurve n (curveOf f x y)) (refusedCurve 10) (entries-finite q))
+    by-formula q = jet-returned (curveOf f x y) n l h q ∙ sym (no (divisionByZero f (y 0)) (refusedCurve 7) (returnedCurve n (curveOf f x y)) e)
 
 -- ---- a formula on surfaces, worked
 module _ (f : SurfaceFormula) (x y : ℕ → ℕ → Float) (n : ℕ) where

@@ -5,3 +5,5 @@ pub mod Curves
 pub mod Surfaces
 pub mod Answers
 pub mod Parameters
+pub mod Counts
+pub mod Carries
