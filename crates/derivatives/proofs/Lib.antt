@@ -7,3 +7,5 @@ pub mod Answers
 pub mod Parameters
 pub mod Counts
 pub mod Carries
+pub mod Norms
+pub mod Upto
