@@ -1,0 +1,39 @@
+use native.Mathlib.Nat.{mul-le-mul-right}
+-- `derivatives::binomial` meets its contract. Assumes nothing.
+use Rattle.derivatives.proofs.Terms.{coefficient}
+use Rattle.calculus.proofs.Graded.{index-231}
+use Rattle.calculus.specs.Graded.{index}
+use lib.ListN.{getD}
+use denote.Ref.{now}
+use mathlib.Core.Path.{_≡_, refl, sym, ap, ap₂, _∙_}
+use Prim.Native.Nat.{ℕ, suc, _+_, _-_, _*_, _≤_, _<_}
+use native.Mathlib.Omega.{arith}
+use borrow.Author.Needs.{needs}
+use Rattle.derivatives.proofs.binomial.Statement.{statement}
+use Rattle.derivatives.proofs.binomial.Tie as tie
+use Rattle.derivatives.proofs.binomial.Reads as reads
+use Rattle.derivatives.proofs.binomial.Lts as lts
+use Rattle.derivatives.proofs.index.Reads as index-reads
+
+small : (k : ℕ) → k < 231 → k * 4 < 924
+small k h = omega arith
+
+sub-index : tie.Need-sub-index
+sub-index c = search needs
+
+index-requires : tie.Need-index-requires
+index-requires c κs = search needs
+
+mul-result : tie.Need-mul-result
+mul-result c = record { fits = omega (arith, small (c .index .result) (rw (c .index .ensures) (index-231 (c .before .args .i) (c .before .args .m - c .before .args .i) (omega arith)))) }
+
+element-copy-out-result : tie.Need-element-copy-out-result
+element-copy-out-result c = rw (c .index .ensures) (index-231 (c .before .args .i) (c .before .args .m - c .before .args .i) (omega arith))
+
+returns : tie.Need-returns
+returns c = let s = c .before .before in
+    ap₂ (λ l k. getD l k 0) (s .pre .2) (c .before .index .ensures) ∙ coefficient (s .args .m) (s .args .i) (s .pre .0) (s .pre .1)
+
+pub binomial-spec : {M : Type 1} → statement M
+binomial-spec =
+    tie.close (tie.spec sub-index index-requires mul-result element-copy-out-result returns)

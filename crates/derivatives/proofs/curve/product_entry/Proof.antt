@@ -1,0 +1,51 @@
+-- `derivatives::curve::product_entry` meets its contract. The invariant: the sum of the first i terms. Assumes nothing.
+use Rattle.derivatives.proofs.Terms.{one-more}
+use Rattle.derivatives.specs.Answer.{curveNumbers}
+use Rattle.derivatives.specs.Real.{nil, real}
+use Rattle.calculus.specs.Curve.{leibniz}
+use Rattle.calculus.specs.InTurn.{inTurn}
+use Rattle.calculus.specs.Kind.{regular}
+use native.Mathlib.Numerals.{add-one}
+use denote.Ref.{now}
+use mathlib.Core.Path.{_≡_, refl, sym, ap, ap₂, _∙_}
+use Prim.Native.Nat.{ℕ, suc, _+_, _-_, _≤_, _<_}
+use native.Mathlib.Omega.{arith}
+use borrow.Author.Needs.{needs}
+use Rattle.derivatives.proofs.curve.product_entry.Statement.{statement}
+use Rattle.derivatives.proofs.curve.product_entry.Tie as tie
+use Rattle.derivatives.proofs.curve.product_entry.Reads as reads
+use Rattle.derivatives.proofs.curve.product_entry.Lts as lts
+use Rattle.derivatives.proofs.curve.leibniz_term.Reads as leibniz-term-reads
+
+abbrev Inv-loop : tie.InvT-loop
+Inv-loop a b c m sum₀ i₀ sum i = (sum ≡ inTurn (real .plus) nil (leibniz (regular real) (real .times) (curveNumbers a) (curveNumbers b) m) i) × (i ≤ suc m)
+
+abbrev μ-loop : tie.MeasureT-loop
+μ-loop a b c m sum₀ i₀ sum i = suc m - i
+
+loop-holds : tie.Need-loop-holds Inv-loop μ-loop
+unfolding inTurn
+loop-holds c = (refl, omega arith)
+
+leibniz-term-requires : tie.Need-leibniz-term-requires Inv-loop μ-loop
+leibniz-term-requires c κs = search needs
+
+add-i : tie.Need-add-i Inv-loop μ-loop
+add-i c = search needs
+
+loop-less : tie.Need-loop-less Inv-loop μ-loop
+loop-less c = search needs
+
+loop-again : tie.Need-loop-again Inv-loop μ-loop
+loop-again c = let l = c .before .before in
+    (one-more (real .plus) nil _ (l .loop .inv .0) (c .leibniz-term .ensures) (add-one (l .loop .i)), omega arith)
+
+returns : tie.Need-returns Inv-loop μ-loop
+returns c = let s = c .before .before .args in
+    let e : c .before .loop .i ≡ suc (s .m) = omega arith in
+    c .before .loop .inv .0 ∙ ap (inTurn (real .plus) nil (leibniz (regular real) (real .times) (curveNumbers (now (s .a))) (curveNumbers (now (s .b))) (s .m))) e
+
+pub product-entry-spec : {M : Type 1} → statement M
+product-entry-spec =
+    tie.close
+    (tie.spec Inv-loop μ-loop loop-holds leibniz-term-requires add-i loop-less loop-again returns)
