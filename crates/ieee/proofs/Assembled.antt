@@ -1,17 +1,17 @@
 -- The bits of a normal value q * 2 ^ k of the smallest values, q having 53 digits or being 2 ^ 53: k * 2 ^ 52 + q. Assumes nothing.
-use mathlib.Core.Path.{_≡_, refl, sym, ap, _∙_, subst}
+use mathlib.Core.Path.{_≡_, sym, ap, _∙_, subst}
 use mathlib.Core.Logic.{_⊎_, inl, inr}
 use mathlib.Core.Bool.{Bool, true, false, not, cond, true≢false}
-use Prim.Native.Nat.{ℕ, zero, suc, _+_, _-_, _*_, _/_, _%_, _^_, _≤_, _<_}
-use native.Mathlib.Nat.{le-refl, le-trans, le-of-eq, lt-of-le-of-lt, eq-or-lt-of-le, zero-add, mul-assoc, mul-le-mul-right, mul-div-cancel, pow-succ', mod-eq-of-lt}
+use Prim.Native.Nat.{ℕ, suc, _+_, _-_, _*_, _/_, _^_, _≤_, _<_}
+use native.Mathlib.Nat.{le-refl, le-of-eq, lt-of-le-of-lt, eq-or-lt-of-le, zero-add, mul-assoc, mul-le-mul-right, mul-div-cancel, pow-succ', mod-eq-of-lt}
 use native.Mathlib.Omega.{arith}
 use lib.Dec.{T, ltb, ltb→lt, lit<}
 use lib.Arith.{le→nltb}
 use lib.Pow.{pow-add, pow-pos, pow-lt}
-use lib.Ieee.{Float, nan, inf, fin, binary64, prec, emax, low, up, down, size, odd, units, fits, toBits, ofBits, nanBits}
+use lib.Ieee.{Float, nan, inf, fin, binary64, down, size, odd, units, fits, toBits, ofBits, nanBits}
 use lib.Ieee.Exact.{HasValue, units-val}
 use lib.Ieee.Fits.{down-pos, odd-fits, inf-fits}
-use lib.Ieee.Bits.{ofBits-toBits, nanBits-above, is-false}
+use lib.Ieee.Bits.{ofBits-toBits, nanBits-above}
 use Rattle.ieee.proofs.Scaled.{size-shifted}
 
 -- ---- the bits, by the value

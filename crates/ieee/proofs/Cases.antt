@@ -1,12 +1,11 @@
 -- The cases of the square root, by the tests that `sqrt` makes: above zero, finite, zero. Assumes nothing.
-use mathlib.Core.Path.{_≡_, refl, sym, ap, _∙_, subst}
-use mathlib.Core.Bool.{Bool, true, false, not, _&&_, _||_, Bool·beq, true≢false}
+use mathlib.Core.Path.{_≡_, refl, sym, ap, _∙_}
+use mathlib.Core.Bool.{Bool, true, false, _&&_, _||_, Bool·beq, true≢false}
 use Prim.Native.Nat.{ℕ, zero, suc, _*_, _≤_, _<_}
-use native.Mathlib.Nat.{zero-lt-suc, zero-mul, mul-one, mul-pos, lt-irrefl}
+use native.Mathlib.Nat.{zero-lt-suc, zero-mul, mul-pos}
 use native.Mathlib.Omega.{arith}
 use borrow.Author.Tests.{ltb-true, ltb-false, eqb-true}
-use lib.Dec.{T, ltb, eqb, lt→ltb}
-use lib.IntN.{ℤ, pos, negsuc}
+use lib.Dec.{T, eqb, lt→ltb}
 use lib.Ieee.{Float, nan, inf, fin, binary64, up, down, lt, eq, div, ofBits}
 use lib.Ieee.Fits.{up-pos}
 use lib.Ieee.Positive.{positive}

@@ -1,9 +1,9 @@
 -- Finite values as counts of the smallest value: digits of 53 places at most, times a power of two; and their order by the counts. Assumes nothing.
-use mathlib.Core.Path.{_≡_, refl, sym, ap, _∙_, subst}
+use mathlib.Core.Path.{_≡_, refl, sym, ap, _∙_}
 use mathlib.Core.Logic.{inl, inr}
-use mathlib.Core.Bool.{Bool, true, false, _&&_, true≢false}
+use mathlib.Core.Bool.{true, false, _&&_, true≢false}
 use Prim.Native.Nat.{ℕ, zero, suc, _+_, _-_, _*_, _/_, _%_, _^_, _≤_, _<_}
-use native.Mathlib.Nat.{le-of-suc-le-suc, lt-of-le-of-lt, lt-of-lt-of-le, lt-of-not-le, not-le-of-lt, le-of-eq, eq-zero-or-pos, zero-lt-suc, zero-mul, mul-one, mul-assoc, mul-comm, mul-right-comm, mul-pos, mul-lt-mul-of-pos-right, lt-of-mul-lt-mul-right}
+use native.Mathlib.Nat.{le-of-suc-le-suc, lt-of-le-of-lt, lt-of-lt-of-le, lt-of-not-le, not-le-of-lt, le-of-eq, eq-zero-or-pos, zero-mul, mul-one, mul-assoc, mul-comm, mul-right-comm, mul-lt-mul-of-pos-right, lt-of-mul-lt-mul-right}
 use native.Mathlib.Omega.{arith}
 use lib.Dec.{T, eqb, ltb, leb, ltb→lt, leb→le, lit<}
 use lib.IntN.{ℤ, pos, negsuc}
@@ -13,7 +13,7 @@ use lib.Ieee.Digits.{back}
 use lib.Ieee.Exact.{HasValue}
 use lib.Ieee.Fits.{and-l, and-r, down-pos}
 use lib.Ieee.Positive.{positive}
-use Rattle.ieee.proofs.Fields.{Read, read}
+use Rattle.ieee.proofs.Fields.{read}
 
 -- ---- a positive value
 pub record Count (x : Float) : Type 0 where

@@ -5,7 +5,7 @@ use Prim.Native.Nat.{ℕ}
 use lib.Ieee.{nan, inf, binary64, ofBits, toBits}
 use Rattle.ieee.specs.SquareRoot.{squareRoot}
 use Rattle.ieee.specs.Answer.{rootAnswer}
-use Rattle.ieee.specs.declared.Real.the-variants.{Value, Refused}
+use Rattle.ieee.specs.declared.Real.the-variants.{Refused}
 
 -- the bits of the root of the float with the bits b
 abbrev pub rootBits : ℕ → ℕ

@@ -1,11 +1,11 @@
 -- The fields of a positive value's bits give it as a count of the smallest values, and its square root as that of the count. Assumes nothing.
 use mathlib.Core.Path.{_≡_, refl, sym, ap, _∙_, subst}
-use mathlib.Core.Bool.{Bool, true, false, not, cond, true≢false}
-use Prim.Native.Nat.{ℕ, zero, suc, _+_, _-_, _*_, _/_, _%_, _^_, _≤_, _<_}
-use native.Mathlib.Nat.{zero-lt-suc, mul-div-cancel, mod-eq-of-lt, lt-irrefl}
+use mathlib.Core.Bool.{Bool, true, false, not, cond}
+use Prim.Native.Nat.{ℕ, zero, suc, _+_, _-_, _*_, _/_, _%_, _^_, _<_}
+use native.Mathlib.Nat.{zero-lt-suc, mul-div-cancel, mod-eq-of-lt}
 use native.Mathlib.Omega.{arith}
 use lib.Dec.{T, leb, eqb, nleb→lt, lit<}
-use lib.Ieee.{Float, nan, inf, fin, binary64, prec, low, ones, hid, up, down, odd, fits, ofFields, ofBits, toBits, isNan}
+use lib.Ieee.{Float, nan, inf, fin, binary64, down, odd, fits, ofFields, ofBits, toBits, isNan}
 use lib.Ieee.Exact.{HasValue, odd-sign}
 use lib.Ieee.Fits.{down-pos}
 use lib.Ieee.Positive.{positive}

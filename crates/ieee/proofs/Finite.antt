@@ -1,9 +1,8 @@
 -- A value less itself equals itself exactly where the value is finite: an infinity or a NaN leaves a NaN. Assumes nothing.
-use mathlib.Core.Path.{_≡_, refl, sym, ap, _∙_}
+use mathlib.Core.Path.{_≡_, refl, ap, _∙_}
 use mathlib.Core.Bool.{Bool, true, false, not, cond, _&&_, Bool·beq}
 use Prim.Native.Nat.{ℕ, zero, suc, _+_, _-_, _*_, _/_, _%_, _^_, compare}
 use lib.Dec.{ltb, eqb, eqb-refl}
-use lib.IntN.{ℤ}
 use lib.Ieee.{Float, nan, inf, fin, Format, binary64, prec, emax, low, size, nearest, odd, units, round, sum, sub, eq, isNan, up, down}
 use lib.Ieee.Bits.{is-true}
 use lib.Ieee.Fits.{round-is}

@@ -1,9 +1,9 @@
 -- The integer square root is the largest number whose square is at most n, and the only one. Assumes nothing.
-use mathlib.Core.Path.{_≡_, refl, sym, ap, _∙_, subst}
+use mathlib.Core.Path.{_≡_, sym, _∙_, subst}
 use mathlib.Core.Bool.{Bool, true, false, not, cond}
-use Prim.Native.Nat.{ℕ, zero, suc, _+_, _-_, _*_, _/_, _^_, _≤_, _<_, zero-le}
-use native.Mathlib.Nat.{le-trans, le-of-lt, le-antisymm, le-of-suc-le-suc, lt-of-lt-of-le, lt-of-not-le, not-le-of-lt, mul-one, mul-mul-mul-comm, mul-add, add-mul, mul-le-mul, pow-suc, pow-le-pow-left, div-lt-iff-lt-mul, zero-lt-suc}
-use native.Mathlib.Numerals.{add-one, add-one-le}
+use Prim.Native.Nat.{ℕ, zero, suc, _+_, _*_, _/_, _^_, _≤_, _<_, zero-le}
+use native.Mathlib.Nat.{le-trans, le-antisymm, le-of-suc-le-suc, lt-of-lt-of-le, lt-of-not-le, not-le-of-lt, mul-one, mul-mul-mul-comm, mul-add, add-mul, mul-le-mul, pow-suc, pow-le-pow-left, div-lt-iff-lt-mul, zero-lt-suc}
+use native.Mathlib.Numerals.{add-one}
 use native.Mathlib.Omega.{arith}
 use lib.Dec.{T, leb, leb→le, nleb→lt, lit≤}
 use lib.Ieee.{size}

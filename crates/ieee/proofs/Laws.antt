@@ -2,8 +2,8 @@
 -- `root-fits`: the defined root is a value of binary64. `root-positive`, `root-finite`: when it is positive, and when finite. Assumes nothing.
 use mathlib.Core.Path.{_≡_, refl, sym, ap, _∙_, subst}
 use mathlib.Core.Bool.{Bool, true, false, not, _&&_}
-use Prim.Native.Nat.{ℕ, zero, suc, _+_, _-_, _*_, _/_, _%_, _^_, _≤_, _<_, zero-le}
-use native.Mathlib.Nat.{zero-lt-suc, zero-mul, le-trans, le-of-eq, lt-of-le-of-lt, lt-of-lt-of-le, lt-of-not-le, not-le-of-lt, add-sub-of-le, add-mul, mul-add, mul-comm, mul-assoc, mul-left-comm, mul-right-comm, mul-le-mul, mul-pos, mul-lt-mul-of-pos-right, lt-of-mul-lt-mul-right, mod-lt}
+use Prim.Native.Nat.{ℕ, zero, suc, _+_, _-_, _*_, _%_, _^_, _≤_, _<_, zero-le}
+use native.Mathlib.Nat.{zero-lt-suc, zero-mul, le-trans, le-of-eq, lt-of-le-of-lt, lt-of-lt-of-le, lt-of-not-le, not-le-of-lt, add-sub-of-le, add-mul, mul-comm, mul-assoc, mul-left-comm, mul-right-comm, mul-le-mul, mul-pos, mul-lt-mul-of-pos-right, lt-of-mul-lt-mul-right, mod-lt}
 use native.Mathlib.Omega.{arith}
 use borrow.Author.Tests.{lt-ltb, le-ltb}
 use lib.Dec.{T, ltb, lt→ltb}
@@ -17,13 +17,13 @@ use lib.Ieee.Fits.{nan-fits, inf-fits, up-pos}
 use lib.Ieee.Positive.{positive, num, den, den-pos, value→cross, positive-of-value}
 use lib.Ieee.Scale.{finite}
 use Rattle.ieee.specs.SquareRoot.{isqrt, squareRoot}
-use Rattle.ieee.specs.Nearest.{nearerRoot, rootBelowMiddle, rootAboveMiddle}
+use Rattle.ieee.specs.Nearest.{nearerRoot}
 use Rattle.ieee.proofs.Isqrt.{square-more, isqrt-low, isqrt-high}
 use Rattle.ieee.proofs.Scaled.{Place, place, dropped, shift, word, radicand, radicand-is, radicand-low, four-pow}
 use Rattle.ieee.proofs.Assembled.{in-range, units-fits}
 use Rattle.ieee.proofs.Fields.{root-at}
 use Rattle.ieee.proofs.Units.{Digits, up-or-down, in-between, defined, full}
-use Rattle.ieee.proofs.Counted.{Count, count, Other, other, lt-counts}
+use Rattle.ieee.proofs.Counted.{count, other, lt-counts}
 use Rattle.ieee.proofs.Middle.{below-middle, above-middle}
 
 -- ---- the digits of a positive value's root

@@ -1,7 +1,6 @@
 -- On whole numbers: √r * 2 ^ k, rounded to q or q + 1 times 2 ^ k, is nearer to that than to any other n * 2 ^ i with an n of 53 digits at most.
 -- Assumes nothing.
-use mathlib.Core.Path.{_≡_, refl, sym, ap, _∙_, subst}
-use mathlib.Core.Logic.{_⊎_, inl, inr}
+use mathlib.Core.Path.{_≡_, sym, ap, _∙_, subst}
 use mathlib.Core.Bool.{Bool, true, false, not, cond}
 use Prim.Native.Nat.{ℕ, suc, _+_, _-_, _*_, _^_, _≤_, _<_}
 use native.Mathlib.Nat.{le-trans, le-of-eq, le-of-lt, le-of-suc-le-suc, lt-of-lt-of-le, lt-of-le-of-lt, lt-of-not-le, lt-irrefl, not-le-of-lt, add-mul, one-mul, mul-assoc, mul-le-mul, mul-le-mul-right, mul-lt-mul-of-pos-left, mul-lt-mul-of-pos-right, lt-of-mul-lt-mul-right, mul-mul-mul-comm, mul-pos}

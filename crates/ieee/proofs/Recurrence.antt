@@ -1,6 +1,6 @@
 -- The digit-by-digit recurrence of `digits`: what holds before each turn, and that a turn keeps it. Assumes nothing.
 use mathlib.Core.Path.{_≡_, refl, sym, ap, _∙_, subst}
-use Prim.Native.Nat.{ℕ, suc, _+_, _-_, _*_, _/_, _%_, _^_, _≤_, _<_}
+use Prim.Native.Nat.{ℕ, _+_, _-_, _*_, _/_, _%_, _^_, _≤_, _<_}
 use native.Mathlib.Nat.{le-antisymm, lt-of-lt-of-le, mul-assoc, mul-mul-mul-comm, pow-suc}
 use native.Mathlib.Numerals.{add-one, add-one-le}
 use native.Mathlib.Omega.{arith}

@@ -1,11 +1,11 @@
 -- The definition's rounding, by squares, is a comparison of the root with what its square leaves. Both never agree, so there is no tie. Assumes nothing.
 use mathlib.Core.Path.{_≡_, refl, sym, ap, _∙_, subst}
 use mathlib.Core.Bool.{Bool, true, false, not, cond}
-use Prim.Native.Nat.{ℕ, suc, _+_, _-_, _*_, _/_, _^_, _≤_, _<_, compare, Ordering, Ordering·lt, Ordering·eq, Ordering·gt}
-use native.Mathlib.Nat.{not-le-of-lt, le-of-lt, le-of-eq, lt-irrefl, mul-assoc, mul-lt-mul-of-pos-right, mul-div-cancel}
+use Prim.Native.Nat.{ℕ, _+_, _-_, _*_, _/_, _^_, _≤_, _<_, compare, Ordering, Ordering·lt, Ordering·eq, Ordering·gt}
+use native.Mathlib.Nat.{not-le-of-lt, le-of-lt, le-of-eq, mul-assoc, mul-lt-mul-of-pos-right, mul-div-cancel}
 use native.Mathlib.Numerals.{add-one}
 use native.Mathlib.Omega.{arith}
-use lib.Dec.{T, isLe, isEq, ltb, eqb, leb→le, nleb→lt, eqb→eq, ltb→lt, nltb→le}
+use lib.Dec.{T, isLe, isEq, ltb, leb→le, nleb→lt, eqb→eq, ltb→lt, nltb→le}
 use lib.Pow.{pow-pos}
 use lib.Ieee.{binary64, nearest, units, size}
 use Rattle.ieee.specs.SquareRoot.{isqrt, nearestRoot}

@@ -1,6 +1,5 @@
 -- What a function with one float for its answer returns: the float, or the number of a refusal. Assumes nothing.
 use mathlib.Core.Bool.{cond}
-use Prim.Native.Nat.{ℕ}
 use lib.Ieee.{Float}
 use lib.Ieee.Scale.{finite}
 use Rattle.ieee.specs.SquareRoot.{squareRoot}

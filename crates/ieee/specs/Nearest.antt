@@ -1,5 +1,5 @@
 -- When one value is nearer than another to an exact square root, by whole-number squares. Assumes nothing.
-use Prim.Native.Nat.{ℕ, _+_, _*_, _<_}
+use Prim.Native.Nat.{_+_, _*_, _<_}
 use lib.Dec.{T}
 use lib.Ieee.{Float, lt}
 use lib.Ieee.Positive.{num, den}

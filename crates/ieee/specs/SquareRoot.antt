@@ -3,7 +3,6 @@
 use mathlib.Core.Bool.{true, false, cond}
 use Prim.Native.Nat.{ℕ, zero, suc, _+_, _-_, _*_, _/_, _^_, compare}
 use lib.Dec.{leb}
-use lib.IntN.{ℤ}
 use lib.Ieee.{Float, nan, inf, fin, binary64, prec, low, up, down, size, nearest, units}
 
 -- the largest r with r * r ≤ n, for an n below 4 ^ k: all its binary digits but the last are those of the root of n / 4

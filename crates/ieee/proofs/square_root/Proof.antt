@@ -1,10 +1,7 @@
 -- `square_root` meets its contract: each arm returns what the definition's tests pick. Assumes nothing.
 use mathlib.Core.Path.{sym, ap, _∙_}
-use lib.Ieee.{Float}
-use lib.Ieee.Scale.{finite}
 use Rattle.ieee.specs.SquareRoot.{squareRoot}
 use Rattle.ieee.specs.Answer.{returned}
-use Rattle.ieee.specs.declared.Real.{Real}
 use Rattle.ieee.specs.declared.Real.the-variants.{Value, Refused}
 use Rattle.ieee.proofs.Tests.{first, second}
 use Rattle.ieee.proofs.square_root.Statement.{statement}

@@ -1,13 +1,10 @@
 -- `root::digits` meets its contract: each turn keeps the recurrence's `State`. Assumes nothing.
-use Prim.Native.Nat.{ℕ, suc, _+_, _-_, _≤_, _<_}
-use native.Mathlib.Omega.{arith}
+use Prim.Native.Nat.{_-_}
 use mathlib.Core.Logic.{⊎-elim}
 use borrow.Author.Needs.{needs}
 use Rattle.ieee.proofs.Recurrence.{State, starts, stays, takes, ends, renamed}
 use Rattle.ieee.proofs.root.digits.Statement.{statement}
 use Rattle.ieee.proofs.root.digits.Tie as tie
-use Rattle.ieee.proofs.root.digits.Reads as reads
-use Rattle.ieee.proofs.root.digits.Lts as lts
 
 abbrev Inv-loop : tie.InvT-loop
 Inv-loop w root₀ rest₀ left₀ i₀ root rest left i = State w root rest left i

@@ -1,13 +1,9 @@
 -- `root::of_units` meets its contract: the bits that it puts together are those of the defined root. Assumes nothing.
-use mathlib.Core.Path.{_≡_, sym, ap, _∙_, subst}
-use mathlib.Core.Bool.{not}
-use Prim.Native.Nat.{ℕ, suc, _+_, _-_, _*_, _/_, _%_, _^_, _≤_, _<_}
+use mathlib.Core.Path.{sym, ap, _∙_, subst}
+use Prim.Native.Nat.{ℕ, _+_, _*_, _%_, _^_, _≤_, _<_}
 use native.Mathlib.Omega.{arith}
-use borrow.Author.Needs.{needs}
-use lib.Dec.{T}
 use lib.Count.{leadingZeros, leading-le}
-use lib.Ieee.{binary64, ofBits, nanBits}
-use Rattle.ieee.specs.SquareRoot.{rootOf}
+use lib.Ieee.{binary64, ofBits}
 use Rattle.ieee.proofs.Scaled.{Place, place, dropped, shift, shift-room, shift-high}
 use Rattle.ieee.proofs.Assembled.{of-bits, no-nan}
 use Rattle.ieee.proofs.Units.{Digits, up-or-down, in-between, defined}

@@ -1,0 +1,72 @@
+-- The definitions at some values, computed, and a small input for each refusal. Assumes nothing.
+use mathlib.Core.Path.{_≡_, refl}
+use mathlib.Core.Bool.{true}
+use lib.Ieee
+use lib.Ieee.{Float, nan, binary64, ofBits, add, sub, mul, div, eq}
+use Rattle.ieee.specs.SquareRoot.{squareRoot}
+use Rattle.vectors.specs.Vectors.{vector, multiple, cross, magnitude}
+use Rattle.vectors.specs.Matrices.{square, columns, inverse2, inverse3, image3}
+use Rattle.vectors.specs.Answers.{nought, vectorFrom, quotientFrom, finiteVector, inverseAnswer2, inverseAnswer3, refused2, refused3}
+use Rattle.vectors.specs.declared.Matrix3.{Matrix3}
+use Rattle.vectors.specs.declared.VectorAnswer.the-variants.{Refused}
+
+-- 1.0 to 5.0, and 1e308
+abbrev one : Float
+one = ofBits binary64 0x3FF0_0000_0000_0000
+
+abbrev two : Float
+two = ofBits binary64 0x4000_0000_0000_0000
+
+abbrev three : Float
+three = ofBits binary64 0x4008_0000_0000_0000
+
+abbrev four : Float
+four = ofBits binary64 0x4010_0000_0000_0000
+
+abbrev five : Float
+five = ofBits binary64 0x4014_0000_0000_0000
+
+abbrev huge : Float
+huge = ofBits binary64 0x7FE1_CCF3_85EB_C8A0
+
+pub magnitude-3-4-0 : magnitude (vector three four nought) ≡ five
+unfolding squareRoot add mul ofBits
+magnitude-3-4-0 = refl
+
+-- x × y is z
+pub cross-x-y : cross (vector one nought nought) (vector nought one nought) ≡ vector nought nought one
+unfolding sub mul ofBits
+cross-x-y = refl
+
+abbrev doubling : Matrix3
+doubling = columns (vector two nought nought) (vector nought two nought) (vector nought nought two)
+
+pub inverse-of-doubling : image3 (inverse3 doubling) (vector two four nought) ≡ vector one two nought
+unfolding add sub mul div ofBits
+inverse-of-doubling = refl
+
+-- (1 2; 3 4) has the determinant −2
+pub inverse-2 : inverse2 (square one two three four) ≡ square (ofBits binary64 0xC000_0000_0000_0000) one (ofBits binary64 0x3FF8_0000_0000_0000) (ofBits binary64 0xBFE0_0000_0000_0000)
+unfolding Ieee.neg sub mul div ofBits
+inverse-2 = refl
+
+-- ---- refusals
+pub not-finite : vectorFrom (finiteVector (vector nan one one)) (vector one one one) ≡ Refused 5
+not-finite = refl
+
+pub overflow : vectorFrom true (multiple (vector huge one one) huge) ≡ Refused 10
+unfolding mul ofBits
+overflow = refl
+
+pub by-zero : quotientFrom true (vector four one one) nought ≡ Refused 7
+unfolding eq ofBits
+by-zero = refl
+
+pub singular-2 : inverseAnswer2 (square one two two four) ≡ refused2 6
+unfolding eq sub mul ofBits
+singular-2 = refl
+
+-- two equal columns
+pub singular-3 : inverseAnswer3 (columns (vector one nought nought) (vector nought one nought) (vector nought one nought)) ≡ refused3 6
+unfolding eq add sub mul ofBits
+singular-3 = refl

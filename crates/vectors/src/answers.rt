@@ -1,0 +1,197 @@
+// The operations as a tool maker calls them: a value, or a refusal. 5: an input is not finite; 6: a determinant equals zero; 7: a division
+// by zero is due; 10: a returned float is not finite.
+ghost use mathlib.Core.Path.{_≡_};
+ghost use mathlib.Core.Bool.{_&&_};
+ghost use lib.Ieee.Scale.{finite};
+ghost use Rattle.vectors.specs.Vectors.{sum, difference, multiple, dot, cross, magnitude};
+ghost use Rattle.vectors.specs.Matrices.{determinant2, determinant3, image3};
+ghost use Rattle.vectors.specs.Answers.{finiteVector, finiteMatrix2, finiteMatrix3};
+ghost use Rattle.vectors.specs.Answers.{vectorFrom, quotientFrom, realFrom, inverseAnswer2, inverseAnswer3};
+ghost use Rattle.vectors.specs.Answers.{refused2 as refusedBy2, refused3 as refusedBy3, returned2 as returnedBy2, returned3 as returnedBy3};
+use crate::Matrix2;
+use crate::Matrix2Answer;
+use crate::Matrix3;
+use crate::Matrix3Answer;
+use crate::Vector3;
+use crate::VectorAnswer;
+use crate::both;
+use ieee::Real;
+
+fn vector_from(inputs: bool, v: Vector3) -> VectorAnswer
+    ensures { λ r. ⌜ r ≡ vectorFrom inputs v ⌝ }
+{
+    if inputs {
+        if v.is_finite() {
+            return VectorAnswer::Value(v);
+        }
+        return VectorAnswer::Refused(10);
+    }
+    VectorAnswer::Refused(5)
+}
+
+fn real_from(inputs: bool, y: f64) -> Real
+    ensures { λ r. ⌜ r ≡ realFrom inputs y ⌝ }
+{
+    if inputs {
+        if ieee::is_finite(y) {
+            return Real::Value(y);
+        }
+        return Real::Refused(10);
+    }
+    Real::Refused(5)
+}
+
+pub fn vector_sum(a: Vector3, b: Vector3) -> VectorAnswer
+    ensures { λ r. ⌜ r ≡ vectorFrom (finiteVector a && finiteVector b) (sum a b) ⌝ }
+{
+    let inputs = both(a.is_finite(), b.is_finite());
+    vector_from(inputs, a.add(b))
+}
+
+pub fn vector_difference(a: Vector3, b: Vector3) -> VectorAnswer
+    ensures { λ r. ⌜ r ≡ vectorFrom (finiteVector a && finiteVector b) (difference a b) ⌝ }
+{
+    let inputs = both(a.is_finite(), b.is_finite());
+    vector_from(inputs, a.sub(b))
+}
+
+pub fn vector_multiple(a: Vector3, s: f64) -> VectorAnswer
+    ensures { λ r. ⌜ r ≡ vectorFrom (finiteVector a && finite s) (multiple a s) ⌝ }
+{
+    let inputs = both(a.is_finite(), ieee::is_finite(s));
+    vector_from(inputs, a.mul(s))
+}
+
+pub fn vector_quotient(a: Vector3, s: f64) -> VectorAnswer
+    ensures { λ r. ⌜ r ≡ quotientFrom (finiteVector a && finite s) a s ⌝ }
+{
+    if both(a.is_finite(), ieee::is_finite(s)) {
+        if s == 0.0 {
+            return VectorAnswer::Refused(7);
+        }
+        return vector_from(true, a.div(s));
+    }
+    VectorAnswer::Refused(5)
+}
+
+pub fn vector_cross(a: Vector3, b: Vector3) -> VectorAnswer
+    ensures { λ r. ⌜ r ≡ vectorFrom (finiteVector a && finiteVector b) (cross a b) ⌝ }
+{
+    let inputs = both(a.is_finite(), b.is_finite());
+    vector_from(inputs, a.cross(b))
+}
+
+pub fn vector_dot(a: Vector3, b: Vector3) -> Real
+    ensures { λ r. ⌜ r ≡ realFrom (finiteVector a && finiteVector b) (dot a b) ⌝ }
+{
+    let inputs = both(a.is_finite(), b.is_finite());
+    real_from(inputs, a.dot(b))
+}
+
+pub fn vector_magnitude(a: Vector3) -> Real
+    ensures { λ r. ⌜ r ≡ realFrom (finiteVector a) (magnitude a) ⌝ }
+{
+    let inputs = a.is_finite();
+    real_from(inputs, a.magnitude())
+}
+
+pub fn matrix2_determinant(m: Matrix2) -> Real
+    ensures { λ r. ⌜ r ≡ realFrom (finiteMatrix2 m) (determinant2 m) ⌝ }
+{
+    let inputs = m.is_finite();
+    real_from(inputs, m.determinant())
+}
+
+pub fn matrix3_determinant(m: Matrix3) -> Real
+    ensures { λ r. ⌜ r ≡ realFrom (finiteMatrix3 m) (determinant3 m) ⌝ }
+{
+    let inputs = m.is_finite();
+    real_from(inputs, m.determinant())
+}
+
+pub fn matrix3_image(m: Matrix3, v: Vector3) -> VectorAnswer
+    ensures { λ r. ⌜ r ≡ vectorFrom (finiteMatrix3 m && finiteVector v) (image3 m v) ⌝ }
+{
+    let inputs = both(m.is_finite(), v.is_finite());
+    vector_from(inputs, m.image(v))
+}
+
+fn refused2(n: u8) -> Matrix2Answer
+    ensures { λ r. ⌜ r ≡ refusedBy2 n ⌝ }
+{
+    Matrix2Answer {
+        refusal: n,
+        matrix: Matrix2 {
+            a: 0.0,
+            b: 0.0,
+            c: 0.0,
+            d: 0.0,
+        },
+    }
+}
+
+fn returned2(m: Matrix2) -> Matrix2Answer
+    ensures { λ r. ⌜ r ≡ returnedBy2 m ⌝ }
+{
+    if m.is_finite() {
+        return Matrix2Answer {
+            refusal: 0,
+            matrix: m,
+        };
+    }
+    refused2(10)
+}
+
+pub fn matrix2_inverse(m: Matrix2) -> Matrix2Answer
+    ensures { λ r. ⌜ r ≡ inverseAnswer2 m ⌝ }
+{
+    if m.is_finite() {
+        if m.determinant() == 0.0 {
+            return refused2(6);
+        }
+        return returned2(m.inverse());
+    }
+    refused2(5)
+}
+
+fn refused3(n: u8) -> Matrix3Answer
+    ensures { λ r. ⌜ r ≡ refusedBy3 n ⌝ }
+{
+    let zeros = Vector3 {
+        x: 0.0,
+        y: 0.0,
+        z: 0.0,
+    };
+    Matrix3Answer {
+        refusal: n,
+        matrix: Matrix3 {
+            c0: zeros,
+            c1: zeros,
+            c2: zeros,
+        },
+    }
+}
+
+fn returned3(m: Matrix3) -> Matrix3Answer
+    ensures { λ r. ⌜ r ≡ returnedBy3 m ⌝ }
+{
+    if m.is_finite() {
+        return Matrix3Answer {
+            refusal: 0,
+            matrix: m,
+        };
+    }
+    refused3(10)
+}
+
+pub fn matrix3_inverse(m: Matrix3) -> Matrix3Answer
+    ensures { λ r. ⌜ r ≡ inverseAnswer3 m ⌝ }
+{
+    if m.is_finite() {
+        if m.determinant() == 0.0 {
+            return refused3(6);
+        }
+        return returned3(m.inverse());
+    }
+    refused3(5)
+}
