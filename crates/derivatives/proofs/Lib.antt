@@ -3,3 +3,6 @@ pub mod Finite
 pub mod Quotients
 pub mod Curves
 pub mod Answers
+pub mod Vectors
+pub mod VectorAnswers
+pub mod VectorCurves

@@ -4,3 +4,6 @@ pub mod Norm
 pub mod Order
 pub mod Answer
 pub mod Formula
+pub mod Vector
+pub mod VectorAnswer
+pub mod VectorFormula

@@ -11,6 +11,9 @@ ghost use Rattle.derivatives.specs.Answer.{curveNumbers, surfaceNumbers,
 use ieee::Real;
 
 mod curve;
+mod vector_array;
+mod vector_curve;
+mod vector_entries;
 
 // The derivatives of a curve, of the orders 0 to `order`.
 pub struct CurveDerivatives {
@@ -31,10 +34,21 @@ pub struct ParameterCurve {
     pub v: [f64; 21],
 }
 
+// The derivatives of a curve of vectors: x, y and z of each order, side by side.
+pub struct VectorCurveDerivatives {
+    pub order: usize,
+    pub entries: [f64; 63],
+}
+
 // A jet beside its refusal number: 0, and zeros past the order; or the number, and the zero jet of order 0.
 pub struct CurveAnswer {
     pub refusal: u8,
     pub jet: CurveDerivatives,
+}
+
+pub struct VectorCurveAnswer {
+    pub refusal: u8,
+    pub jet: VectorCurveDerivatives,
 }
 
 pub struct SurfaceAnswer {
