@@ -15,11 +15,10 @@ use Rattle.calculus.proofs.Ring.{zero-add, mul-zero, mul-one, mul-assoc
 use Rattle.calculus.proofs.Sums.{sum-cong, sum-front, sum-linear, through-sum, times-right, Linear}
 use Rattle.calculus.proofs.Binom.{leib, leib-linear, leib-cong}
 use Rattle.calculus.proofs.Curves.{_·_, D}
-use Rattle.calculus.proofs.Tests.{by-eqb, eqb-no}
+use Rattle.partitions.proofs.Tests.{by-eqb, eqb-no}
 use Rattle.calculus.proofs.Desc.{desc, of-total, desc-linear, desc-cong, over-parts}
-use Rattle.calculus.proofs.Out.{weight}
-use Rattle.calculus.proofs.Mult.{mult}
-use Rattle.calculus.proofs.Runs.{multiplicity-is}
+use Rattle.partitions.proofs.Out.{weight}
+use Rattle.calculus.proofs.Mult.{mult, multiplicity-is}
 use Rattle.calculus.proofs.Faa.{faa, key}
 use Rattle.calculus.proofs.Tensor.{T, tensor-is, symmetric}
 

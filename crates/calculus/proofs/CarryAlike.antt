@@ -12,8 +12,8 @@ use Rattle.partitions.specs.Parts.{multiplicity}
 use Rattle.calculus.specs.Kind.{Module}
 use Rattle.calculus.specs.Carry.{digits, factors, tensor, summand, throughLen, fieldDerivative, fieldDerivatives, ones, surfaceEntry, coordinates, compositeDerivative, compositeDerivatives}
 use Rattle.calculus.proofs.Related.{RelatedModules, CurvesAlike, SurfacesAlike, inTurn-alike, alongList-alike}
-use Rattle.calculus.proofs.Desc.{Down, none, one}
-use Rattle.calculus.proofs.Lists.{sound}
+use Rattle.partitions.proofs.Down.{Down, none, one}
+use Rattle.partitions.proofs.Lists.{sound}
 
 pub digits-length : (d : ℕ) (l : List ℕ) (mask : ℕ) → length (digits d l mask) ≡ length l
 unfolding digits
@@ -21,9 +21,14 @@ digits-length d [] mask = refl
 digits-length d (a ∷ l) mask = rw (digits-length d l (mask / d)) refl
 
 pub ones-le : (l : List ℕ) (mask : ℕ) → ones (digits 2 l mask) ≤ length l
-unfolding digits
+unfolding ones digits
 ones-le [] mask = omega arith
 ones-le (a ∷ l) mask = omega (arith, ones-le l (mask / 2))
+
+-- at order 0 a carried jet has the surface's [0][0]
+pub composite-zero : {S A : Type 0} (M : Module S A) (u v : ℕ → S) (s : ℕ → ℕ → A) → compositeDerivatives M u v s 0 ≡ s 0 0
+unfolding ones
+composite-zero M u v s = refl
 
 module _ {S T A B : Type 0} (P : S → T → Type 0) (R : A → B → Type 0) (M : Module S A) (N : Module T B) (r : RelatedModules P R M N) (n : ℕ) where
   -- any number of variables: the coordinates, and the entries that masks name

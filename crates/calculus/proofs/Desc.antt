@@ -10,9 +10,10 @@ use lib.ListN.{length}
 use lib.IntN.{ℤ, pos}
 use Rattle.calculus.proofs.Ints.{_⊕_, _⊗_, over}
 use Rattle.partitions.specs.Parts.{total, parts}
+use Rattle.partitions.proofs.Down.{Down, none, one, wider, long}
 use Rattle.calculus.proofs.Ring.{middle, zeros, mul-add, zero-add, add-zero, add-assoc}
 use Rattle.calculus.proofs.Sums.{Linear, at-zero}
-use Rattle.calculus.proofs.Tests.{by-leb, by-eqb, eqb-yes, eqb-no, eqb-iff}
+use Rattle.partitions.proofs.Tests.{by-leb, by-eqb, eqb-yes, eqb-no, eqb-iff}
 
 -- the sum of f over the nonincreasing lists of k parts from 1 to m
 unfoldable pub desc : ℕ → ℕ → (List ℕ → ℤ) → ℤ
@@ -119,26 +120,12 @@ over-parts (suc k) (suc m) n f =
     same : (l : List ℕ) → suc m ≤ n → eqb (total l) (n - suc m) ≡ eqb (suc m + total l) n
     same l h = eqb-iff (total l) (n - suc m) (suc m + total l) n (λ e. omega arith) (λ e. omega arith)
 
--- a nonincreasing list of parts from 1 to m
-pub data Down : ℕ → List ℕ → Type 0 where
-  none : {m : ℕ} → Down m []
-  one : {m a : ℕ} {l : List ℕ} → suc a ≤ m → Down (suc a) l → Down m (suc a ∷ l)
-
-pub wider : {m : ℕ} {l : List ℕ} → Down m l → Down (suc m) l
-wider none = none
-wider {m} (one {a = a} h d) = one {m = suc m} {a = a} (omega arith) d
-
 pub desc-cong : (k m : ℕ) {f g : List ℕ → ℤ} → ((l : List ℕ) → Down m l → length l ≡ k → f l ≡ g l) → desc k m f ≡ desc k m g
 unfolding desc
 desc-cong zero m h = h [] none refl
 desc-cong (suc k) zero h = refl
 desc-cong (suc k) (suc m) h =
     ap₂ (λ x y. x ⊕ y) (desc-cong k (suc m) (λ l d e. h (suc m ∷ l) (one {m = suc m} {a = m} (omega arith) d) (ap suc e))) (desc-cong (suc k) m (λ l d e. h l (wider d) e))
-
-pub long : {m : ℕ} {l : List ℕ} → Down m l → length l ≤ total l
-unfolding total
-long none = omega arith
-long (one h d) = omega (arith, long d)
 
 -- a list with the sum n has no part above n, and at most n of them
 of-total-no : (n : ℕ) (f : List ℕ → ℤ) (l : List ℕ) → ¬ (total l ≡ n) → of-total n f l ≡ pos 0

@@ -13,9 +13,10 @@ use Rattle.partitions.specs.Parts.{total}
 use Rattle.calculus.proofs.Ring.{zero-add, add-zero, zero-mul, mul-assoc}
 use Rattle.calculus.proofs.Sums.{sum-cong, sum-front, sum-linear, times-right, through-sum, at-zero}
 use Rattle.calculus.proofs.Binom.{leib, leib-is}
-use Rattle.calculus.proofs.Tests.{by-eqb, by-leb, eqb-yes, eqb-no}
+use Rattle.partitions.proofs.Tests.{by-eqb, by-leb, eqb-yes, eqb-no}
 use Rattle.calculus.proofs.Desc.{desc, without, of-total, reindex, desc-linear, without-linear, desc-cong, narrow, too-long}
-use Rattle.calculus.proofs.Out.{Out, Pos, down-pos, without-cong, out-total}
+use Rattle.partitions.proofs.Out.{Out, Pos, down-pos, out-total}
+use Rattle.calculus.proofs.Out.{without-cong}
 use Rattle.calculus.proofs.Mult.{mult, split, split-is}
 
 -- the sum of f over the nonincreasing lists with the sum n
@@ -53,7 +54,7 @@ module _ (T : List ℕ → ℤ) (symm : (v : ℕ) (l r : List ℕ) → Out v l r
       ∙ ap (λ x. (x ⊗ pos (mult r)) ⊗ pos (binom n w)) (sym (symm (suc w) l r o)) ∙ mul-assoc _ _ _)
       ∙ without-linear (suc w) l .times (T l) (λ r. pos (mult r) ⊗ pos (binom n w)))
       ∙ sum-linear (suc n) .times (T l) (λ w. without (suc w) l (λ r. pos (mult r) ⊗ pos (binom n w)))
-      ∙ ap (λ x. T l ⊗ x) (split-is n p t)))
+      ∙ ap (λ x. T l ⊗ x) (split-is n l p t)))
       (λ t. sym (sum-cong (suc n) (λ w h.
       without-cong (suc w) l (λ r o.
       ap (λ b. cond b (T (suc w ∷ r) ⊗ pos (mult r)) (pos 0) ⊗ pos (binom n w)) (eqb-no (total r) (n - w) (λ e. omega (arith, out-total o)))

@@ -11,7 +11,7 @@ use Rattle.calculus.specs.Rising.{before}
 use Rattle.calculus.specs.Choose.{choose}
 use Rattle.calculus.specs.Curve
 use Rattle.calculus.specs.Surface
-use Rattle.calculus.specs.Carry.{digits, factors, throughLen, compositeDerivatives}
+use Rattle.calculus.specs.Carry.{digits, factors, throughLen, ones, compositeDerivatives}
 use Rattle.calculus.specs.Graded.{place, graded}
 use Rattle.calculus.specs.Array.{listed, curveArray}
 
@@ -42,11 +42,11 @@ abbrev carried : (ℕ → ℕ → ℤ) → List ℤ
 carried s = listed (compositeDerivatives (regular plain) (curve (pos 0 ∷ pos 1 ∷ pos 2 ∷ [])) (curve (pos 0 ∷ pos 2 ∷ pos 1 ∷ [])) s) 0 3
 
 carried-surface : carried given ≡ pos 5 ∷ pos 8 ∷ pos 48 ∷ []
-unfolding listed throughLen alongList inTurn factors digits multiplicity divide runs runsFrom total fact parts
+unfolding listed throughLen alongList inTurn factors digits ones multiplicity divide runs runsFrom total fact parts
 carried-surface = refl
 
 carried-square : carried (Surface.product plain given given) ≡ pos 25 ∷ pos 80 ∷ pos 608 ∷ []
-unfolding listed throughLen alongList inTurn inRows choose factors digits multiplicity divide runs runsFrom total fact parts
+unfolding listed throughLen alongList inTurn inRows choose factors digits ones multiplicity divide runs runsFrom total fact parts
 carried-square = refl
 
 -- a surface's quotient: the square over the surface, up to order 2

@@ -1,5 +1,5 @@
--- The laws of carrying along a curve, at the integers: it keeps sums, differences, products and exact quotients. First for surfaces, in the
--- forms that contracts cite; then for fields of any number of variables. Assumes nothing.
+-- The laws of the formulas at the integers. Carrying along a curve keeps sums, differences, products and exact quotients: for fields of any
+-- number of variables, and for surfaces in the forms that contracts cite. Assumes nothing.
 use mathlib.Core.Path.{_≡_, refl, sym, _∙_, ap, ap₂, subst, fun-ext}
 use Prim.Native.Nat.{ℕ, suc, _+_, _≤_}
 use lib.IntN.{ℤ, pos, _*ℤ_}
@@ -7,7 +7,7 @@ use lib.Signed.{remZ}
 use Rattle.calculus.specs.Kind.{regular, plain}
 use Rattle.calculus.specs.Curve
 use Rattle.calculus.specs.Surface
-use Rattle.calculus.specs.Carry.{digits, coordinates, fieldDerivatives, compositeDerivatives}
+use Rattle.calculus.specs.Carry.{digits, ones, coordinates, fieldDerivatives, compositeDerivatives}
 use Rattle.calculus.proofs.Ints.{_⊕_, _⊗_, neg, sum}
 use Rattle.calculus.proofs.Jets.{curveMul}
 use Rattle.calculus.proofs.Space.{carry}
@@ -137,9 +137,11 @@ module _ (u v : ℕ → ℤ) where
     surface-factor m l = carry-upto N h m l ∙ carry-product q den m ∙ product-comm (carried q) (carried den) m
 
     pub carry-quotient : CurvesAgree N (Curve.quotient plain (carried num) (carried den)) (carried q)
+    unfolding ones
     carry-quotient = quotient-factor N (carried num) (carried den) (carried q) surface-factor z
 
     pub carry-dividend : (m : ℕ) → m ≤ N → Curve.dividend plain (carried num) (carried den) m ≡ carried q m *ℤ carried den 0
+    unfolding ones
     carry-dividend = dividend-factor N (carried num) (carried den) (carried q) surface-factor z
 
     pub carry-remainder : (m : ℕ) → m ≤ N → remZ (Curve.dividend plain (carried num) (carried den) m) (carried den 0) ≡ pos 0

@@ -1,26 +1,30 @@
+-- the laws of the formulas at the integers, and document 01's figures
+pub mod Laws
 pub mod Figures
-pub mod Rows
-pub mod Layers
-pub mod Graded
-pub mod Pascal
-pub mod Filling
-pub mod SurfaceFilling
+-- a relation that the operations keep, the formulas keep: over any two kinds of number; and at equality
 pub mod Related
 pub mod Rising
 pub mod Alike
 pub mod CarryAlike
 pub mod UpTo
-pub mod Plain
+-- the graded index; arrays that are filled in turn; rows of binomial coefficients
+pub mod Layers
+pub mod Graded
+pub mod Filling
+pub mod SurfaceFilling
+pub mod Rows
+pub mod Pascal
+-- the integers: a ring, finite sums, exact division
 pub mod Ints
 pub mod Ring
 pub mod Sums
+pub mod Division
+-- part lists and their multiplicities
 pub mod Binom
-pub mod Tests
 pub mod Desc
 pub mod Out
 pub mod Mult
-pub mod Runs
-pub mod Lists
+-- jets of integers in any number of variables, and the chain rule
 pub mod Jets
 pub mod Curves
 pub mod Space
@@ -30,9 +34,14 @@ pub mod Tensor
 pub mod Carried
 pub mod Algebra
 pub mod Fields
-pub mod Division
-pub mod Quotient
+pub mod Closed
+-- the formulas at the integers are those
+pub mod Plain
 pub mod Entries
 pub mod Masks
-pub mod Closed
-pub mod Laws
+pub mod Quotient
+pub mod Places
+pub mod Left
+pub mod Writing
+pub mod Bits
+pub mod Walking

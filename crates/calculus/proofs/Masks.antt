@@ -34,7 +34,7 @@ bit s (suc zero) n o h g = ap₂ s (left n o g) (right o)
 bit s (suc (suc r)) n o h g = absurd (omega arith)
 
 pub bits-are : (s : Surface) (l : List ℕ) (mask : ℕ) → surfaceEntry s (digits 2 l mask) ≡ entryOf (jets 2) s (digits 2 l mask)
-unfolding along digits
+unfolding along digits ones
 bits-are s [] mask = refl
 bits-are s (a ∷ l) mask =
     sym (bit s (mask % 2) (length (digits 2 l (mask / 2))) (ones (digits 2 l (mask / 2))) (omega arith)

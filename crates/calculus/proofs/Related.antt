@@ -6,7 +6,7 @@ use native.Mathlib.Nat.{le-refl}
 use native.Mathlib.Omega.{arith}
 use Rattle.calculus.specs.Kind.{Kind, Module, regular}
 use Rattle.calculus.specs.InTurn.{inTurn, inRows, alongList}
-use Rattle.calculus.proofs.Lists.{Every, nil, and}
+use Rattle.partitions.proofs.Lists.{Every, nil, and}
 
 pub record Related {A B : Type 0} (R : A → B → Type 0) (K : Kind A) (L : Kind B) : Type 0 where
   pub nought : R (K .nought) (L .nought)

@@ -12,7 +12,7 @@ use Rattle.calculus.proofs.Jets.{Curve}
 use Rattle.calculus.proofs.Space.{Space, term, tensor}
 use Rattle.calculus.proofs.Ring.{zero-add, add-zero, add-assoc, mul-left-comm}
 use Rattle.calculus.proofs.Sums.{sum-cong, sum-linear, through-sum}
-use Rattle.calculus.proofs.Out.{Out, here, there}
+use Rattle.partitions.proofs.Out.{Out, here, there}
 
 -- a sum over N d numbers, by the last digit in base d
 sum-split : (a b : ℕ) (f : ℕ → ℤ) → sum (a + b) f ≡ sum a f ⊕ sum b (λ i. f (a + i))

@@ -45,7 +45,7 @@ module _ {S A : Type 0} (M : Module S A) (d : ℕ) (c : ℕ → ℕ → S) (entr
   fieldDerivatives (suc n) = fieldDerivative (suc n)
 
 -- ---- a surface s along the curve (u, v)
-abbrev pub ones : List ℕ → ℕ
+unfoldable pub ones : List ℕ → ℕ
 ones [] = 0
 ones (b ∷ bits) = b + ones bits
 

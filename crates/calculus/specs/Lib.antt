@@ -7,3 +7,4 @@ pub mod Surface
 pub mod Carry
 pub mod Graded
 pub mod Array
+pub mod Order

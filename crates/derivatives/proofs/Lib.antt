@@ -2,7 +2,13 @@ pub mod Terms
 pub mod Finite
 pub mod Quotients
 pub mod Curves
+pub mod Surfaces
 pub mod Answers
+pub mod Parameters
+pub mod Counts
+pub mod Carries
+pub mod Norms
+pub mod Upto
 pub mod Vectors
 pub mod VectorAnswers
 pub mod VectorCurves

@@ -8,7 +8,7 @@ use lib.Dec.{eqb}
 use Rattle.calculus.specs.Kind.{Module}
 use Rattle.calculus.specs.Choose.{choose}
 use Rattle.calculus.specs.Rising.{before, rising, withRow, risingRow, beforeEntry, risingRows}
-use Rattle.calculus.proofs.Tests.{by-eqb}
+use Rattle.partitions.proofs.Tests.{by-eqb}
 use Rattle.calculus.proofs.Related.{RelatedModules, sameModule, CurvesAlike, SurfacesAlike, inTurn-alike, inRows-alike}
 use Rattle.derivatives.specs.Rational.{rationalTerm, rationalEntry, rational, surfaceRationalTerm, surfaceRationalEntry, surfaceRational}
 

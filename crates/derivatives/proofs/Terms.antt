@@ -1,14 +1,14 @@
 -- The coefficients as the table of binomials holds them, where an entry stands, and one more term of a sum. Assumes nothing.
-use mathlib.Core.Path.{_≡_, sym, ap, ap₂, _∙_}
-use Prim.Native.Nat.{ℕ, suc, _+_, _-_, _*_, _≤_, _<_}
-use native.Mathlib.Nat.{mul-le-mul}
+use mathlib.Core.Path.{_≡_, sym, ap, ap₂, _∙_, subst}
+use Prim.Native.Nat.{ℕ, suc, _+_, _-_, _*_, _^_, _≤_, _<_}
+use native.Mathlib.Nat.{mul-le-mul, lt-of-le-of-lt}
 use native.Mathlib.Omega.{arith}
 use lib.ListN.{getD}
 use Rattle.calculus.specs.Graded.{triangle, index}
 use Rattle.calculus.specs.Choose.{choose, binomialTable}
-use Rattle.calculus.specs.InTurn.{inTurn}
+use Rattle.calculus.specs.InTurn.{inTurn, inRows}
 use Rattle.calculus.proofs.Graded.{index-is}
-use Rattle.calculus.proofs.Pascal.{binomial-at}
+use Rattle.calculus.proofs.Pascal.{binomial-at, choose-small}
 
 pub coefficient : (m i : ℕ) → i ≤ m → m ≤ 20 → getD binomialTable (index i (m - i)) 0 ≡ choose m i
 coefficient m i h l =
@@ -26,3 +26,14 @@ module _ {A B : Type 0} (op : A → B → A) (x : A) (f : ℕ → B) where
   pub one-more : {s : A} {t : B} {i j : ℕ} → s ≡ inTurn op x f i → t ≡ f i → j ≡ suc i → op s t ≡ inTurn op x f j
   unfolding inTurn
   one-more e g h = rw h (ap₂ op e g)
+
+-- one row of terms more
+module _ {A B : Type 0} (op : A → B → A) (x : A) (f : ℕ → ℕ → B) (n : ℕ) where
+  pub one-row-more : {s t : A} {i j : ℕ} → s ≡ inRows op x f i n → t ≡ inTurn op s (f i) n → j ≡ suc i → t ≡ inRows op x f j n
+  unfolding inRows
+  one-row-more {i = i} e g h = rw h (g ∙ ap (λ (z : A). inTurn op z (f i) n) e)
+
+-- the product of two coefficients whose orders total at most 20 fits 32 bits
+pub small-product : {x y : ℕ} (m n i j : ℕ) → x ≡ choose m i → y ≡ choose n j → m + n ≤ 20 → x * y < 2 ^ 32
+small-product {x} {y} m n i j p q h =
+    lt-of-le-of-lt (subst (λ (z : ℕ). z ≤ 1048576) (sym (ap₂ _*_ p q)) (choose-small m n i j h)) (omega arith)

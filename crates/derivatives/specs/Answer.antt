@@ -19,7 +19,7 @@ use Rattle.derivatives.specs.declared.ParameterCurve.{ParameterCurve}
 use Rattle.derivatives.specs.declared.CurveAnswer.{CurveAnswer}
 use Rattle.derivatives.specs.declared.SurfaceAnswer.{SurfaceAnswer}
 use Rattle.derivatives.specs.declared.ParameterAnswer.{ParameterAnswer}
-use Rattle.derivatives.specs.Order.{curveEntries, surfaceEntries, listPlace}
+use Rattle.calculus.specs.Order.{curveEntries, surfaceEntries, listPlace}
 use Rattle.derivatives.specs.Real.{nil, isZero}
 
 -- ---- the entries of an array as a jet. No formula reads past the array's end, where the logic has a NaN
@@ -69,24 +69,45 @@ returnedCurve n a = cond (finiteCurve a n) (answeredCurve n a) (refusedCurve 10)
 abbrev pub returnedSurface : ℕ → (ℕ → ℕ → Float) → SurfaceAnswer
 returnedSurface n s = cond (finiteSurface s n) (answeredSurface n s) (refusedSurface 10)
 
--- ---- work on two jets, at the smaller order
+-- ---- how a jet is read: its order, its entries, and whether those up to an order are finite
+pub record Reading (J N : Type 0) : Type 0 where
+  pub order : J → ℕ
+  pub numbers : J → N
+  pub finite : N → ℕ → Bool
+
+abbrev pub curves : Reading CurveDerivatives (ℕ → Float)
+curves = record { order = λ a. a .order; numbers = λ a. curveNumbers (a .entries); finite = finiteCurve }
+
+abbrev pub surfaces : Reading SurfaceDerivatives (ℕ → ℕ → Float)
+surfaces = record { order = λ a. a .order; numbers = λ a. surfaceNumbers (a .entries); finite = finiteSurface }
+
+module _ {J K M N A : Type 0} (R : Reading J M) (S : Reading K N) (refused : ℕ → A) where
+  -- work on two jets, at the smaller order
+  abbrev pub onTwo : (M → N → ℕ → A) → J → K → A
+  onTwo op a b =
+      let n = min (R .order a) (S .order b) in
+      let x = R .numbers a in
+      let y = S .numbers b in
+      cond (ltb 20 (R .order a)) (refused 1) (cond (ltb 20 (S .order b)) (refused 1)
+      (cond (R .finite x n && S .finite y n) (op x y n) (refused 5)))
+
+  -- work on two jets, at an order that is asked
+  abbrev pub onTwoAt : (M → N → A) → J → K → ℕ → A
+  onTwoAt op a b n =
+      let x = R .numbers a in
+      let y = S .numbers b in
+      cond (ltb 20 (R .order a)) (refused 1) (cond (ltb 20 (S .order b)) (refused 1) (cond (ltb 20 n) (refused 1)
+      (cond (ltb (min (R .order a) (S .order b)) n) (refused 2)
+      (cond (R .finite x n && S .finite y n) (op x y) (refused 5)))))
+
+-- ---- a formula on two jets
 abbrev pub onCurves : ((ℕ → Float) → (ℕ → Float) → ℕ → CurveAnswer) → CurveDerivatives → CurveDerivatives → CurveAnswer
-onCurves op a b =
-    let n = min (a .order) (b .order) in
-    let x = curveNumbers (a .entries) in
-    let y = curveNumbers (b .entries) in
-    cond (ltb 20 (a .order)) (refusedCurve 1) (cond (ltb 20 (b .order)) (refusedCurve 1)
-    (cond (finiteCurve x n && finiteCurve y n) (op x y n) (refusedCurve 5)))
+onCurves = onTwo curves curves refusedCurve
 
 abbrev pub onSurfaces : ((ℕ → ℕ → Float) → (ℕ → ℕ → Float) → ℕ → SurfaceAnswer) → SurfaceDerivatives → SurfaceDerivatives → SurfaceAnswer
-onSurfaces op a b =
-    let n = min (a .order) (b .order) in
-    let x = surfaceNumbers (a .entries) in
-    let y = surfaceNumbers (b .entries) in
-    cond (ltb 20 (a .order)) (refusedSurface 1) (cond (ltb 20 (b .order)) (refusedSurface 1)
-    (cond (finiteSurface x n && finiteSurface y n) (op x y n) (refusedSurface 5)))
+onSurfaces = onTwo surfaces surfaces refusedSurface
 
--- a formula, and one that divides by the second jet's first entry: 7 where that is zero
+-- as it is, and where it divides by the second jet's first entry: 7 where that is zero
 abbrev pub byFormula : ((ℕ → Float) → (ℕ → Float) → ℕ → Float) → (ℕ → Float) → (ℕ → Float) → ℕ → CurveAnswer
 byFormula f x y n = returnedCurve n (f x y)
 
@@ -99,22 +120,12 @@ bySurfaceFormula f x y n = returnedSurface n (f x y)
 abbrev pub bySurfaceDivision : ((ℕ → ℕ → Float) → (ℕ → ℕ → Float) → ℕ → ℕ → Float) → (ℕ → ℕ → Float) → (ℕ → ℕ → Float) → ℕ → SurfaceAnswer
 bySurfaceDivision f x y n = cond (isZero (y 0 0)) (refusedSurface 7) (returnedSurface n (f x y))
 
--- one entry of a formula, of the order m, and of the orders m by u and n by v: worked at the order asked
+-- one entry of a formula, of the order m, and of the orders m by u and n by v
 abbrev pub onCurvesAt : ((ℕ → Float) → (ℕ → Float) → ℕ → Float) → CurveDerivatives → CurveDerivatives → ℕ → Real
-onCurvesAt op a b m =
-    let x = curveNumbers (a .entries) in
-    let y = curveNumbers (b .entries) in
-    cond (ltb 20 (a .order)) (Refused 1) (cond (ltb 20 (b .order)) (Refused 1) (cond (ltb 20 m) (Refused 1)
-    (cond (ltb (min (a .order) (b .order)) m) (Refused 2)
-    (cond (finiteCurve x m && finiteCurve y m) (returned (op x y m)) (Refused 5)))))
+onCurvesAt f a b m = onTwoAt curves curves Refused (λ x y. returned (f x y m)) a b m
 
 abbrev pub onSurfacesAt : ((ℕ → ℕ → Float) → (ℕ → ℕ → Float) → ℕ → ℕ → Float) → SurfaceDerivatives → SurfaceDerivatives → ℕ → ℕ → Real
-onSurfacesAt op a b m n =
-    let x = surfaceNumbers (a .entries) in
-    let y = surfaceNumbers (b .entries) in
-    cond (ltb 20 (a .order)) (Refused 1) (cond (ltb 20 (b .order)) (Refused 1) (cond (ltb 20 (m + n)) (Refused 1)
-    (cond (ltb (min (a .order) (b .order)) (m + n)) (Refused 2)
-    (cond (finiteSurface x (m + n) && finiteSurface y (m + n)) (returned (op x y m n)) (Refused 5)))))
+onSurfacesAt f a b m n = onTwoAt surfaces surfaces Refused (λ x y. returned (f x y m n)) a b (m + n)
 
 -- ---- a derivative has one order less
 abbrev pub curveDerivative : CurveDerivatives → CurveAnswer

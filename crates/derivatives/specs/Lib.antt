@@ -1,9 +1,9 @@
 pub mod Real
 pub mod Rational
 pub mod Norm
-pub mod Order
 pub mod Answer
 pub mod Formula
+pub mod Composite
 pub mod Vector
 pub mod VectorAnswer
 pub mod VectorFormula

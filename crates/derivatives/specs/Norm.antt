@@ -8,6 +8,10 @@ use Rattle.calculus.specs.Rising.{rising, risingRows}
 use Rattle.calculus.specs.Choose.{choose}
 use Rattle.calculus.specs.Surface.{leibniz, productBy}
 
+-- the first and the last place of those up to [m][n]
+abbrev pub atEnd : ℕ → ℕ → ℕ × ℕ → Bool
+atEnd m n p = (eqb (p .0) 0 && eqb (p .1) 0) || (eqb (p .0) m && eqb (p .1) n)
+
 module _ {S A : Type 0} (K : Kind S) (root : S → S) (dot : A → A → S) where
   -- A curve, from |s| · |s|' = s · s': at the order m + 1 the i-th term is (s[i+1] · s[m-i] - q[i+1] · q[m-i]) · C(m, i), and the sum is
   -- divided by q[0]. The last term reads the entry itself, which is zero until it is formed.
@@ -24,9 +28,6 @@ module _ {S A : Type 0} (K : Kind S) (root : S → S) (dot : A → A → S) wher
 
   -- A surface: (s · s - |s| · |s|) / (q[0][0] + q[0][0]) at [m][n], where |s| · |s| is summed but for its first and its last term, which
   -- hold the entry [m][n] itself.
-  abbrev pub atEnd : ℕ → ℕ → ℕ × ℕ → Bool
-  atEnd m n p = (eqb (p .0) 0 && eqb (p .1) 0) || (eqb (p .0) m && eqb (p .1) n)
-
   abbrev pub others : (ℕ → ℕ → S) → ℕ → ℕ → S
   others q m n =
       inRows (λ sum p. cond (atEnd m n p) sum (K .plus sum (leibniz (regular K) (K .times) q q m n (p .0) (p .1)))) (K .nought)

@@ -11,7 +11,7 @@ ghost use Rattle.calculus.specs.Choose.{binomialTable};
 ghost use Rattle.calculus.specs.Curve.{sum as sums, difference as differences, product, leibniz, derivative as derivativeOf};
 ghost use Rattle.derivatives.specs.Real.{nil, real};
 ghost use Rattle.derivatives.specs.Rational.{rational, rationalTerm, rationalEntry};
-ghost use Rattle.derivatives.specs.Order.{curveEntries};
+ghost use Rattle.calculus.specs.Order.{curveEntries};
 ghost use Rattle.derivatives.specs.Answer.{curveNumbers, answeredCurve, returnedCurve, onCurves, byFormula, byDivision, onCurvesAt, curveDerivative, curveFromList, curveIntoList};
 ghost use Rattle.derivatives.specs.Formula.{curveFormula, divisionByZero, byCurveFormula};
 use crate::CurveAnswer;

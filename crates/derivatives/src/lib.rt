@@ -10,7 +10,11 @@ ghost use Rattle.calculus.specs.Choose.{choose, binomialTable};
 ghost use Rattle.derivatives.specs.Answer.{curveNumbers, surfaceNumbers, finiteList, finiteCurve, finiteSurface, refusedCurve, refusedSurface, refusedParameter};
 use ieee::Real;
 
+mod carry;
+mod composite;
 mod curve;
+mod parameter;
+mod surface;
 mod vector_array;
 mod vector_curve;
 mod vector_entries;

@@ -11,7 +11,7 @@ use Rattle.whole.specs.declared.Whole.{Whole}
 use Rattle.whole.specs.declared.Whole.the-variants.{Value, Refused}
 use Rattle.calculus.specs.Array.{listed}
 use Rattle.exact.specs.Order.{rows, curveEntries, surfaceEntries}
-use Rattle.exact.specs.Answer.{unlessRefused}
+use Rattle.exact.specs.Answer.{unlessRefused, pairs}
 
 -- ---- the answer, by what is left
 module _ {A : Type 0} (refused : ℕ → A) (a : A) where
@@ -117,3 +117,25 @@ module _ {X Y : Type 0} (g : X → Y) where
   map-rows s i zero = refl
   map-rows s i (suc k) =
       map-append (listed (s i) 0 (suc k)) (rows s (suc i) k) ∙ ap₂ _++_ (map-listed (s i) 0 (suc k)) (map-rows s (suc i) k)
+
+-- ---- the numbers of a parameter curve's list, from those of the order m on
+module _ (u v : ℕ → ℤ) (n : ℕ) where
+  abbrev pub pairsLeft : ℕ → List ℤ
+  pairsLeft m = pairs u v m (suc n - m)
+
+  pub pairs-start : pairs u v 0 (suc n) ≡ pairsLeft 0
+  pairs-start =
+      let e : suc n ≡ suc n - 0 = omega arith in
+      ap (pairs u v 0) e
+
+  pub pairs-next : (m : ℕ) → m ≤ n → pairsLeft m ≡ u m ∷ (v m ∷ pairsLeft (m + 1))
+  unfolding pairs
+  pairs-next m h =
+      let e : suc n - m ≡ suc (suc n - (m + 1)) = omega arith in
+      ap (pairs u v m) e ∙ ap (λ (k : ℕ). u m ∷ (v m ∷ pairs u v k (suc n - (m + 1)))) (sym (add-one m))
+
+  pub pairs-end : {m : ℕ} → n < m → pairsLeft m ≡ []
+  unfolding pairs
+  pairs-end {m} h =
+      let e : suc n - m ≡ 0 = omega arith in
+      ap (pairs u v m) e

@@ -1,16 +1,18 @@
 -- A loop that writes a list in turn: what it holds so far, and what is left to write. Assumes nothing.
 use mathlib.Core.Path.{_≡_, refl, sym, ap, ap₂, _∙_}
 use mathlib.Core.List.{List, [], _∷_, _++_, append-assoc}
-use Prim.Native.Nat.{ℕ, zero, suc, _+_, _<_, _≤_}
+use Prim.Native.Nat.{ℕ, zero, suc, _+_, _*_, _<_, _≤_}
 use native.Mathlib.Nat.{add-zero, zero-add, add-suc, suc-add}
 use native.Mathlib.Numerals.{add-one}
 use native.Mathlib.Omega.{arith}
+use lib.IntN.{ℤ}
 use lib.ListN.{length, take, set, length-set, length-append}
 use lib.Seq.{take-all, take-suc-set}
 use Rattle.calculus.specs.Array.{listed}
 use Rattle.calculus.specs.Graded.{triangle}
 use Rattle.calculus.proofs.Graded.{triangle-suc}
 use Rattle.exact.specs.Order.{rows}
+use Rattle.exact.specs.Answer.{pairs}
 
 module _ {X : Type 0} (all : List X) where
   -- the first k are written, and `left` is left
@@ -62,3 +64,8 @@ module _ {X : Type 0} where
   rows-length s i (suc k) =
       length-append (listed (s i) 0 (suc k)) (rows s (suc i) k) ∙ ap₂ _+_ (listed-length (s i) 0 (suc k)) (rows-length s (suc i) k)
       ∙ omega (arith, triangle-suc k)
+
+pub pairs-length : (u v : ℕ → ℤ) (i k : ℕ) → length (pairs u v i k) ≡ 2 * k
+unfolding pairs
+pairs-length u v i zero = refl
+pairs-length u v i (suc k) = omega (arith, pairs-length u v (suc i) k)

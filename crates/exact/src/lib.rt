@@ -7,6 +7,8 @@ ghost use Rattle.exact.specs.Kinds.{checked};
 ghost use Rattle.exact.specs.Answer.{refusedCurve, refusedSurface, refusedParameter};
 use whole::Whole;
 
+mod carry;
+mod composite;
 mod curve;
 mod parameter;
 mod surface;

@@ -1,5 +1,5 @@
 -- What a function with one float for its answer returns: the float, or the number of a refusal. Assumes nothing.
-use mathlib.Core.Bool.{cond}
+use mathlib.Core.Bool.{Bool, cond}
 use lib.Ieee.{Float}
 use lib.Ieee.Scale.{finite}
 use Rattle.ieee.specs.SquareRoot.{squareRoot}
@@ -10,6 +10,10 @@ use Rattle.ieee.specs.declared.Real.the-variants.{Value, Refused}
 abbrev pub returned : Float → Real
 returned y = cond (finite y) (Value y) (Refused 10)
 
--- 5 where the input is not finite, 10 where the root is not: that of a negative number
+-- from inputs that are all finite, or not: 5 where they are not
+abbrev pub realFrom : Bool → Float → Real
+realFrom inputs y = cond inputs (returned y) (Refused 5)
+
+-- 10 is the answer to a negative number
 abbrev pub rootAnswer : Float → Real
-rootAnswer x = cond (finite x) (returned (squareRoot x)) (Refused 5)
+rootAnswer x = realFrom (finite x) (squareRoot x)

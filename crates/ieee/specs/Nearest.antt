@@ -4,7 +4,7 @@ use lib.Dec.{T}
 use lib.Ieee.{Float, lt}
 use lib.Ieee.Positive.{num, den}
 
--- For finite values that are not negative, each num / den in size: √x < (y + z) / 2, that is 4 x < (y + z)², with the denominators multiplied out
+-- For finite values that are not negative, each being num / den: √x < (y + z) / 2, that is 4 x < (y + z)², with the denominators multiplied out
 abbrev pub rootBelowMiddle : Float → Float → Float → Type 0
 rootBelowMiddle x y z =
     let s = num y * den z + num z * den y in

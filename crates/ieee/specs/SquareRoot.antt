@@ -15,9 +15,9 @@ unfoldable pub isqrt : ℕ → ℕ
 unfolding rootDigits size
 isqrt n = rootDigits (size n) n
 
--- The value nearest to √s, in units of the smallest value, for an s of two digits or more for each that the format keeps.
--- A number of z digits has a root of z / 2, rounded up: 53 are kept, q, and k dropped. Where √s lies against the middle of
--- q and q + 1 times 2 ^ k is told by the squares.
+-- The value nearest to √s of the smallest values, ties to even, for an s of 105 digits or more. A number of z digits has a root of z / 2,
+-- rounded up: the format keeps 53, the number q, and drops k. So √s lies between q * 2 ^ k and (q + 1) * 2 ^ k, and on which side of their
+-- middle it lies is told by the squares: 4 * s against (2 * q + 1)² * 4 ^ k.
 unfoldable pub nearestRoot : ℕ → Float
 unfolding isqrt size units
 nearestRoot s =

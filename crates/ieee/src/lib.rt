@@ -3,7 +3,7 @@ ghost use mathlib.Core.Path.{_≡_};
 ghost use lib.Ieee.{binary64, ofBits, toBits};
 ghost use lib.Ieee.Scale.{finite};
 ghost use Rattle.ieee.specs.SquareRoot.{squareRoot};
-ghost use Rattle.ieee.specs.Answer.{rootAnswer};
+ghost use Rattle.ieee.specs.Answer.{realFrom, rootAnswer};
 
 mod root;
 
@@ -57,16 +57,22 @@ pub fn sqrt(x: f64) -> f64
     0.0 / 0.0
 }
 
-// The root, refused where the input (5) or the root (10) is not finite.
-pub fn square_root(x: f64) -> Real
-    ensures { λ r. ⌜ r ≡ rootAnswer x ⌝ }
+// A float that is to be returned: refused where an input (5) or the float itself (10) is not finite.
+pub fn real_from(inputs: bool, y: f64) -> Real
+    ensures { λ r. ⌜ r ≡ realFrom inputs y ⌝ }
 {
-    if is_finite(x) {
-        let y = sqrt(x);
+    if inputs {
         if is_finite(y) {
             return Real::Value(y);
         }
         return Real::Refused(10);
     }
     Real::Refused(5)
+}
+
+// The root, or a refusal.
+pub fn square_root(x: f64) -> Real
+    ensures { λ r. ⌜ r ≡ rootAnswer x ⌝ }
+{
+    real_from(is_finite(x), sqrt(x))
 }

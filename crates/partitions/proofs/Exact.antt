@@ -12,7 +12,7 @@ use Rattle.partitions.specs.Parts.{total, fact, divide, runs, multiplici
 use Rattle.partitions.specs.Count.{isList}
 use Rattle.partitions.proofs.Down.{Down, long}
 use Rattle.partitions.proofs.Member.{list-down}
-use Rattle.partitions.proofs.Out.{fact-pos, down-pos}
+use Rattle.partitions.proofs.Out.{fact-pos, weight, weight-pos, down-pos}
 use Rattle.partitions.proofs.Mult.{weight-divides}
 use Rattle.partitions.proofs.Runs.{facts, facts-weight, run-most}
 
@@ -84,6 +84,12 @@ down-exact {m} {l} d =
     ap (λ x. x * facts (l ++ runs l))
     (sym (divide-append (fact (total l)) l (runs l)) ∙ ap (λ x. divide x (l ++ runs l)) (sym (q .1)) ∙ divide-exact (l ++ runs l) (q .0))
     ∙ q .1
+
+-- the multiplicity as the one quotient of the factorial by the weight
+pub multiplicity-is : {m : ℕ} {l : List ℕ} → Down m l → multiplicity l ≡ fact (total l) / weight l
+multiplicity-is {m} {l} d =
+    let e : multiplicity l * weight l ≡ fact (total l) = ap (λ x. multiplicity l * x) (sym (facts-append l (runs l) ∙ facts-weight d)) ∙ down-exact d in
+    sym (ap (λ x. x / weight l) (sym e) ∙ mul-div-cancel (multiplicity l) (weight-pos l))
 
 -- ---- at part lists
 pub list-exactly : (l : List ℕ) → isList l ≡ true → Exactly (fact (total l)) (l ++ runs l)

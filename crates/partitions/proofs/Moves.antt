@@ -13,6 +13,7 @@ use borrow.Author.Tests.{eqb-true, eqb-false, ltb-true, ltb-false, lt-ltb, le-lt
 use Rattle.partitions.specs.Parts.{total}
 use Rattle.partitions.specs.Count.{falls}
 use Rattle.partitions.specs.Steps.{greatest, canInit, hasNext, nextOf}
+use Rattle.partitions.proofs.Successor.{next-same}
 use Rattle.partitions.proofs.Tail.{tailOf, tail-cons, put-cons, put-length}
 
 -- ---- what `falls` says of the first part and of the tail
@@ -98,16 +99,6 @@ no-tail (a ∷ []) h =
     (sym none, sym (ap (λ (b : Bool). cond b ((a - 1) ∷ greatest 0 1 (a - 1)) (a ∷ [])) none))
 no-tail (a ∷ (b ∷ t)) h = absurd (omega arith)
 
-pub nextOf-none : (x : List ℕ) → hasNext x ≡ false → nextOf x ≡ x
-unfolding hasNext nextOf
-nextOf-none [] e = refl
-nextOf-none (a ∷ t) e = by (hasNext t) (canInit (length t) (total t + 1) (a - 1)) e
-  where
-    by : (s c : Bool) → cond s true c ≡ false → cond s (a ∷ nextOf t) (cond c ((a - 1) ∷ greatest (length t) (total t + 1) (a - 1)) (a ∷ t)) ≡ a ∷ t
-    by true c e = absurd (true≢false e)
-    by false true e = absurd (true≢false e)
-    by false false e = refl
-
 module _ (a : ℕ) (t ys : List ℕ) (e : ys ≡ nextOf t) where
   in-tail : hasNext t ≡ true → (true ≡ hasNext (a ∷ t)) × (a ∷ ys ≡ nextOf (a ∷ t))
   unfolding hasNext nextOf
@@ -128,7 +119,7 @@ module _ (a : ℕ) (t ys : List ℕ) (e : ys ≡ nextOf t) where
   unfolding hasNext nextOf
   nowhere h k = (
     sym (ap₂ (λ (s c : Bool). cond s true c) h k),
-    ap (λ (l : List ℕ). a ∷ l) (e ∙ nextOf-none t h)
+    ap (λ (l : List ℕ). a ∷ l) (e ∙ next-same t h)
         ∙ sym (ap₂ (λ (s c : Bool). cond s (a ∷ nextOf t) (cond c ((a - 1) ∷ greatest (length t) (total t + 1) (a - 1)) (a ∷ t))) h k),
   )
 

@@ -11,7 +11,7 @@ use Rattle.partitions.specs.Parts.{total, fact}
 use Rattle.partitions.proofs.Out.{Out, Pos, empty, more, out-pos, out-length, out-total, out-weight, count, weight, taken, by-value, divides-sum}
 
 -- n choose k
-unfoldable binom : ℕ → ℕ → ℕ
+unfoldable pub binom : ℕ → ℕ → ℕ
 binom zero zero = 1
 binom zero (suc k) = 0
 binom (suc n) zero = 1
@@ -31,7 +31,7 @@ last-row b c i n f g h k e = ap (λ z. (b + z) * ((suc i * f) * 1)) h ∙ omega 
 next-row : (b c i j n f g s : ℕ) → b * (f * (suc j * g)) ≡ s → c * ((suc i * f) * g) ≡ s → suc i + suc j ≡ suc n → (b + c) * ((suc i * f) * (suc j * g)) ≡ suc n * s
 next-row b c i j n f g s h k e = omega (arith, ap (λ x. suc i * x) h, ap (λ x. suc j * x) k, ap (λ x. x * s) e)
 
-binom-fact : (n i j : ℕ) → i + j ≡ n → binom n i * (fact i * fact j) ≡ fact n
+pub binom-fact : (n i j : ℕ) → i + j ≡ n → binom n i * (fact i * fact j) ≡ fact n
 unfolding binom fact
 binom-fact zero zero zero e = refl
 binom-fact zero zero (suc j) e = absurd (omega arith)

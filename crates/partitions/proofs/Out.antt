@@ -61,6 +61,11 @@ unfolding fact
 fact-pos zero = omega arith
 fact-pos (suc n) = mul-pos (omega arith) (fact-pos n)
 
+pub weight-pos : (l : List ℕ) → 0 < weight l
+unfolding weight
+weight-pos [] = omega arith
+weight-pos (a ∷ l) = mul-pos (mul-pos (fact-pos a) (omega arith)) (weight-pos l)
+
 count-here : (v : ℕ) (l : List ℕ) → count v (v ∷ l) ≡ suc (count v l)
 unfolding count
 count-here v l = ap (λ b. cond b 1 0 + count v l) (eqb-yes v v refl) ∙ one-add (count v l)

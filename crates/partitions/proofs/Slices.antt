@@ -38,13 +38,6 @@ pub divide-at : (x : ℕ) (l : List ℕ) (i : ℕ) → i < length l → divide x
 unfolding divide
 divide-at x l i h = ap (divide x) (drop-at l i h)
 
--- a part is at most the sum
-pub part-le : (l : List ℕ) (i : ℕ) → getD l i 0 ≤ total l
-unfolding total
-part-le [] i = omega arith
-part-le (a ∷ l) zero = omega arith
-part-le (a ∷ l) (suc i) = omega (arith, part-le l i)
-
 -- the runs from an index on, where k parts equal to the one before it stand last
 pub runs-start : (l : List ℕ) → 0 < length l → runsFrom (getD l 0 0) 1 (drop 1 l) ≡ runs l
 unfolding runs
@@ -101,27 +94,6 @@ divide-past x l i h = ap (divide x) (drop-past l i h)
 pub nothing-past : (l : List ℕ) (i : ℕ) → length l ≤ i → total (drop i l) ≡ 0
 unfolding total
 nothing-past l i h = ap total (drop-past l i h)
-
--- ---- factorials, which fit a word up to 20
-pub fact-pos : (n : ℕ) → 0 < fact n
-unfolding fact
-fact-pos zero = omega arith
-fact-pos (suc n) = mul-pos (lt-of-le-of-lt zero-le (le-refl (suc n))) (fact-pos n)
-
-fact-step : (n : ℕ) → fact n ≤ fact (suc n)
-unfolding fact
-fact-step n = omega arith
-
-fact-up : (k m : ℕ) → fact m ≤ fact (k + m)
-fact-up zero m = rw zero-add (le-refl (fact m))
-fact-up (suc k) m = rw suc-add (le-trans (fact-up k m) (fact-step (k + m)))
-
-pub fact-fits : (n : ℕ) → n ≤ 20 → fact n < 2 ^ 64
-unfolding fact
-fact-fits n h = lt-of-le-of-lt (subst (λ (m : ℕ). fact n ≤ fact m) (whole n h) (fact-up (20 - n) n)) (lit< tt)
-  where
-    whole : (n : ℕ) → n ≤ 20 → 20 - n + n ≡ 20
-    whole n h = omega arith
 
 pub fact-next : (i : ℕ) → fact i * (i + 1) ≡ fact (i + 1)
 unfolding fact

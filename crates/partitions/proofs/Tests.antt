@@ -1,6 +1,6 @@
 -- Going by cases on a test inside a statement.
 -- Assumes nothing.
-use mathlib.Core.Path.{_≡_, refl, subst}
+use mathlib.Core.Path.{_≡_, refl, sym, subst}
 use mathlib.Core.Bool.{Bool, true, false, not}
 use Prim.Native.Nat.{ℕ, _≤_, _<_}
 use lib.Dec.{T, leb, eqb, leb→le, nleb→lt, eqb→eq, eqb-refl, T-not}
@@ -20,3 +20,6 @@ eqb-yes m n e = by-eqb m n (λ b. b ≡ true) (λ h. refl) (λ h. absurd (h e))
 
 pub eqb-no : (m n : ℕ) → ¬ (m ≡ n) → eqb m n ≡ false
 eqb-no m n e = by-eqb m n (λ b. b ≡ false) (λ h. absurd (e h)) (λ h. refl)
+
+pub eqb-iff : (a b c d : ℕ) → (a ≡ b → c ≡ d) → (c ≡ d → a ≡ b) → eqb a b ≡ eqb c d
+eqb-iff a b c d f g = by-eqb a b (λ t. t ≡ eqb c d) (λ e. sym (eqb-yes c d (f e))) (λ n. sym (eqb-no c d (λ e. n (g e))))

@@ -1,11 +1,9 @@
--- What the functions of `answers` return: a value where it can be had, or document 01's refusal number. Checked as 5, then 6 or 7, then 10.
+-- What the functions of `answers` return (for a single float `realFrom` of the crate ieee says it): a value where it can be had, or document 01's refusal number. Checked as 5, then 6 or 7, then 10.
 -- Assumes nothing.
 use mathlib.Core.Bool.{Bool, _&&_, cond}
 use Prim.Native.Nat.{ℕ}
 use lib.Ieee.{Float, binary64, eq, ofBits}
 use lib.Ieee.Scale.{finite}
-use Rattle.ieee.specs.declared.Real.{Real}
-use Rattle.ieee.specs.declared.Real.the-variants.{Value as RealValue, Refused as RealRefused}
 use Rattle.vectors.specs.Vectors.{vector, quotient}
 use Rattle.vectors.specs.Matrices.{square, columns, determinant2, inverse2, determinant3, inverse3}
 use Rattle.vectors.specs.declared.Vector3.{Vector3}
@@ -39,10 +37,6 @@ vectorFrom inputs v = cond inputs (returnedVector v) (Refused 5)
 
 abbrev pub quotientFrom : Bool → Vector3 → Float → VectorAnswer
 quotientFrom inputs a s = cond inputs (cond (eq s nought) (Refused 7) (returnedVector (quotient a s))) (Refused 5)
-
--- ---- a float
-abbrev pub realFrom : Bool → Float → Real
-realFrom inputs y = cond inputs (cond (finite y) (RealValue y) (RealRefused 10)) (RealRefused 5)
 
 -- ---- a matrix beside its refusal number: the zero matrix where it is refused
 abbrev pub refused2 : ℕ → Matrix2Answer

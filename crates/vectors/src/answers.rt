@@ -3,10 +3,11 @@
 ghost use mathlib.Core.Path.{_≡_};
 ghost use mathlib.Core.Bool.{_&&_};
 ghost use lib.Ieee.Scale.{finite};
+ghost use Rattle.ieee.specs.Answer.{realFrom};
 ghost use Rattle.vectors.specs.Vectors.{sum, difference, multiple, dot, cross, magnitude};
 ghost use Rattle.vectors.specs.Matrices.{determinant2, determinant3, image3};
 ghost use Rattle.vectors.specs.Answers.{finiteVector, finiteMatrix2, finiteMatrix3};
-ghost use Rattle.vectors.specs.Answers.{vectorFrom, quotientFrom, realFrom, inverseAnswer2, inverseAnswer3};
+ghost use Rattle.vectors.specs.Answers.{vectorFrom, quotientFrom, inverseAnswer2, inverseAnswer3};
 ghost use Rattle.vectors.specs.Answers.{refused2 as refusedBy2, refused3 as refusedBy3, returned2 as returnedBy2, returned3 as returnedBy3};
 use crate::Matrix2;
 use crate::Matrix2Answer;
@@ -27,18 +28,6 @@ fn vector_from(inputs: bool, v: Vector3) -> VectorAnswer
         return VectorAnswer::Refused(10);
     }
     VectorAnswer::Refused(5)
-}
-
-fn real_from(inputs: bool, y: f64) -> Real
-    ensures { λ r. ⌜ r ≡ realFrom inputs y ⌝ }
-{
-    if inputs {
-        if ieee::is_finite(y) {
-            return Real::Value(y);
-        }
-        return Real::Refused(10);
-    }
-    Real::Refused(5)
 }
 
 pub fn vector_sum(a: Vector3, b: Vector3) -> VectorAnswer
@@ -85,28 +74,28 @@ pub fn vector_dot(a: Vector3, b: Vector3) -> Real
     ensures { λ r. ⌜ r ≡ realFrom (finiteVector a && finiteVector b) (dot a b) ⌝ }
 {
     let inputs = both(a.is_finite(), b.is_finite());
-    real_from(inputs, a.dot(b))
+    ieee::real_from(inputs, a.dot(b))
 }
 
 pub fn vector_magnitude(a: Vector3) -> Real
     ensures { λ r. ⌜ r ≡ realFrom (finiteVector a) (magnitude a) ⌝ }
 {
     let inputs = a.is_finite();
-    real_from(inputs, a.magnitude())
+    ieee::real_from(inputs, a.magnitude())
 }
 
 pub fn matrix2_determinant(m: Matrix2) -> Real
     ensures { λ r. ⌜ r ≡ realFrom (finiteMatrix2 m) (determinant2 m) ⌝ }
 {
     let inputs = m.is_finite();
-    real_from(inputs, m.determinant())
+    ieee::real_from(inputs, m.determinant())
 }
 
 pub fn matrix3_determinant(m: Matrix3) -> Real
     ensures { λ r. ⌜ r ≡ realFrom (finiteMatrix3 m) (determinant3 m) ⌝ }
 {
     let inputs = m.is_finite();
-    real_from(inputs, m.determinant())
+    ieee::real_from(inputs, m.determinant())
 }
 
 pub fn matrix3_image(m: Matrix3, v: Vector3) -> VectorAnswer

@@ -1,18 +1,20 @@
 -- Numbers with their history: what each operation comes to is the checked operation, its value is the plain integer's, and what a verdict
 -- says of the numbers that were formed. Assumes nothing.
-use mathlib.Core.Path.{_≡_, refl, sym, ap, ap₂, subst, _∙_}
+use mathlib.Core.Path.{_≡_, refl, sym, ap, _∙_}
 use mathlib.Core.Bool.{Bool, true, false, cond}
 use mathlib.Core.List.{List, [], _∷_, _++_, map}
 use Prim.Native.Nat.{ℕ, zero, suc}
 use native.Mathlib.Omega.{arith}
 use native.Mathlib.Nat.{lt-irrefl}
-use lib.Dec.{T, eqb}
+use lib.Dec.{eqb}
 use lib.IntN.{ℤ, pos, _+ℤ_, _-ℤ_, _*ℤ_, natAbs}
 use lib.Signed.{quotZ, remZ}
 use Rattle.whole.specs.declared.Whole.{Whole}
 use Rattle.whole.specs.declared.Whole.the-variants.{Value, Refused}
 use Rattle.whole.specs.Checked.{inRange, formed, divided, both, plus, minus, times, over, ofNat}
 use Rattle.whole.specs.History.{Event, forms, divides, Traced, judge, orElse, verdict, settleBy, settle, given, then, tracedPlus, tracedMinus, tracedTimes, tracedOver, tracedOfNat, numbers, every, exact}
+use Rattle.whole.proofs.Range.{never}
+use Rattle.whole.proofs.Answers.{same-value}
 
 -- ---- the value of each operation is that of the plain integers
 pub value-given : (z : ℤ) → given z .value ≡ z
@@ -43,6 +45,11 @@ unfolding verdict
 verdict-append [] k = refl
 verdict-append (e ∷ h) k = ap (orElse (judge e)) (verdict-append h k) ∙ sym (or-assoc (judge e) (verdict h) (verdict k))
 
+pub verdict-then : (f : ℤ → ℤ → ℤ) (es : ℤ → ℤ → List Event) (s t : Traced) → verdict (then f es s t .history) ≡ orElse (verdict (s .history)) (orElse (verdict (t .history)) (verdict (es (s .value) (t .value))))
+verdict-then f es s t =
+    verdict-append (s .history) (t .history ++ es (s .value) (t .value))
+    ∙ ap (orElse (verdict (s .history))) (verdict-append (t .history) (es (s .value) (t .value)))
+
 -- ---- each operation comes to the checked one
 by-cases : (f : ℤ → ℤ → Whole) (v w u : ℕ) (x y z : ℤ) → settleBy u z ≡ f x y → settleBy (orElse v (orElse w u)) z ≡ both f (settleBy v x) (settleBy w y)
 by-cases f zero zero u x y z e = e
@@ -52,8 +59,7 @@ by-cases f (suc v) w u x y z e = refl
 pub settle-then : (f : ℤ → ℤ → ℤ) (es : ℤ → ℤ → List Event) (g : ℤ → ℤ → Whole) → ((x y : ℤ) → settleBy (verdict (es x y)) (f x y) ≡ g x y) →
     (s t : Traced) → settle (then f es s t) ≡ both g (settle s) (settle t)
 settle-then f es g e s t =
-    ap (λ (n : ℕ). settleBy n (f (s .value) (t .value)))
-    (verdict-append (s .history) (t .history ++ es (s .value) (t .value)) ∙ ap (orElse (verdict (s .history))) (verdict-append (t .history) (es (s .value) (t .value))))
+    ap (λ (n : ℕ). settleBy n (f (s .value) (t .value))) (verdict-then f es s t)
     ∙ by-cases g (verdict (s .history)) (verdict (t .history)) (verdict (es (s .value) (t .value))) (s .value) (t .value) (f (s .value) (t .value)) (e (s .value) (t .value))
 
 in-or-out : (t : Bool) (z : ℤ) → settleBy (orElse (cond t 0 9) 0) z ≡ cond t (Value z) (Refused 9)
@@ -104,10 +110,6 @@ abbrev number : Whole → ℕ
 number (Value z) = 0
 number (Refused c) = c
 
-abbrev valueOf : ℤ → Whole → ℤ
-valueOf d (Value z) = z
-valueOf d (Refused c) = d
-
 number-by : (v : ℕ) (z : ℤ) → number (settleBy v z) ≡ v
 number-by zero z = refl
 number-by (suc c) z = refl
@@ -119,15 +121,12 @@ pub answered-verdict : (t : Traced) {z : ℤ} → settle t ≡ Value z → verdi
 answered-verdict t h = sym (verdict-of-settle t h)
 
 pub answered-value : (t : Traced) {z : ℤ} → settle t ≡ Value z → t .value ≡ z
-answered-value t {z} h = ap (valueOf z) (sym (settle-answered t (answered-verdict t h)) ∙ h)
+answered-value t h = same-value (sym (settle-answered t (answered-verdict t h)) ∙ h)
 
 pub refused-verdict : (t : Traced) {c : ℕ} → settle t ≡ Refused c → verdict (t .history) ≡ c
 refused-verdict t h = sym (verdict-of-settle t h)
 
 -- ---- two tests
-never : {X : Type 0} → false ≡ true → X
-never e = absurd (subst T (sym e) tt)
-
 both-true : (t u : Bool) → cond t u false ≡ true → (t ≡ true) × (u ≡ true)
 both-true true u e = (refl, e)
 both-true false u e = never e
@@ -169,6 +168,35 @@ every-weaken p q f (z ∷ l) h =
     let s = both-true (p z) (every p l) h in
     true-both (q z) (every q l) (f z (s .0)) (every-weaken p q f l (s .1))
 
+-- ---- what an operation adds to the histories of its two numbers
+module _ (f : ℤ → ℤ → ℤ) (es : ℤ → ℤ → List Event) (s t : Traced) where
+  pub numbers-then : numbers (then f es s t .history) ≡ numbers (s .history) ++ (numbers (t .history) ++ numbers (es (s .value) (t .value)))
+  numbers-then =
+      numbers-append (s .history) (t .history ++ es (s .value) (t .value))
+      ∙ ap (λ (l : List ℤ). numbers (s .history) ++ l) (numbers-append (t .history) (es (s .value) (t .value)))
+
+  pub exact-then : exact (s .history) ≡ true → exact (t .history) ≡ true → exact (es (s .value) (t .value)) ≡ true → exact (then f es s t .history) ≡ true
+  exact-then hs ht he =
+      exact-append (s .history) (t .history ++ es (s .value) (t .value))
+      ∙ true-both (exact (s .history)) (exact (t .history ++ es (s .value) (t .value))) hs
+      (exact-append (t .history) (es (s .value) (t .value)) ∙ true-both (exact (t .history)) (exact (es (s .value) (t .value))) ht he)
+
+pub exact-one : (z : ℤ) → exact (forms z ∷ []) ≡ true
+unfolding exact
+exact-one z = refl
+
+pub exact-division : (x y : ℤ) → eqb (natAbs y) 0 ≡ false → eqb (natAbs (remZ x y)) 0 ≡ true → exact (divides x y ∷ (forms (quotZ x y) ∷ [])) ≡ true
+unfolding exact
+exact-division x y h k = rw (h, k)
+
+pub numbers-one : (z : ℤ) → numbers (forms z ∷ []) ≡ z ∷ []
+unfolding numbers
+numbers-one z = refl
+
+pub numbers-division : (x y : ℤ) → numbers (divides x y ∷ (forms (quotZ x y) ∷ [])) ≡ quotZ x y ∷ []
+unfolding numbers
+numbers-division x y = refl
+
 -- ---- where every division is exact, a history is refused exactly where a number that it forms is out of range, and then by 9
 one-more : (t u : Bool) → orElse (cond t 0 9) (cond u 0 9) ≡ cond (cond t u false) 0 9
 one-more true u = refl
@@ -209,6 +237,13 @@ settle-exact t e =
     ap (λ (n : ℕ). settleBy n (t .value)) (verdict-exact (t .history) e) ∙ settle-cond (every inRange (numbers (t .history))) (t .value)
 
 -- ---- what a verdict says of its history
+or-zero : (a b : ℕ) → orElse a b ≡ 0 → (a ≡ 0) × (b ≡ 0)
+or-zero zero b e = (refl, e)
+or-zero (suc a) b e = absurd (lt-irrefl 0 (omega (arith, e)))
+
+pub verdict-parts : (h k : List Event) → verdict (h ++ k) ≡ 0 → (verdict h ≡ 0) × (verdict k ≡ 0)
+verdict-parts h k e = or-zero (verdict h) (verdict k) (sym (verdict-append h k) ∙ e)
+
 zero-first : (t : Bool) (v : ℕ) → orElse (cond t 0 9) v ≡ 0 → (t ≡ true) × (v ≡ 0)
 zero-first true v e = (refl, e)
 zero-first false v e = absurd (lt-irrefl 0 (omega (arith, e)))

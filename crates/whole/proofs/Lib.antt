@@ -3,4 +3,5 @@ pub mod Sums
 pub mod Products
 pub mod Quotients
 pub mod Sticky
+pub mod Answers
 pub mod History

@@ -11,7 +11,6 @@ use mir.Syntax.{w64}
 use mir.Val.{SFits, Fits}
 use mir.Facts.{toZ-ofZ}
 use borrow.Author.Tests.{le-leb, lt-leb, ltb-true, ltb-false, leb-true, leb-false}
-use Rattle.whole.specs.declared.Whole.{Whole}
 use Rattle.whole.specs.declared.Whole.the-variants.{Refused}
 use Rattle.whole.specs.Checked.{inRange, formed}
 use Rattle.whole.specs.Inner.{room}

@@ -1,7 +1,7 @@
 -- Quotients at 64 bits: what the machine's remainder and quotient say of the division. Assumes nothing.
 use mathlib.Core.Path.{_≡_, refl, sym, ap, ap₂, _∙_}
-use mathlib.Core.Bool.{Bool, true, false, cond}
-use Prim.Native.Nat.{ℕ, zero, suc, _^_, _/_, _%_, _<_, _≤_}
+use mathlib.Core.Bool.{false}
+use Prim.Native.Nat.{ℕ, zero, suc, _/_, _%_, _<_, _≤_}
 use native.Mathlib.Omega.{arith}
 use native.Mathlib.Nat.{lt-of-le-of-lt, div-le-self, div-lt-self, mod-one, div-one, lt-irrefl}
 use lib.Dec.{eqb}
@@ -11,10 +11,9 @@ use mir.Syntax.{w64}
 use mir.Val.{SFits, ofZ}
 use mir.Facts.{toZ-ofZ}
 use borrow.Author.Tests.{eq-eqb, ne-eqb}
-use Rattle.whole.specs.declared.Whole.{Whole}
 use Rattle.whole.specs.declared.Whole.the-variants.{Value, Refused}
 use Rattle.whole.specs.Checked.{formed, divided}
-use Rattle.whole.proofs.Range.{tz, of-bits, raw-fits, raw-value}
+use Rattle.whole.proofs.Range.{natAbs-neg, tz, of-bits, raw-fits, raw-value}
 
 abs-zero : (z : ℤ) → natAbs z ≡ 0 → z ≡ pos 0
 abs-zero (pos n) h = ap pos h
@@ -37,10 +36,6 @@ quot-mag (negsuc m) (negsuc (suc n)) h = le-of-lt-suc (div-lt-self {n = suc m} {
   where
     le-of-lt-suc : {x y : ℕ} → x < suc y → x ≤ y
     le-of-lt-suc l = omega arith
-
-natAbs-neg : (r : ℕ) → natAbs (negℤ (pos r)) ≡ r
-natAbs-neg zero = refl
-natAbs-neg (suc r) = refl
 
 pub div-zero : (a : ℤ) {b : ℤ} → b ≡ pos 0 → Refused 7 ≡ divided a b
 unfolding divided

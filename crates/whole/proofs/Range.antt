@@ -5,13 +5,12 @@ use mathlib.Core.Bool.{Bool, true, false, cond}
 use Prim.Native.Nat.{ℕ, zero, suc, _-_, _^_, _<_, _≤_}
 use native.Mathlib.Omega.{arith}
 use lib.Dec.{T, ltb, leb·suc-suc}
-use lib.IntN.{suc-pred, ℤ, pos, negsuc, sucℤ, predℤ, negℤ, subℕ, _+ℤ_, +ℤ-sucℤ, +ℤ-predℤ, +ℤ-idr, ℤ-ind, +ℤ-one, -ℤ-one}
+use lib.IntN.{suc-pred, ℤ, pos, negsuc, sucℤ, predℤ, negℤ, subℕ, _+ℤ_, natAbs, +ℤ-sucℤ, +ℤ-predℤ, +ℤ-idr, ℤ-ind, +ℤ-one, -ℤ-one}
 use lib.Signed.{mag, ltZ}
 use mir.Syntax.{w64}
 use mir.Val.{SFits, toZ, ofZ}
 use mir.Facts.{toZ-ofZ}
 use borrow.Author.Tests.{lt-ltb, le-ltb, le-leb, lt-leb, ltb-true, ltb-false}
-use Rattle.whole.specs.declared.Whole.{Whole}
 use Rattle.whole.specs.declared.Whole.the-variants.{Value, Refused}
 use Rattle.whole.specs.Checked.{inRange, formed}
 
@@ -89,9 +88,13 @@ pub formed-out : (z : ℤ) → inRange z ≡ false → formed z ≡ Refused 9
 unfolding formed
 formed-out z h = rw h
 
--- ---- a sign, as a test
+-- ---- a sign, as a test, and the magnitude without it
 pub not-neg : (n : ℕ) → ltZ (pos n) (pos 0) ≡ false
 not-neg n = lt-leb (suc n) 0 (omega arith)
+
+pub natAbs-neg : (r : ℕ) → natAbs (negℤ (pos r)) ≡ r
+natAbs-neg zero = refl
+natAbs-neg (suc r) = refl
 
 -- ---- a number as the machine reads it back from its bits
 abbrev pub tz : ℤ → ℤ

@@ -10,7 +10,6 @@ use mir.Syntax.{w64}
 use mir.Val.{SFits}
 use mir.Facts.{toZ-ofZ}
 use borrow.Author.Tests.{le-ltb, ltb-false}
-use Rattle.whole.specs.declared.Whole.{Whole}
 use Rattle.whole.specs.declared.Whole.the-variants.{Refused}
 use Rattle.whole.specs.Checked.{formed}
 use Rattle.whole.proofs.Range.{sub-elim, shift-lt, least, most, never, below-range, above-range, within-range, not-below, not-above, formed-out, not-neg, tz, sign-at}

@@ -1,7 +1,6 @@
 -- `whole::mul` meets its contract. Assumes nothing.
-use mathlib.Core.Path.{_≡_, sym, ap, ap₂, _∙_}
-use mathlib.Core.Bool.{Bool, true, false}
-use Prim.Native.Nat.{ℕ, _*_}
+use mathlib.Core.Path.{_≡_, sym, ap, _∙_}
+use Prim.Native.Nat.{_*_}
 use lib.Dec.{leb}
 use lib.IntN.{ℤ, _*ℤ_, natAbs}
 use mir.Syntax.{w64}
@@ -27,8 +26,8 @@ first c =
     (ap (λ (z : ℤ). leb (natAbs z) 2147483648) (sym (toZ-ofZ (s .fits .a))) ∙ sym (c .before .before .before .small .ensures) ∙ c .before .before .if1 .taken)
     (ap (λ (z : ℤ). leb (natAbs z) 2147483648) (sym (toZ-ofZ (s .fits .b))) ∙ sym (c .before .small2 .ensures) ∙ c .if2 .taken)
 
-mul-t5 : tie.Need-mul-t5
-mul-t5 c = let s = c .before .before .before .before in raw-fits (s .fits .a) (s .fits .b) _*ℤ_ (first c)
+mul-product : tie.Need-mul-product
+mul-product c = let s = c .before .before .before .before in raw-fits (s .fits .a) (s .fits .b) _*ℤ_ (first c)
 
 returns : tie.Need-returns
 returns c = let s = c .before .before .before .before in raw-value (s .fits .a) (s .fits .b) _*ℤ_ (first c)
@@ -51,8 +50,8 @@ tested c =
     let s = c .before .before .before .before .before .before in
     mul-test (s .fits .a) (s .fits .b) (c .before .before .before .magnitude .ensures) (c .before .before .magnitude2 .ensures) (c .before .limit .ensures) (c .fits2 .ensures)
 
-mul-t11 : tie.Need-mul-t11
-mul-t11 c =
+mul-product-2 : tie.Need-mul-product-2
+mul-product-2 c =
     let s = c .before .before .before .before .before .before .before in
     raw-fits (s .fits .a) (s .fits .b) _*ℤ_ (mul-in (s .args .a) (s .args .b) (tested (c .before) ∙ c .if3 .taken))
 
@@ -65,4 +64,4 @@ returns-3 : tie.Need-returns-3
 returns-3 c = let s = c .before .before .before .before .before .before .before in mul-out (s .args .a) (s .args .b) (tested (c .before) ∙ c .if3 .left)
 
 pub mul-spec : {M : Type 1} → statement M
-mul-spec = tie.close (tie.spec small-requires small-requires-2 mul-t5 returns magnitude-requires magnitude-requires-2 limit-requires fits-requires mul-t11 returns-2 returns-3)
+mul-spec = tie.close (tie.spec small-requires small-requires-2 mul-product returns magnitude-requires magnitude-requires-2 limit-requires fits-requires mul-product-2 returns-2 returns-3)

@@ -1,5 +1,5 @@
 -- `derivatives::CurveDerivatives::into_list` meets its contract. Assumes nothing.
-use Rattle.derivatives.proofs.Answers.{into-order, into-length, into-finite, into-is}
+use Rattle.derivatives.proofs.Answers.{pair, into-order, into-length, into-finite, into-is}
 use lib.Ieee.{Float}
 use mathlib.Core.List.{List}
 use borrow.Author.Tests.{not-true, not-false}
@@ -14,9 +14,6 @@ use Rattle.derivatives.proofs.CurveDerivatives.into_list.Reads as reads
 use Rattle.derivatives.proofs.CurveDerivatives.into_list.Lts as lts
 use Rattle.derivatives.proofs.curve.write.Reads as write-reads
 use Rattle.derivatives.proofs.finite_curve.Reads as finite-curve-reads
-
-abbrev pair : ℕ → List Float → ℕ × List Float
-pair c l = (c, l)
 
 returns : tie.Need-returns
 returns c = into-order (c .before .before .args .self) (now (c .before .before .args .out)) (c .if1 .taken)

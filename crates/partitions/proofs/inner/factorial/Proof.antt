@@ -1,7 +1,8 @@
 -- `factorial`: after i turns the product is that of the numbers up to i. Assumes nothing.
 use mathlib.Core.Path.{_≡_, refl, sym, ap, subst, _∙_}
 use Rattle.partitions.specs.Parts.{fact}
-use Rattle.partitions.proofs.Slices.{fact-fits, fact-next}
+use Rattle.partitions.proofs.Exact.{fact-fits}
+use Rattle.partitions.proofs.Slices.{fact-next}
 use Prim.Native.Nat.{ℕ, _+_, _-_, _*_, _^_, _≤_, _<_}
 use native.Mathlib.Omega.{arith}
 use borrow.Author.Needs.{needs}

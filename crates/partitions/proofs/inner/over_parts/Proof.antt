@@ -2,7 +2,9 @@
 use mathlib.Core.Path.{_≡_, refl, sym, ap, _∙_}
 use lib.ListN.{length, getD, drop}
 use Rattle.partitions.specs.Parts.{divide}
-use Rattle.partitions.proofs.Slices.{part-le, fact-pos, divide-at, divide-past}
+use Rattle.partitions.proofs.Out.{fact-pos}
+use Rattle.partitions.proofs.Member.{part-total}
+use Rattle.partitions.proofs.Slices.{divide-at, divide-past}
 use Prim.Native.Nat.{ℕ, _+_, _-_, _/_, _≤_}
 use native.Mathlib.Omega.{arith}
 use borrow.Author.Needs.{needs}
@@ -29,7 +31,7 @@ shared-slice-read-a c = search needs
 
 factorial-requires : tie.Need-factorial-requires Inv-loop μ-loop
 factorial-requires c κs =
-    omega (arith, part-le (c .before .before .before .before .args .list .now) (c .before .before .loop .i), c .before .before .before .before .pre)
+    omega (arith, part-total (c .before .before .before .before .args .list .now) (c .before .before .loop .i), c .before .before .before .before .pre)
 
 div-rest : tie.Need-div-rest Inv-loop μ-loop
 div-rest c = rw (c .factorial .ensures) (fact-pos _)

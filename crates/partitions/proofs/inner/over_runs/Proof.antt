@@ -2,7 +2,8 @@
 use mathlib.Core.Path.{_≡_, refl, sym, ap, _∙_}
 use lib.ListN.{length, getD, drop}
 use Rattle.partitions.specs.Parts.{divide, runsFrom, runs}
-use Rattle.partitions.proofs.Slices.{fact-pos, runs-start, run-longer, run-over, runs-past, divide-first, divide-one}
+use Rattle.partitions.proofs.Out.{fact-pos}
+use Rattle.partitions.proofs.Slices.{runs-start, run-longer, run-over, runs-past, divide-first, divide-one}
 use Prim.Native.Nat.{ℕ, _+_, _-_, _/_, _≤_}
 use native.Mathlib.Omega.{arith}
 use borrow.Author.Needs.{needs}

@@ -2,10 +2,9 @@
 use mathlib.Core.Path.{sym, ap, _∙_}
 use mathlib.Core.Bool.{cond}
 use lib.Ieee.{Float, eq}
-use Rattle.ieee.proofs.Tests.{second}
+use Rattle.ieee.proofs.Tests.{second, inner, outer}
 use Rattle.vectors.specs.Matrices.{determinant3, inverse3}
 use Rattle.vectors.specs.Answers.{nought, refused3 as refusedBy, returned3 as returnedBy}
-use Rattle.vectors.proofs.Picked.{inner, outer}
 use Rattle.vectors.proofs.answers.matrix3_inverse.Statement.{statement}
 use Rattle.vectors.proofs.answers.matrix3_inverse.Tie as tie
 
@@ -24,7 +23,7 @@ returns c =
     let f = d .before .before in
     let m = f .before .args .m in
     c .refused3 .ensures
-    ∙ sym (inner (refusedBy 5) (refusedBy 6) (returnedBy (inverse3 m)) (sym (f .is-finite .ensures) ∙ d .before .if1 .taken)
+    ∙ sym (inner (refusedBy 6) (returnedBy (inverse3 m)) (refusedBy 5) (sym (f .is-finite .ensures) ∙ d .before .if1 .taken)
     (sym (ap (λ (e : Float). eq e nought) (d .determinant .ensures)) ∙ c .before .if2 .taken))
 
 inverse-requires : tie.Need-inverse-requires
@@ -40,7 +39,7 @@ returns-2 c =
     let m = f .before .args .m in
     c .returned3 .ensures
     ∙ ap returnedBy (c .before .inverse .ensures)
-    ∙ sym (outer (refusedBy 5) (refusedBy 6) (returnedBy (inverse3 m)) (sym (f .is-finite .ensures) ∙ d .before .if1 .taken)
+    ∙ sym (outer (refusedBy 6) (returnedBy (inverse3 m)) (refusedBy 5) (sym (f .is-finite .ensures) ∙ d .before .if1 .taken)
     (sym (ap (λ (e : Float). eq e nought) (d .determinant .ensures)) ∙ c .before .before .if2 .left))
 
 refused3-requires-2 : tie.Need-refused3-requires-2

@@ -1,8 +1,8 @@
 -- `vector_from` meets its contract: each arm returns what the tests pick. Assumes nothing.
 use borrow.Author.Needs.{needs}
 use mathlib.Core.Path.{sym, _∙_}
+use Rattle.ieee.proofs.Tests.{inner, outer}
 use Rattle.vectors.specs.declared.VectorAnswer.the-variants.{Value, Refused}
-use Rattle.vectors.proofs.Picked.{inner, outer}
 use Rattle.vectors.proofs.answers.vector_from.Statement.{statement}
 use Rattle.vectors.proofs.answers.vector_from.Tie as tie
 
@@ -12,12 +12,12 @@ is-finite-requires c κs = search needs
 returns : tie.Need-returns
 returns c =
     let a = c .before .before .before .args in
-    sym (inner (Refused 5) (Value (a .v)) (Refused 10) (c .before .before .if1 .taken) (sym (c .before .is-finite .ensures) ∙ c .if2 .taken))
+    sym (inner (Value (a .v)) (Refused 10) (Refused 5) (c .before .before .if1 .taken) (sym (c .before .is-finite .ensures) ∙ c .if2 .taken))
 
 returns-2 : tie.Need-returns-2
 returns-2 c =
     let a = c .before .before .before .args in
-    sym (outer (Refused 5) (Value (a .v)) (Refused 10) (c .before .before .if1 .taken) (sym (c .before .is-finite .ensures) ∙ c .if2 .left))
+    sym (outer (Value (a .v)) (Refused 10) (Refused 5) (c .before .before .if1 .taken) (sym (c .before .is-finite .ensures) ∙ c .if2 .left))
 
 returns-3 : tie.Need-returns-3
 returns-3 c = search needs

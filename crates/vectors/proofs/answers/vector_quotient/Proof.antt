@@ -3,11 +3,11 @@ use mathlib.Core.Path.{_≡_, sym, ap, _∙_}
 use mathlib.Core.Bool.{_&&_, cond}
 use lib.Ieee.{eq}
 use lib.Ieee.Scale.{finite}
-use Rattle.ieee.proofs.Tests.{second}
+use Rattle.ieee.proofs.Tests.{second, inner, outer}
 use Rattle.vectors.specs.Vectors.{quotient}
 use Rattle.vectors.specs.Answers.{nought, finiteVector, returnedVector}
 use Rattle.vectors.specs.declared.VectorAnswer.the-variants.{Refused}
-use Rattle.vectors.proofs.Picked.{both, inner, outer}
+use Rattle.vectors.proofs.Picked.{both}
 use Rattle.vectors.proofs.answers.vector_quotient.Statement.{statement}
 use Rattle.vectors.proofs.answers.vector_quotient.Tie as tie
 
@@ -27,7 +27,7 @@ both-requires c κs = tt
 returns : tie.Need-returns
 returns c =
     let a = c .before .before .before .before .before .args in
-    sym (inner (Refused 5) (Refused 7) (returnedVector (quotient (a .a) (a .s))) (sym (tested (c .before .before)) ∙ c .before .if1 .taken) (c .if2 .taken))
+    sym (inner (Refused 7) (returnedVector (quotient (a .a) (a .s))) (Refused 5) (sym (tested (c .before .before)) ∙ c .before .if1 .taken) (c .if2 .taken))
 
 div-requires : tie.Need-div-requires
 div-requires c κs = tt
@@ -40,7 +40,7 @@ returns-2 c =
     let a = c .before .before .before .before .before .before .before .args in
     c .vector-from .ensures
     ∙ ap returnedVector (c .before .div .ensures)
-    ∙ sym (outer (Refused 5) (Refused 7) (returnedVector (quotient (a .a) (a .s))) (sym (tested (c .before .before .before .before)) ∙ c .before .before .before .if1 .taken) (c .before .before .if2 .left))
+    ∙ sym (outer (Refused 7) (returnedVector (quotient (a .a) (a .s))) (Refused 5) (sym (tested (c .before .before .before .before)) ∙ c .before .before .before .if1 .taken) (c .before .before .if2 .left))
 
 returns-3 : tie.Need-returns-3
 returns-3 c =

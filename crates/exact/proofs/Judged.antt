@@ -1,0 +1,232 @@
+-- What is answered is the verdict on all that was formed and divided, in the order of work, beside the integers' own values. For any entries
+-- with their histories, and then for sums, differences, products and quotients of curves and surfaces. Assumes nothing.
+use mathlib.Core.Path.{_≡_, refl, sym, ap, ap₂, _∙_, subst}
+use mathlib.Core.List.{List, [], _∷_, _++_, map}
+use Prim.Native.Nat.{ℕ, zero, suc, _+_, _≤_, _<_}
+use native.Mathlib.Nat.{suc-ne-zero, le-refl, not-suc-le-zero, zero-add, add-zero, add-suc, suc-add}
+use native.Mathlib.Omega.{arith}
+use lib.IntN.{ℤ, pos}
+use Rattle.whole.specs.declared.Whole.{Whole}
+use Rattle.whole.specs.declared.Whole.the-variants.{Value, Refused}
+use Rattle.whole.specs.Checked as checks
+use Rattle.whole.specs.History.{Event, Traced, orElse, verdict, settleBy, settle, given}
+use Rattle.whole.proofs.History.{verdict-append, settle-given, settle-plus, settle-minus, settle-times, settle-over, settle-ofNat}
+use Rattle.calculus.specs.Kind.{Kind, regular, plain}
+use Rattle.calculus.specs.Array.{listed}
+use Rattle.calculus.specs.Curve
+use Rattle.calculus.specs.Surface
+use Rattle.calculus.proofs.Related.{Related, regulars}
+use Rattle.calculus.proofs.Alike.{sum-alike, difference-alike, product-alike, quotient-alike, surface-sum-alike, surface-difference-alike, surface-product-alike, surface-quotient-alike}
+use Rattle.exact.specs.Kinds.{checked, traced}
+use Rattle.exact.specs.Order.{rows, curveEntries, surfaceEntries}
+use Rattle.exact.specs.Answer.{valueOf, refusedCurve, refusedSurface, answeredCurve, answeredSurface, unlessRefused, curveAnswer, surfaceAnswer}
+use Rattle.exact.specs.Judged.{histories, byVerdict, judgedCurve, judgedSurface}
+use Rattle.exact.proofs.Work.{map-listed, map-rows}
+use Rattle.exact.proofs.Same.{curve-same, surface-same, curve-answer-same, surface-answer-same}
+
+-- ---- the two pairs of kinds
+abbrev pub Settled : Traced → Whole → Type 0
+Settled t w = settle t ≡ w
+
+abbrev pub Valued : Traced → ℤ → Type 0
+Valued t z = t .value ≡ z
+
+pub settled : Related Settled traced checked
+settled = record {
+  nought = settle-given (pos 0);
+  one = settle-given (pos 1);
+  plus = λ a c b d p q. settle-plus a c ∙ ap₂ checks.plus p q;
+  minus = λ a c b d p q. settle-minus a c ∙ ap₂ checks.minus p q;
+  times = λ a c b d p q. settle-times a c ∙ ap₂ checks.times p q;
+  over = λ a c b d p q. settle-over a c ∙ ap₂ checks.over p q;
+  ofNat = settle-ofNat;
+}
+
+pub valued : Related Valued traced plain
+valued = record {
+  nought = refl;
+  one = refl;
+  plus = λ a c b d p q. ap₂ (plain .plus) p q;
+  minus = λ a c b d p q. ap₂ (plain .minus) p q;
+  times = λ a c b d p q. ap₂ (plain .times) p q;
+  over = λ a c b d p q. ap₂ (plain .over) p q;
+  ofNat = λ n. refl;
+}
+
+-- ---- a list of entries: the first refusal is the verdict on their histories
+module _ {A : Type 0} (refused : ℕ → A) (a : A) where
+  one-more : (v u : ℕ) (z : ℤ) (ws : List Whole) → unlessRefused refused ws a ≡ byVerdict refused u a →
+      unlessRefused refused (settleBy v z ∷ ws) a ≡ byVerdict refused (orElse v u) a
+  unfolding unlessRefused
+  one-more zero u z ws h = h
+  one-more (suc v) u z ws h = refl
+
+  first-refused : (ts : List Traced) → unlessRefused refused (map settle ts) a ≡ byVerdict refused (verdict (histories ts)) a
+  unfolding unlessRefused histories verdict
+  first-refused [] = refl
+  first-refused (t ∷ ts) =
+      one-more (verdict (t .history)) (verdict (histories ts)) (t .value) (map settle ts) (first-refused ts)
+      ∙ ap (λ (v : ℕ). byVerdict refused v a) (sym (verdict-append (t .history) (histories ts)))
+
+-- ---- where the verdict is 0, it is 0 on each entry
+data Good : List Traced → Type 0 where
+  none : Good []
+  more : {t : Traced} {ts : List Traced} → verdict (t .history) ≡ 0 → Good ts → Good (t ∷ ts)
+
+none-first : (v u : ℕ) → orElse v u ≡ 0 → v ≡ 0
+none-first zero u e = refl
+none-first (suc v) u e = e
+
+none-second : (v u : ℕ) → orElse v u ≡ 0 → u ≡ 0
+none-second zero u e = e
+none-second (suc v) u e = absurd (suc-ne-zero v e)
+
+good : (ts : List Traced) → verdict (histories ts) ≡ 0 → Good ts
+unfolding histories
+good [] e = none
+good (t ∷ ts) e =
+    let s = sym (verdict-append (t .history) (histories ts)) ∙ e in
+    more (none-first (verdict (t .history)) (verdict (histories ts)) s) (good ts (none-second (verdict (t .history)) (verdict (histories ts)) s))
+
+good-listed : (g : ℕ → Traced) (i n : ℕ) → Good (listed g i n) → (x : ℕ) → x < n → verdict (g (i + x) .history) ≡ 0
+unfolding listed
+good-listed g i zero p x h = absurd (not-suc-le-zero h)
+good-listed g i (suc n) (more e p) zero h = ap (λ (k : ℕ). verdict (g k .history)) (add-zero i) ∙ e
+good-listed g i (suc n) (more e p) (suc x) h =
+    ap (λ (k : ℕ). verdict (g k .history)) (add-suc i x ∙ sym (suc-add i x)) ∙ good-listed g (suc i) n p x (omega arith)
+
+left-part : (ts us : List Traced) → Good (ts ++ us) → Good ts
+left-part [] us p = none
+left-part (t ∷ ts) us (more e p) = more e (left-part ts us p)
+
+right-part : (ts us : List Traced) → Good (ts ++ us) → Good us
+right-part [] us p = p
+right-part (t ∷ ts) us (more e p) = right-part ts us p
+
+good-rows : (g : ℕ → ℕ → Traced) (i k : ℕ) → Good (rows g i k) → (x y : ℕ) → x + y < k → verdict (g (i + x) y .history) ≡ 0
+unfolding rows
+good-rows g i zero p x y h = absurd (not-suc-le-zero h)
+good-rows g i (suc k) p zero y h =
+    ap₂ (λ (v w : ℕ). verdict (g v w .history)) (add-zero i) (sym (zero-add y))
+    ∙ good-listed (g i) 0 (suc k) (left-part (listed (g i) 0 (suc k)) (rows g (suc i) k) p) y (omega arith)
+good-rows g i (suc k) p (suc x) y h =
+    ap (λ (v : ℕ). verdict (g v y .history)) (add-suc i x ∙ sym (suc-add i x))
+    ∙ good-rows g (suc i) k (right-part (listed (g i) 0 (suc k)) (rows g (suc i) k) p) x y (omega arith)
+
+number-of : (v : ℕ) (z : ℤ) → v ≡ 0 → valueOf (settleBy v z) ≡ z
+number-of v z e = ap (λ (k : ℕ). valueOf (settleBy k z)) e
+
+-- ---- any entries with their histories
+pub curve-judged : (n : ℕ) (f : ℕ → Whole) (g : ℕ → Traced) (a : ℕ → ℤ) → ((m : ℕ) → m ≤ n → Settled (g m) (f m)) → ((m : ℕ) → m ≤ n → Valued (g m) (a m)) →
+    curveAnswer f n ≡ judgedCurve g a n
+curve-judged n f g a s v =
+    sym (curve-answer-same n s)
+    ∙ ap (λ (l : List Whole). unlessRefused refusedCurve l (answeredCurve n (λ m. valueOf (settle (g m))))) (sym (map-listed settle g 0 (suc n)))
+    ∙ first-refused refusedCurve (answeredCurve n (λ m. valueOf (settle (g m)))) (curveEntries g n)
+    ∙ go (verdict (histories (curveEntries g n))) refl
+  where
+    go : (w : ℕ) → verdict (histories (curveEntries g n)) ≡ w → byVerdict refusedCurve w (answeredCurve n (λ m. valueOf (settle (g m)))) ≡ byVerdict refusedCurve w (answeredCurve n a)
+    go zero e =
+        curve-same n (λ m l.
+        number-of (verdict (g m .history)) (g m .value)
+        (ap (λ (k : ℕ). verdict (g k .history)) (sym (zero-add m)) ∙ good-listed g 0 (suc n) (good (curveEntries g n) e) m (omega arith)) ∙ v m l)
+    go (suc w) e = refl
+
+pub surface-judged : (n : ℕ) (f : ℕ → ℕ → Whole) (g : ℕ → ℕ → Traced) (a : ℕ → ℕ → ℤ) → ((i j : ℕ) → i + j ≤ n → Settled (g i j) (f i j)) →
+    ((i j : ℕ) → i + j ≤ n → Valued (g i j) (a i j)) → surfaceAnswer f n ≡ judgedSurface g a n
+surface-judged n f g a s v =
+    sym (surface-answer-same n s)
+    ∙ ap (λ (l : List Whole). unlessRefused refusedSurface l (answeredSurface n (λ i j. valueOf (settle (g i j))))) (sym (map-rows settle g 0 (suc n)))
+    ∙ first-refused refusedSurface (answeredSurface n (λ i j. valueOf (settle (g i j)))) (surfaceEntries g n)
+    ∙ go (verdict (histories (surfaceEntries g n))) refl
+  where
+    go : (w : ℕ) → verdict (histories (surfaceEntries g n)) ≡ w →
+        byVerdict refusedSurface w (answeredSurface n (λ i j. valueOf (settle (g i j)))) ≡ byVerdict refusedSurface w (answeredSurface n a)
+    go zero e =
+        surface-same n (λ i j l.
+        number-of (verdict (g i j .history)) (g i j .value)
+        (ap (λ (k : ℕ). verdict (g k j .history)) (sym (zero-add i)) ∙ good-rows g 0 (suc n) (good (surfaceEntries g n) e) i j (omega arith)) ∙ v i j l)
+    go (suc w) e = refl
+
+-- ---- the formulas, on jets of given numbers
+module _ (a b : ℕ → ℤ) (n : ℕ) where
+  abbrev cs : (ℕ → ℤ) → ℕ → Whole
+  cs x m = Value (x m)
+
+  abbrev ts : (ℕ → ℤ) → ℕ → Traced
+  ts x m = given (x m)
+
+  given-settles : (x : ℕ → ℤ) (m : ℕ) → m ≤ n → Settled (ts x m) (cs x m)
+  given-settles x m l = settle-given (x m)
+
+  given-values : (x : ℕ → ℤ) (m : ℕ) → m ≤ n → Valued (ts x m) (x m)
+  given-values x m l = refl
+
+  pub sum-judged : curveAnswer (Curve.sum (regular checked) (λ m. Value (a m)) (λ m. Value (b m))) n
+      ≡ judgedCurve (Curve.sum (regular traced) (λ m. given (a m)) (λ m. given (b m))) (Curve.sum (regular plain) a b) n
+  sum-judged =
+      curve-judged n (Curve.sum (regular checked) (cs a) (cs b)) (Curve.sum (regular traced) (ts a) (ts b)) (Curve.sum (regular plain) a b)
+      (sum-alike Settled Settled (regular traced) (regular checked) (regulars settled) n (given-settles a) (given-settles b))
+      (sum-alike Valued Valued (regular traced) (regular plain) (regulars valued) n {a = ts a} {c = ts b} (given-values a) (given-values b))
+
+  pub difference-judged : curveAnswer (Curve.difference (regular checked) (λ m. Value (a m)) (λ m. Value (b m))) n
+      ≡ judgedCurve (Curve.difference (regular traced) (λ m. given (a m)) (λ m. given (b m))) (Curve.difference (regular plain) a b) n
+  difference-judged =
+      curve-judged n (Curve.difference (regular checked) (cs a) (cs b)) (Curve.difference (regular traced) (ts a) (ts b)) (Curve.difference (regular plain) a b)
+      (difference-alike Settled Settled (regular traced) (regular checked) (regulars settled) n (given-settles a) (given-settles b))
+      (difference-alike Valued Valued (regular traced) (regular plain) (regulars valued) n {a = ts a} {c = ts b} (given-values a) (given-values b))
+
+  pub product-judged : curveAnswer (Curve.product checked (λ m. Value (a m)) (λ m. Value (b m))) n
+      ≡ judgedCurve (Curve.product traced (λ m. given (a m)) (λ m. given (b m))) (Curve.product plain a b) n
+  product-judged =
+      curve-judged n (Curve.product checked (cs a) (cs b)) (Curve.product traced (ts a) (ts b)) (Curve.product plain a b)
+      (product-alike Settled traced checked settled n (ts a) (ts b) (cs a) (cs b) (given-settles a) (given-settles b))
+      (product-alike Valued traced plain valued n (ts a) (ts b) a b (given-values a) (given-values b))
+
+  pub quotient-judged : curveAnswer (Curve.quotient checked (λ m. Value (a m)) (λ m. Value (b m))) n
+      ≡ judgedCurve (Curve.quotient traced (λ m. given (a m)) (λ m. given (b m))) (Curve.quotient plain a b) n
+  quotient-judged =
+      curve-judged n (Curve.quotient checked (cs a) (cs b)) (Curve.quotient traced (ts a) (ts b)) (Curve.quotient plain a b)
+      (quotient-alike Settled traced checked settled n (ts a) (ts b) (cs a) (cs b) (given-settles a) (given-settles b))
+      (quotient-alike Valued traced plain valued n (ts a) (ts b) a b (given-values a) (given-values b))
+
+module _ (a b : ℕ → ℕ → ℤ) (n : ℕ) where
+  abbrev css : (ℕ → ℕ → ℤ) → ℕ → ℕ → Whole
+  css x i j = Value (x i j)
+
+  abbrev tss : (ℕ → ℕ → ℤ) → ℕ → ℕ → Traced
+  tss x i j = given (x i j)
+
+  all-settle : (x : ℕ → ℕ → ℤ) (i j : ℕ) → i + j ≤ n → Settled (tss x i j) (css x i j)
+  all-settle x i j l = settle-given (x i j)
+
+  all-values : (x : ℕ → ℕ → ℤ) (i j : ℕ) → i + j ≤ n → Valued (tss x i j) (x i j)
+  all-values x i j l = refl
+
+  pub surface-sum-judged : surfaceAnswer (Surface.sum (regular checked) (λ i j. Value (a i j)) (λ i j. Value (b i j))) n
+      ≡ judgedSurface (Surface.sum (regular traced) (λ i j. given (a i j)) (λ i j. given (b i j))) (Surface.sum (regular plain) a b) n
+  surface-sum-judged =
+      surface-judged n (Surface.sum (regular checked) (css a) (css b)) (Surface.sum (regular traced) (tss a) (tss b)) (Surface.sum (regular plain) a b)
+      (surface-sum-alike Settled Settled (regular traced) (regular checked) (regulars settled) n (all-settle a) (all-settle b))
+      (surface-sum-alike Valued Valued (regular traced) (regular plain) (regulars valued) n {a = tss a} {c = tss b} (all-values a) (all-values b))
+
+  pub surface-difference-judged : surfaceAnswer (Surface.difference (regular checked) (λ i j. Value (a i j)) (λ i j. Value (b i j))) n
+      ≡ judgedSurface (Surface.difference (regular traced) (λ i j. given (a i j)) (λ i j. given (b i j))) (Surface.difference (regular plain) a b) n
+  surface-difference-judged =
+      surface-judged n (Surface.difference (regular checked) (css a) (css b)) (Surface.difference (regular traced) (tss a) (tss b)) (Surface.difference (regular plain) a b)
+      (surface-difference-alike Settled Settled (regular traced) (regular checked) (regulars settled) n (all-settle a) (all-settle b))
+      (surface-difference-alike Valued Valued (regular traced) (regular plain) (regulars valued) n {a = tss a} {c = tss b} (all-values a) (all-values b))
+
+  pub surface-product-judged : surfaceAnswer (Surface.product checked (λ i j. Value (a i j)) (λ i j. Value (b i j))) n
+      ≡ judgedSurface (Surface.product traced (λ i j. given (a i j)) (λ i j. given (b i j))) (Surface.product plain a b) n
+  surface-product-judged =
+      surface-judged n (Surface.product checked (css a) (css b)) (Surface.product traced (tss a) (tss b)) (Surface.product plain a b)
+      (surface-product-alike Settled traced checked settled n (tss a) (tss b) (css a) (css b) (all-settle a) (all-settle b))
+      (surface-product-alike Valued traced plain valued n (tss a) (tss b) a b (all-values a) (all-values b))
+
+  pub surface-quotient-judged : surfaceAnswer (Surface.quotient checked (λ i j. Value (a i j)) (λ i j. Value (b i j))) n
+      ≡ judgedSurface (Surface.quotient traced (λ i j. given (a i j)) (λ i j. given (b i j))) (Surface.quotient plain a b) n
+  surface-quotient-judged =
+      surface-judged n (Surface.quotient checked (css a) (css b)) (Surface.quotient traced (tss a) (tss b)) (Surface.quotient plain a b)
+      (surface-quotient-alike Settled traced checked settled n (tss a) (tss b) (css a) (css b) (all-settle a) (all-settle b))
+      (surface-quotient-alike Valued traced plain valued n (tss a) (tss b) a b (all-values a) (all-values b))

@@ -1,0 +1,54 @@
+-- The tests of the orders of a carry: the answer by the first test that holds, and by the number of the refusal. Assumes nothing.
+use mathlib.Core.Path.{_≡_, refl}
+use mathlib.Core.Bool.{Bool, true, false, cond}
+use Prim.Native.Nat.{ℕ, suc, _≤_, _<_}
+use native.Mathlib.Nat.{suc-ne-zero}
+use lib.Dec.{ltb}
+use borrow.Author.Tests.{lt-ltb, le-ltb, ltb-false}
+use Rattle.exact.specs.Composite.{withinOrders}
+
+module _ {A : Type 0} (refused : ℕ → A) (a : A) (s c n : ℕ) where
+  pub surface-high : 20 < s → refused 1 ≡ withinOrders refused a s c n
+  surface-high h = rw (lt-ltb 20 s h)
+
+  module _ (hs : s ≤ 20) where
+    pub curve-high : 20 < c → refused 1 ≡ withinOrders refused a s c n
+    curve-high h = rw (le-ltb 20 s hs, lt-ltb 20 c h)
+
+    module _ (hc : c ≤ 20) where
+      pub order-high : 20 < n → refused 1 ≡ withinOrders refused a s c n
+      order-high h = rw (le-ltb 20 s hs, le-ltb 20 c hc, lt-ltb 20 n h)
+
+      module _ (hn : n ≤ 20) where
+        pub surface-low : s < n → refused 2 ≡ withinOrders refused a s c n
+        surface-low h = rw (le-ltb 20 s hs, le-ltb 20 c hc, le-ltb 20 n hn, lt-ltb s n h)
+
+        pub curve-low : n ≤ s → c < n → refused 2 ≡ withinOrders refused a s c n
+        curve-low g h = rw (le-ltb 20 s hs, le-ltb 20 c hc, le-ltb 20 n hn, le-ltb s n g, lt-ltb c n h)
+
+        pub within : n ≤ s → n ≤ c → a ≡ withinOrders refused a s c n
+        within g h = rw (le-ltb 20 s hs, le-ltb 20 c hc, le-ltb 20 n hn, le-ltb s n g, le-ltb c n h)
+
+  -- the outcome x beside the number m
+  record Says (x : A) (m : ℕ) : Type 0 where
+    none : m ≡ 0 → (a ≡ x) × (n ≤ 20)
+    some : ¬ (m ≡ 0) → refused m ≡ x
+
+  test : (b : Bool) (x y : A) (m k : ℕ) → (b ≡ true → Says x m) → (b ≡ false → Says y k) → Says (cond b x y) (cond b m k)
+  test true x y m k f g = f refl
+  test false x y m k f g = g refl
+
+  no : (m : ℕ) → Says (refused (suc m)) (suc m)
+  no m = record { none = λ e. absurd (suc-ne-zero m e); some = λ _. refl }
+
+  says : Says (withinOrders refused a s c n) (withinOrders (λ r. r) 0 s c n)
+  says =
+      test (ltb 20 s) _ _ _ _ (λ _. no 0) (λ _. test (ltb 20 c) _ _ _ _ (λ _. no 0) (λ _. test (ltb 20 n) _ _ _ _ (λ _. no 0)
+      (λ e. test (ltb s n) _ _ _ _ (λ _. no 1) (λ _. test (ltb c n) _ _ _ _ (λ _. no 1)
+      (λ _. record { none = λ _. (refl, ltb-false 20 n e); some = λ f. absurd (f refl) })))))
+
+  pub by-none : withinOrders (λ r. r) 0 s c n ≡ 0 → (a ≡ withinOrders refused a s c n) × (n ≤ 20)
+  by-none = says .none
+
+  pub by-some : ¬ (withinOrders (λ r. r) 0 s c n ≡ 0) → refused (withinOrders (λ r. r) 0 s c n) ≡ withinOrders refused a s c n
+  by-some = says .some

@@ -1,0 +1,58 @@
+-- Jets that agree up to the order have the same entries, the same array and the same answer. Assumes nothing.
+use mathlib.Core.Path.{_≡_, refl, sym, ap, ap₂, _∙_, fun-ext}
+use mathlib.Core.Bool.{Bool, true, false, cond}
+use mathlib.Core.List.{List, [], _∷_, _++_}
+use Prim.Native.Nat.{ℕ, zero, suc, _+_, _≤_, _<_}
+use native.Mathlib.Nat.{add-zero, add-suc, suc-add, zero-add}
+use native.Mathlib.Omega.{arith}
+use lib.Dec.{ltb}
+use lib.IntN.{ℤ, pos}
+use borrow.Author.Tests.{ltb-true}
+use Rattle.whole.specs.declared.Whole.{Whole}
+use Rattle.calculus.specs.Graded.{triangle, place, graded}
+use Rattle.calculus.specs.Array.{listed, filled}
+use Rattle.calculus.proofs.Graded.{place-order}
+use Rattle.exact.specs.Order.{rows, curveEntries, surfaceEntries}
+use Rattle.exact.specs.Answer.{valueOf, refusedCurve, refusedSurface, answeredCurve, answeredSurface, unlessRefused, curveAnswer, surfaceAnswer}
+
+module _ {X : Type 0} where
+  listed-same : (f g : ℕ → X) (i n : ℕ) → ((x : ℕ) → x < n → f (i + x) ≡ g (i + x)) → listed f i n ≡ listed g i n
+  unfolding listed
+  listed-same f g i zero h = refl
+  listed-same f g i (suc n) h =
+      ap₂ _∷_ (ap f (sym (add-zero i)) ∙ h 0 (omega arith) ∙ ap g (add-zero i))
+      (listed-same f g (suc i) n (λ x l. ap f (suc-add i x ∙ sym (add-suc i x)) ∙ h (suc x) (omega arith) ∙ ap g (add-suc i x ∙ sym (suc-add i x))))
+
+  pub curve-entries-same : (n : ℕ) {f g : ℕ → X} → ((m : ℕ) → m ≤ n → f m ≡ g m) → curveEntries f n ≡ curveEntries g n
+  curve-entries-same n {f} {g} h = listed-same f g 0 (suc n) (λ x l. ap f (zero-add x) ∙ h x (omega arith) ∙ ap g (sym (zero-add x)))
+
+  rows-same : (s t : ℕ → ℕ → X) (i k : ℕ) → ((x y : ℕ) → x + y < i + k → i ≤ x → s x y ≡ t x y) → rows s i k ≡ rows t i k
+  unfolding rows
+  rows-same s t i zero h = refl
+  rows-same s t i (suc k) h =
+      ap₂ _++_ (listed-same (s i) (t i) 0 (suc k) (λ y l. ap (s i) (zero-add y) ∙ h i y (omega arith) (omega arith) ∙ ap (t i) (sym (zero-add y))))
+      (rows-same s t (suc i) k (λ x y l b. h x y (omega arith) (omega arith)))
+
+  pub surface-entries-same : (n : ℕ) {s t : ℕ → ℕ → X} → ((i j : ℕ) → i + j ≤ n → s i j ≡ t i j) → surfaceEntries s n ≡ surfaceEntries t n
+  surface-entries-same n {s} {t} h = rows-same s t 0 (suc n) (λ x y l b. h x y (omega arith))
+
+  filled-same : (w n : ℕ) (blank : X) (f g : ℕ → X) → ((k : ℕ) → k < n → f k ≡ g k) → filled w blank f n ≡ filled w blank g n
+  filled-same w n blank f g h = ap (λ (r : ℕ → X). listed r 0 w) (fun-ext (λ k. go k (ltb k n) refl))
+    where
+      go : (k : ℕ) (t : Bool) → ltb k n ≡ t → cond t (f k) blank ≡ cond t (g k) blank
+      go k true e = h k (ltb-true k n e)
+      go k false e = refl
+
+pub curve-same : (n : ℕ) {a b : ℕ → ℤ} → ((m : ℕ) → m ≤ n → a m ≡ b m) → answeredCurve n a ≡ answeredCurve n b
+curve-same n {a} {b} h = ap (λ (l : List ℤ). record { refusal = 0; jet = record { order = n; entries = l } }) (filled-same 21 (suc n) (pos 0) a b (λ k l. h k (omega arith)))
+
+pub surface-same : (n : ℕ) {s t : ℕ → ℕ → ℤ} → ((i j : ℕ) → i + j ≤ n → s i j ≡ t i j) → answeredSurface n s ≡ answeredSurface n t
+surface-same n {s} {t} h =
+    ap (λ (l : List ℤ). record { refusal = 0; jet = record { order = n; entries = l } })
+    (filled-same 231 (triangle (suc n)) (pos 0) (graded s) (graded t) (λ k l. h (place k .0) (place k .1) (place-order n k l)))
+
+pub curve-answer-same : (n : ℕ) {f g : ℕ → Whole} → ((m : ℕ) → m ≤ n → f m ≡ g m) → curveAnswer f n ≡ curveAnswer g n
+curve-answer-same n h = ap₂ (unlessRefused refusedCurve) (curve-entries-same n h) (curve-same n (λ m l. ap valueOf (h m l)))
+
+pub surface-answer-same : (n : ℕ) {f g : ℕ → ℕ → Whole} → ((i j : ℕ) → i + j ≤ n → f i j ≡ g i j) → surfaceAnswer f n ≡ surfaceAnswer g n
+surface-answer-same n h = ap₂ (unlessRefused refusedSurface) (surface-entries-same n h) (surface-same n (λ i j l. ap valueOf (h i j l)))

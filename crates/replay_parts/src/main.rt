@@ -1,0 +1,47 @@
+// Writes what the program `parts` prints for each input that stands in standard input: first from the input whole, then from the input fed byte
+// by byte. Byte 255 ends each input (tools/replay_parts.py makes them, and says what is expected).
+use libc::STDIN_FILENO;
+use libc::STDOUT_FILENO;
+use parts_text::Reading;
+
+fn write_whole(input: &[u8]) {
+    let mut out = [0u8; 4096];
+    let n = parts_text::print(input, &mut out);
+    io::write_all(STDOUT_FILENO, &out[..n]);
+}
+
+fn fed_by_bytes(input: &[u8]) -> Reading {
+    let mut state = parts_text::start();
+    let mut i = 0;
+    while i < input.len() {
+        let next = i + 1;
+        state = parts_text::feed(state, &input[i..next]);
+        i = next;
+    }
+    state
+}
+
+fn write_by_bytes(input: &[u8]) {
+    let mut out = [0u8; 4096];
+    let n = parts_text::report(fed_by_bytes(input), &mut out);
+    io::write_all(STDOUT_FILENO, &out[..n]);
+}
+
+fn write_inputs(inputs: &[u8]) {
+    let mut begun = 0;
+    let mut i = 0;
+    while i < inputs.len() {
+        if inputs[i] == 255 {
+            write_whole(&inputs[begun..i]);
+            write_by_bytes(&inputs[begun..i]);
+            begun = i + 1;
+        }
+        i += 1;
+    }
+}
+
+fn main() {
+    let mut buffer = io::large_buffer();
+    let n = io::read_full(STDIN_FILENO, &mut buffer);
+    write_inputs(&buffer[..n]);
+}
