@@ -12,3 +12,5 @@ pub mod Upto
 pub mod Vectors
 pub mod VectorAnswers
 pub mod VectorCurves
+pub mod VectorCarries
+pub mod VectorFigures

@@ -17,12 +17,15 @@ use Rattle.calculus.specs.Array.{listed, curveArray}
 use Rattle.calculus.specs.Curve.{derivative}
 use Rattle.calculus.proofs.Filling.{filled-at}
 use Rattle.derivatives.specs.declared.CurveDerivatives.{CurveDerivatives}
+use Rattle.derivatives.specs.declared.ParameterCurve.{ParameterCurve}
+use Rattle.derivatives.specs.declared.VectorSurfaceDerivatives.{VectorSurfaceDerivatives}
 use Rattle.derivatives.specs.declared.VectorCurveDerivatives.{VectorCurveDerivatives}
 use Rattle.derivatives.specs.declared.VectorCurveAnswer.{VectorCurveAnswer}
 use Rattle.derivatives.specs.Real.{nil, isZero}
 use Rattle.derivatives.specs.Answer.{curveNumbers, finiteList, finiteCurve, refusedCurve, returnedCurve}
-use Rattle.derivatives.specs.Vector.{vectorNumbers, flat, vectorArray, finiteVectors}
+use Rattle.derivatives.specs.Vector.{vectorNumbers, vectorSurfaceNumbers, flat, vectorArray, finiteVectors, finiteVectorSurface}
 use Rattle.derivatives.specs.VectorAnswer.{far, refusedVectors, answeredVectors, returnedVectors, onVectors, onVectorsAt, onWeighted, onWeightedAt, vectorNorm, vectorAbsolute, vectorDerivative, vectorFromList, vectorIntoList}
+use Rattle.derivatives.specs.VectorComposite.{alongVectors}
 use Rattle.derivatives.specs.VectorFormula.{madeVectors, madeCurve}
 use Rattle.derivatives.proofs.Answers.{filled-finite as numbers-finite}
 use Rattle.derivatives.proofs.Vectors.{filled-finite}
@@ -135,6 +138,24 @@ module _ (op : (ℕ → Vector3) → (ℕ → Float) → ℕ → Vector3) (a : V
     pub weighted-worked-at : m ≤ n → (finiteVectors (vectorNumbers (a .entries)) m && finiteCurve (curveNumbers (b .entries)) m) ≡ true →
         returnedVector (op (vectorNumbers (a .entries)) (curveNumbers (b .entries)) m) ≡ onWeightedAt op a b m
     weighted-worked-at l f = rw (e, ← q, le-ltb n m l, f)
+
+-- ---- a surface along a curve
+module _ {R : Type 0} (refused : ℕ → R) (r : R) (a : VectorSurfaceDerivatives) (c : ParameterCurve) (m : ℕ) where
+  pub along-far : (far (a .order) (c .order) || ltb 20 m) ≡ true → refused 1 ≡ alongVectors refused r a c m
+  along-far e = rw e
+
+  module _ (e : (far (a .order) (c .order) || ltb 20 m) ≡ false) {n : ℕ} (q : n ≡ min (a .order) (c .order)) where
+    pub along-beyond : n < m → refused 2 ≡ alongVectors refused r a c m
+    along-beyond l = rw (e, ← q, lt-ltb n m l)
+
+    abbrev Finite : Bool
+    Finite = finiteVectorSurface (vectorSurfaceNumbers (a .entries)) m && (finiteCurve (curveNumbers (c .u)) m && finiteCurve (curveNumbers (c .v)) m)
+
+    pub along-infinite : m ≤ n → Finite ≡ false → refused 5 ≡ alongVectors refused r a c m
+    along-infinite l f = rw (e, ← q, le-ltb n m l, f)
+
+    pub along-is : m ≤ n → Finite ≡ true → r ≡ alongVectors refused r a c m
+    along-is l f = rw (e, ← q, le-ltb n m l, f)
 
 -- ---- one jet: its derivative, its norm, and lists
 module _ (a : VectorCurveDerivatives) where

@@ -2,7 +2,7 @@
 use mathlib.Core.Path.{_≡_, refl, sym, ap, ap₂, _∙_, subst}
 use mathlib.Core.Bool.{Bool, true, false, cond, _&&_}
 use mathlib.Core.List.{List, [], _∷_}
-use Prim.Native.Nat.{ℕ, zero, suc, _+_, _*_, _≤_, _<_}
+use Prim.Native.Nat.{ℕ, zero, suc, _+_, _*_, _/_, _≤_, _<_}
 use native.Mathlib.Nat.{le-refl, not-suc-le-zero}
 use native.Mathlib.Numerals.{add-one}
 use native.Mathlib.Decide.{ℕ-discrete}
@@ -17,8 +17,11 @@ use Rattle.vectors.specs.Answers.{finiteVector}
 use Rattle.calculus.specs.Array.{listed, filled, curveArray}
 use Rattle.calculus.specs.Rising.{before, rising}
 use Rattle.calculus.proofs.Filling.{CurveStored, curve-none, curve-more, curve-all, curve-earlier, filled-at}
+use Rattle.calculus.specs.Graded.{triangle, graded}
+use Rattle.calculus.proofs.Graded.{index-place}
 use Rattle.derivatives.specs.Real.{nil}
-use Rattle.derivatives.specs.Vector.{origin, vectorNumbers, flat, vectorArray, allVectorsFinite, finiteVectors}
+use Rattle.derivatives.specs.Vector.{origin, vectorNumbers, flat, vectorSurfaceNumbers, vectorArray, allVectorsFinite, finiteVectors, finiteVectorSurface}
+use Rattle.derivatives.proofs.Finite.{count-is}
 
 -- what the logic reads past the end
 abbrev pub nowhere : Vector3
@@ -150,3 +153,9 @@ filled-finite w f n l =
     same (vectorNumbers (flat (filled w origin f n))) f n
     (λ k h. flat-at (filled w origin f n) k ∙ filled-at w nowhere origin f n k (omega arith)
     ∙ ap (λ (b : Bool). cond b (f k) origin) (lt-ltb k n h))
+
+-- a surface's entries up to the order n are the first (n + 1)(n + 2)/2 of its array
+pub surface-finite : (l : List Float) (n : ℕ) → allVectorsFinite (vectorNumbers l) ((n + 1) * (n + 2) / 2) ≡ finiteVectorSurface (vectorSurfaceNumbers l) n
+surface-finite l n =
+    ap (allVectorsFinite (vectorNumbers l)) (count-is n)
+    ∙ same (vectorNumbers l) (graded (vectorSurfaceNumbers l)) (triangle (suc n)) (λ k h. ap (vectorNumbers l) (sym (index-place k)))

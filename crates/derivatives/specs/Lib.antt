@@ -7,3 +7,4 @@ pub mod Composite
 pub mod Vector
 pub mod VectorAnswer
 pub mod VectorFormula
+pub mod VectorComposite

@@ -14,8 +14,11 @@ mod carry;
 mod composite;
 mod curve;
 mod parameter;
+pub mod raw;
 mod surface;
 mod vector_array;
+mod vector_carry;
+mod vector_composite;
 mod vector_curve;
 mod vector_entries;
 
@@ -42,6 +45,12 @@ pub struct ParameterCurve {
 pub struct VectorCurveDerivatives {
     pub order: usize,
     pub entries: [f64; 63],
+}
+
+// The derivatives of a surface of vectors, in the order of a surface's: x, y and z of each, side by side.
+pub struct VectorSurfaceDerivatives {
+    pub order: usize,
+    pub entries: [f64; 693],
 }
 
 // A jet beside its refusal number: 0, and zeros past the order; or the number, and the zero jet of order 0.

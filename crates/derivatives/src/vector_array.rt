@@ -8,7 +8,7 @@ ghost use lib.ListN.{length};
 ghost use Rattle.vectors.specs.Answers.{returnedVector};
 ghost use Rattle.derivatives.specs.Real.{isZero};
 ghost use Rattle.derivatives.specs.Answer.{curveNumbers, finiteCurve, refusedCurve};
-ghost use Rattle.derivatives.specs.Vector.{vectorNumbers, allVectorsFinite, finiteVectors};
+ghost use Rattle.derivatives.specs.Vector.{vectorNumbers, vectorSurfaceNumbers, allVectorsFinite, finiteVectors, finiteVectorSurface};
 ghost use Rattle.derivatives.specs.VectorAnswer.{far as farOf, refusedVectors};
 ghost use Rattle.derivatives.specs.VectorFormula.{madeVectors, madeCurve};
 use crate::CurveAnswer;
@@ -67,12 +67,20 @@ pub fn norm_divides(n: usize, q: f64) -> bool
     if 0 < n { q == 0.0 } else { false }
 }
 
-// Whether the entries up to the order n are finite, of one jet and of two.
+// Whether the entries up to the order n are finite, of one jet, of a surface, and of two jets.
 pub fn curve_finite(a: &[f64; 63], n: usize) -> bool
     requires { ⌜ n ≤ 20 ⌝ }
     ensures { λ r. ⌜ r ≡ finiteVectors (vectorNumbers (now (a .entry))) n ⌝ }
 {
     all_finite(a, n + 1)
+}
+
+pub fn surface_finite(a: &[f64; 693], n: usize) -> bool
+    requires { ⌜ n ≤ 20 ⌝ }
+    ensures { λ r. ⌜ r ≡ finiteVectorSurface (vectorSurfaceNumbers (now (a .entry))) n ⌝ }
+{
+    let k = (n + 1) * (n + 2) / 2;
+    all_finite(a, k)
 }
 
 pub fn both_finite(a: &[f64; 63], b: &[f64; 63], n: usize) -> bool
