@@ -14,3 +14,5 @@ pub mod VectorAnswers
 pub mod VectorCurves
 pub mod VectorCarries
 pub mod VectorFigures
+pub mod VectorSurfaces
+pub mod VectorSurfaceAnswers

@@ -8,3 +8,4 @@ pub mod Vector
 pub mod VectorAnswer
 pub mod VectorFormula
 pub mod VectorComposite
+pub mod VectorSurfaceAnswer

@@ -21,6 +21,8 @@ mod vector_carry;
 mod vector_composite;
 mod vector_curve;
 mod vector_entries;
+mod vector_surface;
+mod vector_surface_entries;
 
 // The derivatives of a curve, of the orders 0 to `order`.
 pub struct CurveDerivatives {
@@ -62,6 +64,11 @@ pub struct CurveAnswer {
 pub struct VectorCurveAnswer {
     pub refusal: u8,
     pub jet: VectorCurveDerivatives,
+}
+
+pub struct VectorSurfaceAnswer {
+    pub refusal: u8,
+    pub jet: VectorSurfaceDerivatives,
 }
 
 pub struct SurfaceAnswer {

@@ -51,7 +51,7 @@ fn on_two(
 }
 
 // Whether the formula divides by y where that is zero.
-fn division_by_zero(f: VectorFormula, y: f64) -> bool
+pub fn division_by_zero(f: VectorFormula, y: f64) -> bool
     ensures { λ r. ⌜ r ≡ vectorDivisionByZero f y ⌝ }
 {
     match f {
