@@ -9,3 +9,10 @@ pub mod Counts
 pub mod Carries
 pub mod Norms
 pub mod Upto
+pub mod Vectors
+pub mod VectorAnswers
+pub mod VectorCurves
+pub mod VectorCarries
+pub mod VectorFigures
+pub mod VectorSurfaces
+pub mod VectorSurfaceAnswers

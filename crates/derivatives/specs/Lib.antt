@@ -4,3 +4,8 @@ pub mod Norm
 pub mod Answer
 pub mod Formula
 pub mod Composite
+pub mod Vector
+pub mod VectorAnswer
+pub mod VectorFormula
+pub mod VectorComposite
+pub mod VectorSurfaceAnswer

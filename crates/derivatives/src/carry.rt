@@ -15,7 +15,7 @@ use partitions::CompositionIter;
 use partitions::Count;
 
 // From one, for each part in turn: the derivative of the part's order of u where the part's bit is 0, and of v where it is 1.
-fn factors(u: &[f64; 21], v: &[f64; 21], list: &[usize], mask: u32) -> f64
+pub fn factors(u: &[f64; 21], v: &[f64; 21], list: &[usize], mask: u32) -> f64
     requires { ⌜ total (now list) ≤ 20 ⌝ }
     ensures { λ r. ⌜ r ≡ Factors real 2 (coordinates (curveNumbers (now (u .entry))) (curveNumbers (now (v .entry)))) (real .one) (now (list .entry)) mask ⌝ }
 {

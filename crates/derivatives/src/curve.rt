@@ -26,7 +26,7 @@ fn leibniz_term(a: &[f64; 21], b: &[f64; 21], c: &[u32; 231], m: usize, i: usize
     a[i] * b[m - i] * k
 }
 
-fn product_entry(a: &[f64; 21], b: &[f64; 21], c: &[u32; 231], m: usize) -> f64
+pub fn product_entry(a: &[f64; 21], b: &[f64; 21], c: &[u32; 231], m: usize) -> f64
     requires { ⌜ (m ≤ 20) × (now c ≡ binomialTable) ⌝ }
     ensures { λ r. ⌜ r ≡ product real (curveNumbers (now (a .entry))) (curveNumbers (now (b .entry))) m ⌝ }
 {

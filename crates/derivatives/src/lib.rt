@@ -14,7 +14,15 @@ mod carry;
 mod composite;
 mod curve;
 mod parameter;
+pub mod raw;
 mod surface;
+mod vector_array;
+mod vector_carry;
+mod vector_composite;
+mod vector_curve;
+mod vector_entries;
+mod vector_surface;
+mod vector_surface_entries;
 
 // The derivatives of a curve, of the orders 0 to `order`.
 pub struct CurveDerivatives {
@@ -35,10 +43,32 @@ pub struct ParameterCurve {
     pub v: [f64; 21],
 }
 
+// The derivatives of a curve of vectors: x, y and z of each order, side by side.
+pub struct VectorCurveDerivatives {
+    pub order: usize,
+    pub entries: [f64; 63],
+}
+
+// The derivatives of a surface of vectors, in the order of a surface's: x, y and z of each, side by side.
+pub struct VectorSurfaceDerivatives {
+    pub order: usize,
+    pub entries: [f64; 693],
+}
+
 // A jet beside its refusal number: 0, and zeros past the order; or the number, and the zero jet of order 0.
 pub struct CurveAnswer {
     pub refusal: u8,
     pub jet: CurveDerivatives,
+}
+
+pub struct VectorCurveAnswer {
+    pub refusal: u8,
+    pub jet: VectorCurveDerivatives,
+}
+
+pub struct VectorSurfaceAnswer {
+    pub refusal: u8,
+    pub jet: VectorSurfaceDerivatives,
 }
 
 pub struct SurfaceAnswer {

@@ -1,0 +1,161 @@
+-- Arrays of vectors: what they hold, what a loop stores in them, and when they are finite. Assumes nothing.
+use mathlib.Core.Path.{_≡_, refl, sym, ap, ap₂, _∙_, subst}
+use mathlib.Core.Bool.{Bool, true, false, cond, _&&_}
+use mathlib.Core.List.{List, [], _∷_}
+use Prim.Native.Nat.{ℕ, zero, suc, _+_, _*_, _/_, _≤_, _<_}
+use native.Mathlib.Nat.{le-refl, not-suc-le-zero}
+use native.Mathlib.Numerals.{add-one}
+use native.Mathlib.Decide.{ℕ-discrete}
+use native.Mathlib.Omega.{arith}
+use lib.Dec.{ltb}
+use lib.ListN.{getD, set, length, replicate}
+use lib.Ieee.{Float, nan}
+use borrow.Author.Tests.{lt-ltb}
+use Rattle.vectors.specs.declared.Vector3.{Vector3}
+use Rattle.vectors.specs.Vectors.{vector}
+use Rattle.vectors.specs.Answers.{finiteVector}
+use Rattle.calculus.specs.Array.{listed, filled, curveArray}
+use Rattle.calculus.specs.Rising.{before, rising}
+use Rattle.calculus.proofs.Filling.{CurveStored, curve-none, curve-more, curve-all, curve-earlier, filled-at}
+use Rattle.calculus.specs.Graded.{triangle, graded}
+use Rattle.calculus.proofs.Graded.{index-place}
+use Rattle.derivatives.specs.Real.{nil}
+use Rattle.derivatives.specs.Vector.{origin, vectorNumbers, flat, vectorSurfaceNumbers, vectorArray, allVectorsFinite, finiteVectors, finiteVectorSurface}
+use Rattle.derivatives.proofs.Finite.{count-is}
+
+-- what the logic reads past the end
+abbrev pub nowhere : Vector3
+nowhere = vector nan nan nan
+
+three : (k : ℕ) → 3 * suc k ≡ suc (suc (suc (3 * k)))
+three k = omega arith
+
+-- ---- reading and writing at i, i + 1 and i + 2
+abbrev at : List Float → ℕ → Vector3
+at l i = vector (getD l i nan) (getD l (i + 1) nan) (getD l (i + 2) nan)
+
+abbrev pub put : List Float → ℕ → Vector3 → List Float
+put l i v = set (set (set l i (v .x)) (i + 1) (v .y)) (i + 2) (v .z)
+
+module _ (a b c : Float) (l : List Float) (i : ℕ) where
+  one-on : suc (suc (suc i)) + 1 ≡ suc (suc (suc (i + 1)))
+  one-on = omega arith
+
+  two-on : suc (suc (suc i)) + 2 ≡ suc (suc (suc (i + 2)))
+  two-on = omega arith
+
+  at-on : at (a ∷ b ∷ c ∷ l) (suc (suc (suc i))) ≡ at l i
+  at-on = ap₂ (λ (j k : ℕ). vector (getD l i nan) (getD (a ∷ b ∷ c ∷ l) j nan) (getD (a ∷ b ∷ c ∷ l) k nan)) one-on two-on
+
+  put-on : (v : Vector3) → put (a ∷ b ∷ c ∷ l) (suc (suc (suc i))) v ≡ a ∷ b ∷ c ∷ put l i v
+  put-on v = ap₂ (λ (j k : ℕ). set (set (set (a ∷ b ∷ c ∷ l) (suc (suc (suc i))) (v .x)) j (v .y)) k (v .z)) one-on two-on
+
+pub flat-at : (l : List Vector3) (k : ℕ) → vectorNumbers (flat l) k ≡ getD l k nowhere
+unfolding flat
+flat-at [] k = refl
+flat-at (a ∷ l) zero = refl
+flat-at (a ∷ l) (suc k) = ap (at (a .x ∷ a .y ∷ a .z ∷ flat l)) (three k) ∙ at-on (a .x) (a .y) (a .z) (flat l) (3 * k) ∙ flat-at l k
+
+pub flat-put : (l : List Vector3) (k : ℕ) (v : Vector3) → put (flat l) (3 * k) v ≡ flat (set l k v)
+unfolding flat
+flat-put [] k v = refl
+flat-put (a ∷ l) zero v = refl
+flat-put (a ∷ l) (suc k) v =
+    ap (λ (i : ℕ). put (a .x ∷ a .y ∷ a .z ∷ flat l) i v) (three k) ∙ put-on (a .x) (a .y) (a .z) (flat l) (3 * k) v
+    ∙ ap (λ (r : List Float). a .x ∷ a .y ∷ a .z ∷ r) (flat-put l k v)
+
+pub flat-zeros : (w : ℕ) → replicate (3 * w) nil ≡ flat (replicate w origin)
+unfolding flat
+flat-zeros zero = refl
+flat-zeros (suc w) = ap (λ (k : ℕ). replicate k nil) (three w) ∙ ap (λ (r : List Float). nil ∷ nil ∷ nil ∷ r) (flat-zeros w)
+
+-- the first 3 k floats are the first k vectors
+pub flat-listed : (f : ℕ → Float) (i k : ℕ) → listed f (3 * i) (3 * k) ≡ flat (listed (λ j. vector (f (3 * j)) (f (3 * j + 1)) (f (3 * j + 2))) i k)
+unfolding flat listed
+flat-listed f i zero = refl
+flat-listed f i (suc k) =
+    ap (listed f (3 * i)) (three k)
+    ∙ ap₂ (λ (a b : ℕ). f (3 * i) ∷ f a ∷ f b ∷ listed f (suc (suc (suc (3 * i)))) (3 * k)) one two
+    ∙ ap (λ (j : ℕ). f (3 * i) ∷ f (3 * i + 1) ∷ f (3 * i + 2) ∷ listed f j (3 * k)) (sym (three i))
+    ∙ ap (λ (r : List Float). f (3 * i) ∷ f (3 * i + 1) ∷ f (3 * i + 2) ∷ r) (flat-listed f (suc i) k)
+  where
+    one : suc (3 * i) ≡ 3 * i + 1
+    one = omega arith
+
+    two : suc (suc (3 * i)) ≡ 3 * i + 2
+    two = omega arith
+
+-- ---- an array of w vectors, of which those are stored that a loop has passed
+pub record Held (P : List Vector3 → Type 0) (r : List Float) : Type 0 where
+  pub list : List Vector3
+  pub is : r ≡ flat list
+  pub holds : P list
+
+module _ (f : ℕ → Vector3) where
+  abbrev pub VectorsStored : ℕ → List Vector3 → Type 0
+  VectorsStored = CurveStored 21 nowhere origin (λ k v. f k ≡ v)
+
+  abbrev pub VectorsFilled : ℕ → List Float → Type 0
+  VectorsFilled m = Held (VectorsStored m)
+
+  pub vectors-none : VectorsFilled 0 (replicate 63 nil)
+  vectors-none = record { list = replicate 21 origin; is = flat-zeros 21; holds = curve-none 21 nowhere origin (λ k v. f k ≡ v) }
+
+  pub vectors-more : {r : List Float} {m : ℕ} (v : Vector3) → VectorsFilled m r → m < 21 → f m ≡ v → VectorsFilled (m + 1) (put r (3 * m) v)
+  vectors-more {r} {m} v h l e = record {
+    list = set (h .list) m v;
+    is = ap (λ (x : List Float). put x (3 * m) v) (h .is) ∙ flat-put (h .list) m v;
+    holds = curve-more 21 nowhere origin (λ k v. f k ≡ v) v (h .holds) l e;
+  }
+
+  pub vectors-all : {r : List Float} (n : ℕ) {m : ℕ} → VectorsFilled m r → m ≡ suc n → r ≡ vectorArray f n
+  vectors-all n h e = h .is ∙ ap flat (curve-all 21 nowhere origin (λ k v. f k ≡ v) f (λ k v q. sym q) (suc n) (h .holds) e)
+
+-- the entries before m, of those that rise, are what the array holds
+pub vectors-earlier : (step : (ℕ → Vector3) → ℕ → Vector3) {r : List Float} {m : ℕ} → VectorsFilled (rising origin step) m r →
+    (k : ℕ) → k < 21 → before origin step m k ≡ vectorNumbers r k
+vectors-earlier step {r} {m} h k l =
+    curve-earlier 21 nowhere origin (λ (v : Vector3). v) step (h .holds) k l
+    ∙ sym (ap (λ (x : List Float). vectorNumbers x k) (h .is) ∙ flat-at (h .list) k)
+
+-- ---- a loop that asks of each vector whether it is finite, and stops at the first that is not
+and-false : (b : Bool) → (b && false) ≡ false
+and-false true = refl
+and-false false = refl
+
+module _ (a : ℕ → Vector3) where
+  pub none : allVectorsFinite a 0 ≡ true
+  unfolding allVectorsFinite
+  none = refl
+
+  pub more : (i : ℕ) → allVectorsFinite a i ≡ true → finiteVector (a i) ≡ true → allVectorsFinite a (i + 1) ≡ true
+  unfolding allVectorsFinite
+  more i e h = ap (allVectorsFinite a) (add-one i) ∙ ap₂ _&&_ e h
+
+  pub stop : {i : ℕ} (n : ℕ) → i < n → finiteVector (a i) ≡ false → false ≡ allVectorsFinite a n
+  unfolding allVectorsFinite
+  stop zero l e = absurd (not-suc-le-zero l)
+  stop {i} (suc n) l e = go (ℕ-discrete i n) (λ h. stop n h e)
+    where
+      go : Dec (i ≡ n) → (i < n → false ≡ allVectorsFinite a n) → false ≡ (allVectorsFinite a n && finiteVector (a n))
+      go (yes q) f =
+          sym (ap (λ (x : Bool). allVectorsFinite a n && x) (ap (λ (k : ℕ). finiteVector (a k)) (sym q) ∙ e) ∙ and-false (allVectorsFinite a n))
+      go (no q) f = ap (λ (x : Bool). x && finiteVector (a n)) (f (omega arith))
+
+pub same : (a b : ℕ → Vector3) (n : ℕ) → ((k : ℕ) → k < n → a k ≡ b k) → allVectorsFinite a n ≡ allVectorsFinite b n
+unfolding allVectorsFinite
+same a b zero h = refl
+same a b (suc n) h = ap₂ _&&_ (same a b n (λ k l. h k (omega arith))) (ap finiteVector (h n (le-refl (suc n))))
+
+-- the array is finite as far as it is filled where its entries are
+pub filled-finite : (w : ℕ) (f : ℕ → Vector3) (n : ℕ) → n ≤ w → allVectorsFinite (vectorNumbers (flat (filled w origin f n))) n ≡ allVectorsFinite f n
+filled-finite w f n l =
+    same (vectorNumbers (flat (filled w origin f n))) f n
+    (λ k h. flat-at (filled w origin f n) k ∙ filled-at w nowhere origin f n k (omega arith)
+    ∙ ap (λ (b : Bool). cond b (f k) origin) (lt-ltb k n h))
+
+-- a surface's entries up to the order n are the first (n + 1)(n + 2)/2 of its array
+pub surface-finite : (l : List Float) (n : ℕ) → allVectorsFinite (vectorNumbers l) ((n + 1) * (n + 2) / 2) ≡ finiteVectorSurface (vectorSurfaceNumbers l) n
+surface-finite l n =
+    ap (allVectorsFinite (vectorNumbers l)) (count-is n)
+    ∙ same (vectorNumbers l) (graded (vectorSurfaceNumbers l)) (triangle (suc n)) (λ k h. ap (vectorNumbers l) (sym (index-place k)))

@@ -1,0 +1,38 @@
+-- `derivatives::vector_array::both_finite` meets its contract. Assumes nothing.
+use Rattle.derivatives.proofs.VectorAnswers.{both-true, both-false}
+use Rattle.derivatives.specs.Vector.{vectorNumbers, allVectorsFinite, finiteVectors}
+use Rattle.derivatives.specs.Answer.{curveNumbers, finiteCurve}
+use native.Mathlib.Numerals.{add-one}
+use denote.Ref.{now}
+use Prim.Native.Nat.{ℕ, suc, _+_, _-_, _*_, _≤_, _<_}
+use native.Mathlib.Omega.{arith}
+use mathlib.Core.Path.{_≡_, refl, sym, ap, ap₂, _∙_}
+use borrow.Author.Needs.{needs}
+use Rattle.derivatives.proofs.vector_array.both_finite.Statement.{statement}
+use Rattle.derivatives.proofs.vector_array.both_finite.Tie as tie
+use Rattle.derivatives.proofs.vector_array.both_finite.Reads as reads
+use Rattle.derivatives.proofs.vector_array.both_finite.Lts as lts
+use Rattle.derivatives.proofs.vector_array.curve_finite.Reads as curve-finite-reads
+
+curve-finite-requires : tie.Need-curve-finite-requires
+curve-finite-requires c κs = search needs
+
+curve-finite-requires-2 : tie.Need-curve-finite-requires-2
+curve-finite-requires-2 c κs = search needs
+
+returns : tie.Need-returns
+returns c = let s = c .before .before .before .args in
+    c .curve-finite2 .ensures ∙ both-true (finiteVectors (vectorNumbers (now (s .a))) (s .n)) (finiteVectors (vectorNumbers (now (s .b))) (s .n)) (sym (c .before .before .curve-finite .ensures) ∙ c .before .if1 .taken)
+
+returns-2 : tie.Need-returns-2
+returns-2 c = let s = c .before .before .args in
+    both-false (finiteVectors (vectorNumbers (now (s .a))) (s .n)) (finiteVectors (vectorNumbers (now (s .b))) (s .n)) (sym (c .before .curve-finite .ensures) ∙ c .if1 .left)
+
+pub both-finite-spec : {M : Type 1} → statement M
+both-finite-spec =
+    tie.close
+    (tie.spec
+    curve-finite-requires
+    curve-finite-requires-2
+    returns
+    returns-2)

@@ -1,0 +1,26 @@
+-- `derivatives::vector_array::curve_finite` meets its contract. Assumes nothing.
+use Rattle.derivatives.specs.Vector.{vectorNumbers, allVectorsFinite}
+use native.Mathlib.Numerals.{add-one}
+use denote.Ref.{now}
+use Prim.Native.Nat.{ℕ, suc, _+_, _-_, _*_, _≤_, _<_}
+use native.Mathlib.Omega.{arith}
+use mathlib.Core.Path.{_≡_, refl, sym, ap, ap₂, _∙_}
+use borrow.Author.Needs.{needs}
+use Rattle.derivatives.proofs.vector_array.curve_finite.Statement.{statement}
+use Rattle.derivatives.proofs.vector_array.curve_finite.Tie as tie
+use Rattle.derivatives.proofs.vector_array.curve_finite.Reads as reads
+use Rattle.derivatives.proofs.vector_array.curve_finite.Lts as lts
+use Rattle.derivatives.proofs.vector_array.all_finite.Reads as all-finite-reads
+
+add-all-finite : tie.Need-add-all-finite
+add-all-finite c = search needs
+
+all-finite-requires : tie.Need-all-finite-requires
+all-finite-requires c κs = search needs
+
+returns : tie.Need-returns
+returns c = let s = c .before .before .args in
+    c .all-finite .ensures ∙ ap (allVectorsFinite (vectorNumbers (now (s .a)))) (add-one (s .n))
+
+pub curve-finite-spec : {M : Type 1} → statement M
+curve-finite-spec = tie.close (tie.spec add-all-finite all-finite-requires returns)

@@ -1,0 +1,33 @@
+-- `derivatives::vector_array::returned_curve` meets its contract. Assumes nothing.
+use Rattle.derivatives.proofs.Answers.{yes, no}
+use Rattle.derivatives.specs.VectorFormula.{madeCurve}
+use Rattle.derivatives.specs.Answer.{refusedCurve}
+use borrow.Author.Tests.{not-true, not-false}
+use Prim.Native.Nat.{ℕ, suc, _+_, _-_, _*_, _≤_, _<_}
+use native.Mathlib.Omega.{arith}
+use mathlib.Core.Path.{_≡_, refl, sym, ap, ap₂, _∙_}
+use borrow.Author.Needs.{needs}
+use Rattle.derivatives.proofs.vector_array.returned_curve.Statement.{statement}
+use Rattle.derivatives.proofs.vector_array.returned_curve.Tie as tie
+use Rattle.derivatives.proofs.vector_array.returned_curve.Reads as reads
+use Rattle.derivatives.proofs.vector_array.returned_curve.Lts as lts
+use Rattle.derivatives.proofs.finite_curve.Reads as finite-curve-reads
+use Rattle.derivatives.proofs.refused_curve.Reads as refused-curve-reads
+
+finite-curve-requires : tie.Need-finite-curve-requires
+finite-curve-requires c κs = search needs
+
+refused-curve-requires : tie.Need-refused-curve-requires
+refused-curve-requires c κs = search needs
+
+returns : tie.Need-returns
+returns c = let s = c .before .before .before .before .args in
+    c .refused-curve .ensures ∙ sym (no _ (madeCurve (s .n) (s .t1)) (refusedCurve 10) (sym (c .before .before .finite-curve .ensures) ∙ not-true _ (c .before .if1 .taken)))
+
+returns-2 : tie.Need-returns-2
+returns-2 c = let s = c .before .before .before .args in
+    sym (yes _ (madeCurve (s .n) (s .t1)) (refusedCurve 10) (sym (c .before .finite-curve .ensures) ∙ not-false _ (c .if1 .left)))
+
+pub returned-curve-spec : {M : Type 1} → statement M
+returned-curve-spec =
+    tie.close (tie.spec finite-curve-requires refused-curve-requires returns returns-2)

@@ -1,0 +1,45 @@
+-- `derivatives::vector_surface_entries::cross_term` meets its contract. Assumes nothing.
+use Rattle.derivatives.specs.Vector.{origin, vectors, vectorNumbers, vectorSurfaceNumbers}
+use Rattle.derivatives.specs.Real.{real}
+use Rattle.derivatives.specs.Answer.{surfaceNumbers}
+use Rattle.vectors.specs.Vectors.{sum, difference, multiple, quotient, cross}
+use borrow.Author.Needs.{needs}
+use denote.Ref.{now}
+use mathlib.Core.Path.{_≡_, refl, sym, ap, ap₂, _∙_}
+use Prim.Native.Nat.{ℕ, suc, _+_, _-_, _*_, _≤_, _<_}
+use native.Mathlib.Omega.{arith}
+use Rattle.derivatives.proofs.vector_surface_entries.cross_term.Statement.{statement}
+use Rattle.derivatives.proofs.vector_surface_entries.cross_term.Tie as tie
+use Rattle.derivatives.proofs.vector_surface_entries.cross_term.Reads as reads
+use Rattle.derivatives.proofs.vector_surface_entries.cross_term.Lts as lts
+use Rattle.derivatives.proofs.vector_surface_entries.coefficient.Reads as coefficient-reads
+use Rattle.derivatives.proofs.vector_surface_entries.surface_at.Reads as surface-at-reads
+use Rattle.vectors.proofs.Vector3.cross.Reads as cross-reads
+use Rattle.vectors.proofs.Vector3.mul.Reads as mul-reads
+
+coefficient-requires : tie.Need-coefficient-requires
+coefficient-requires c κs = search needs
+
+surface-at-requires : tie.Need-surface-at-requires
+surface-at-requires c κs = search needs
+
+sub-surface-at : tie.Need-sub-surface-at
+sub-surface-at c = search needs
+
+sub-surface-at-2 : tie.Need-sub-surface-at-2
+sub-surface-at-2 c = search needs
+
+surface-at-requires-2 : tie.Need-surface-at-requires-2
+surface-at-requires-2 c κs = search needs
+
+cross-requires : tie.Need-cross-requires
+cross-requires c κs = search needs
+
+mul-requires : tie.Need-mul-requires
+mul-requires c κs = search needs
+
+returns : tie.Need-returns
+returns c = c .mul .ensures ∙ ap₂ multiple (c .before .cross .ensures ∙ ap₂ cross (c .before .before .before .surface-at .ensures) (c .before .before .surface-at2 .ensures)) (c .before .before .before .before .coefficient .ensures)
+
+pub cross-term-spec : {M : Type 1} → statement M
+cross-term-spec = tie.close (tie.spec coefficient-requires surface-at-requires sub-surface-at sub-surface-at-2 surface-at-requires-2 cross-requires mul-requires returns)

@@ -1,0 +1,29 @@
+-- `derivatives::vector_surface_entries::number_at` meets its contract. Assumes nothing.
+use Rattle.calculus.proofs.Graded.{index-231}
+use lib.ListN.{getD}
+use lib.Ieee.{nan}
+use borrow.Author.Needs.{needs}
+use denote.Ref.{now}
+use mathlib.Core.Path.{_≡_, refl, sym, ap, ap₂, _∙_}
+use Prim.Native.Nat.{ℕ, suc, _+_, _-_, _*_, _≤_, _<_}
+use native.Mathlib.Omega.{arith}
+use Rattle.derivatives.proofs.vector_surface_entries.number_at.Statement.{statement}
+use Rattle.derivatives.proofs.vector_surface_entries.number_at.Tie as tie
+use Rattle.derivatives.proofs.vector_surface_entries.number_at.Reads as reads
+use Rattle.derivatives.proofs.vector_surface_entries.number_at.Lts as lts
+use Rattle.derivatives.proofs.index.Reads as index-reads
+
+index-requires : tie.Need-index-requires
+index-requires c κs = search needs
+
+mul-result : tie.Need-mul-result
+mul-result c = omega (arith, c .index .ensures, index-231 (c .before .args .i) (c .before .args .j) (c .before .pre))
+
+element-copy-out-result : tie.Need-element-copy-out-result
+element-copy-out-result c = omega (arith, c .index .ensures, index-231 (c .before .args .i) (c .before .args .j) (c .before .pre))
+
+returns : tie.Need-returns
+returns c = ap (λ (k : ℕ). getD (now (c .before .before .args .a)) k nan) (c .before .index .ensures)
+
+pub number-at-spec : {M : Type 1} → statement M
+number-at-spec = tie.close (tie.spec index-requires mul-result element-copy-out-result returns)

@@ -1,0 +1,29 @@
+-- `derivatives::vector_surface_entries::surface_at` meets its contract. Assumes nothing.
+use Rattle.calculus.proofs.Graded.{index-231}
+use Rattle.derivatives.specs.Vector.{origin, vectors, vectorNumbers, vectorSurfaceNumbers}
+use Rattle.derivatives.specs.Real.{real}
+use Rattle.derivatives.specs.Answer.{surfaceNumbers}
+use Rattle.vectors.specs.Vectors.{sum, difference, multiple, quotient, cross}
+use borrow.Author.Needs.{needs}
+use denote.Ref.{now}
+use mathlib.Core.Path.{_≡_, refl, sym, ap, ap₂, _∙_}
+use Prim.Native.Nat.{ℕ, suc, _+_, _-_, _*_, _≤_, _<_}
+use native.Mathlib.Omega.{arith}
+use Rattle.derivatives.proofs.vector_surface_entries.surface_at.Statement.{statement}
+use Rattle.derivatives.proofs.vector_surface_entries.surface_at.Tie as tie
+use Rattle.derivatives.proofs.vector_surface_entries.surface_at.Reads as reads
+use Rattle.derivatives.proofs.vector_surface_entries.surface_at.Lts as lts
+use Rattle.derivatives.proofs.index.Reads as index-reads
+use Rattle.derivatives.proofs.vector_array.vector_at.Reads as vector-at-reads
+
+index-requires : tie.Need-index-requires
+index-requires c κs = search needs
+
+vector-at-requires : tie.Need-vector-at-requires
+vector-at-requires c κs = omega (arith, c .before .index .ensures, index-231 (c .before .before .args .i) (c .before .before .args .j) (c .before .before .pre))
+
+returns : tie.Need-returns
+returns c = c .vector-at .ensures ∙ ap (vectorNumbers (now (c .before .before .before .args .a))) (c .before .before .index .ensures)
+
+pub surface-at-spec : {M : Type 1} → statement M
+surface-at-spec = tie.close (tie.spec index-requires vector-at-requires returns)

@@ -1,0 +1,50 @@
+-- Vectors of three floats as the entries of a jet, and the arrays that hold them: three floats an entry, side by side. Assumes nothing.
+use mathlib.Core.Bool.{Bool, true, _&&_}
+use mathlib.Core.List.{List, [], _∷_}
+use Prim.Native.Nat.{ℕ, zero, suc, _+_, _*_}
+use lib.ListN.{getD}
+use lib.Ieee.{Float, nan}
+use Rattle.vectors.specs.declared.Vector3.{Vector3}
+use Rattle.vectors.specs.Vectors.{vector, sum, difference, multiple}
+use Rattle.vectors.specs.Answers.{finiteVector}
+use Rattle.calculus.specs.Kind.{Module}
+use Rattle.calculus.specs.Graded.{triangle, index, graded}
+use Rattle.calculus.specs.Array.{curveArray, surfaceArray}
+use Rattle.derivatives.specs.Real.{nil, real}
+
+abbrev pub origin : Vector3
+origin = vector nil nil nil
+
+-- component by component, each rounded
+abbrev pub vectors : Module Float Vector3
+vectors = record { scalars = real; nought = origin; plus = sum; minus = difference; scale = multiple }
+
+-- ---- the entries of an array as a jet. No formula reads past the array's end, where the logic has a NaN
+abbrev pub vectorNumbers : List Float → ℕ → Vector3
+vectorNumbers l k = vector (getD l (3 * k) nan) (getD l (3 * k + 1) nan) (getD l (3 * k + 2) nan)
+
+abbrev pub vectorSurfaceNumbers : List Float → ℕ → ℕ → Vector3
+vectorSurfaceNumbers l i j = vectorNumbers l (index i j)
+
+-- ---- the array of vectors: x, y and z of each in turn
+unfoldable pub flat : List Vector3 → List Float
+flat [] = []
+flat (a ∷ l) = a .x ∷ a .y ∷ a .z ∷ flat l
+
+-- with zeros past the order n
+abbrev pub vectorArray : (ℕ → Vector3) → ℕ → List Float
+vectorArray a n = flat (curveArray origin a n)
+
+abbrev pub vectorSurfaceArray : (ℕ → ℕ → Vector3) → ℕ → List Float
+vectorSurfaceArray s n = flat (surfaceArray origin s n)
+
+-- ---- whether the first n vectors are finite, and the entries up to the order n
+unfoldable pub allVectorsFinite : (ℕ → Vector3) → ℕ → Bool
+allVectorsFinite a zero = true
+allVectorsFinite a (suc n) = allVectorsFinite a n && finiteVector (a n)
+
+abbrev pub finiteVectors : (ℕ → Vector3) → ℕ → Bool
+finiteVectors a n = allVectorsFinite a (suc n)
+
+abbrev pub finiteVectorSurface : (ℕ → ℕ → Vector3) → ℕ → Bool
+finiteVectorSurface s n = allVectorsFinite (graded s) (triangle (suc n))

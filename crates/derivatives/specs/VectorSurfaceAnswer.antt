@@ -1,0 +1,78 @@
+-- What a function on jets of surfaces of vectors answers: as for curves of vectors, with the entries up to the order. Assumes nothing.
+use mathlib.Core.Bool.{Bool, false, cond, _&&_, _||_}
+use mathlib.Core.List.{List}
+use Prim.Native.Nat.{ℕ, suc, _+_, _-_, min}
+use lib.Dec.{ltb, eqb}
+use lib.ListN.{replicate}
+use lib.Ieee.{Float}
+use Rattle.vectors.specs.declared.Vector3.{Vector3}
+use Rattle.vectors.specs.Vectors.{multiple, quotient, dot, cross}
+use Rattle.calculus.specs.Kind.{regular}
+use Rattle.calculus.specs.Rising.{risingRows}
+use Rattle.calculus.specs.Surface
+use Rattle.derivatives.specs.declared.SurfaceDerivatives.{SurfaceDerivatives}
+use Rattle.derivatives.specs.declared.SurfaceAnswer.{SurfaceAnswer}
+use Rattle.derivatives.specs.declared.VectorSurfaceDerivatives.{VectorSurfaceDerivatives}
+use Rattle.derivatives.specs.declared.VectorSurfaceAnswer.{VectorSurfaceAnswer}
+use Rattle.derivatives.specs.declared.vector_entries.VectorFormula.{VectorFormula}
+use Rattle.derivatives.specs.declared.vector_entries.VectorFormula.the-variants as vector
+use Rattle.derivatives.specs.Real.{nil, real, isZero}
+use Rattle.derivatives.specs.Rational.{surfaceRational, surfaceRationalEntry}
+use Rattle.derivatives.specs.Answer.{surfaceNumbers, finiteSurface, returnedSurface}
+use Rattle.derivatives.specs.Vector.{origin, vectors, vectorSurfaceNumbers, vectorSurfaceArray, finiteVectorSurface}
+use Rattle.derivatives.specs.VectorAnswer.{tested, far}
+use Rattle.derivatives.specs.VectorFormula.{vectorDivisionByZero}
+
+-- ---- a refusal's number beside the zero jet of order 0, a jet beside 0, and a jet that has been computed: 10 where it is not finite
+abbrev pub refusedVectorSurface : ℕ → VectorSurfaceAnswer
+refusedVectorSurface c = record { refusal = c; jet = record { order = 0; entries = replicate 693 nil } }
+
+abbrev pub madeVectorSurface : ℕ → List Float → VectorSurfaceAnswer
+madeVectorSurface n l = record { refusal = 0; jet = record { order = n; entries = l } }
+
+abbrev pub answeredVectorSurface : ℕ → (ℕ → ℕ → Vector3) → VectorSurfaceAnswer
+answeredVectorSurface n s = madeVectorSurface n (vectorSurfaceArray s n)
+
+abbrev pub returnedVectorSurface : ℕ → (ℕ → ℕ → Vector3) → VectorSurfaceAnswer
+returnedVectorSurface n s = cond (finiteVectorSurface s n) (answeredVectorSurface n s) (refusedVectorSurface 10)
+
+-- ---- two jets, a formula worked at the smaller order; the second has vectors, or floats
+abbrev pub onVectorSurfaces : ((ℕ → ℕ → Vector3) → (ℕ → ℕ → Vector3) → ℕ → VectorSurfaceAnswer) → VectorSurfaceDerivatives → VectorSurfaceDerivatives → VectorSurfaceAnswer
+onVectorSurfaces op a b =
+    let n = min (a .order) (b .order) in
+    let x = vectorSurfaceNumbers (a .entries) in
+    let y = vectorSurfaceNumbers (b .entries) in
+    tested refusedVectorSurface (far (a .order) (b .order)) false (finiteVectorSurface x n && finiteVectorSurface y n) (op x y n)
+
+abbrev pub onWeightedSurface : ((ℕ → ℕ → Vector3) → (ℕ → ℕ → Float) → ℕ → VectorSurfaceAnswer) → VectorSurfaceDerivatives → SurfaceDerivatives → VectorSurfaceAnswer
+onWeightedSurface op a b =
+    let n = min (a .order) (b .order) in
+    let x = vectorSurfaceNumbers (a .entries) in
+    let y = surfaceNumbers (b .entries) in
+    tested refusedVectorSurface (far (a .order) (b .order)) false (finiteVectorSurface x n && finiteSurface y n) (op x y n)
+
+abbrev pub bySurfaceVectors : ((ℕ → ℕ → Vector3) → (ℕ → ℕ → Vector3) → ℕ → ℕ → Vector3) → (ℕ → ℕ → Vector3) → (ℕ → ℕ → Vector3) → ℕ → VectorSurfaceAnswer
+bySurfaceVectors f x y n = returnedVectorSurface n (f x y)
+
+abbrev pub bySurfaceWeights : ((ℕ → ℕ → Vector3) → (ℕ → ℕ → Float) → ℕ → ℕ → Vector3) → (ℕ → ℕ → Vector3) → (ℕ → ℕ → Float) → ℕ → VectorSurfaceAnswer
+bySurfaceWeights f x w n = returnedVectorSurface n (f x w)
+
+-- the quotient: 7 where the weights' first entry is zero
+abbrev pub vectorSurfaceQuotient : (ℕ → ℕ → Vector3) → (ℕ → ℕ → Float) → ℕ → VectorSurfaceAnswer
+vectorSurfaceQuotient x w n =
+    cond (isZero (w 0 0)) (refusedVectorSurface 7) (returnedVectorSurface n (surfaceRational vectors quotient x w))
+
+-- ---- the formulas that the loops share: of x and y, or of x and the floats w; q holds the entries before
+abbrev pub vectorSurfaceFormula : VectorFormula → (ℕ → ℕ → Vector3) → (ℕ → ℕ → Vector3) → (ℕ → ℕ → Float) → (ℕ → ℕ → Vector3) → ℕ → ℕ → Vector3
+vectorSurfaceFormula vector.Sum x y w q m n = Surface.sum vectors x y m n
+vectorSurfaceFormula vector.Difference x y w q m n = Surface.difference vectors x y m n
+vectorSurfaceFormula vector.Cross x y w q m n = Surface.productBy vectors cross x y m n
+vectorSurfaceFormula vector.Scaled x y w q m n = Surface.productBy vectors multiple x w m n
+vectorSurfaceFormula vector.Rational x y w q m n = surfaceRationalEntry vectors quotient x w q m n
+
+abbrev pub bySurfaceVectorEntries : VectorFormula → (ℕ → ℕ → Vector3) → (ℕ → ℕ → Vector3) → ℕ → VectorSurfaceAnswer
+bySurfaceVectorEntries f x y n = returnedVectorSurface n (risingRows origin (vectorSurfaceFormula f x y (surfaceNumbers (replicate 231 nil))))
+
+abbrev pub bySurfaceWeightedEntries : VectorFormula → (ℕ → ℕ → Vector3) → (ℕ → ℕ → Float) → ℕ → VectorSurfaceAnswer
+bySurfaceWeightedEntries f x w n =
+    cond (vectorDivisionByZero f (w 0 0)) (refusedVectorSurface 7) (returnedVectorSurface n (risingRows origin (vectorSurfaceFormula f x x w)))

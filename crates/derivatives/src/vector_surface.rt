@@ -1,0 +1,157 @@
+// Jets of surfaces of vectors.
+ghost use mathlib.Core.Path.{_≡_};
+ghost use mathlib.Core.Bool.{cond, _&&_};
+ghost use Prim.Native.Nat.{_≤_};
+ghost use Rattle.vectors.specs.Vectors.{multiple, cross};
+ghost use Rattle.calculus.specs.Surface.{sum as sums, difference as differences, productBy};
+ghost use Rattle.derivatives.specs.Answer.{surfaceNumbers, finiteSurface};
+ghost use Rattle.derivatives.specs.Vector.{vectors, vectorSurfaceNumbers, finiteVectorSurface};
+ghost use Rattle.derivatives.specs.VectorFormula.{vectorDivisionByZero};
+ghost use Rattle.derivatives.specs.VectorSurfaceAnswer.{refusedVectorSurface, madeVectorSurface, onVectorSurfaces, onWeightedSurface, bySurfaceVectors, bySurfaceWeights, vectorSurfaceQuotient, bySurfaceVectorEntries, bySurfaceWeightedEntries};
+use crate::SurfaceDerivatives;
+use crate::VectorSurfaceAnswer;
+use crate::VectorSurfaceDerivatives;
+use crate::vector_array;
+use crate::vector_curve;
+use crate::vector_entries::VectorFormula;
+use crate::vector_surface_entries;
+
+fn refused(c: u8) -> VectorSurfaceAnswer
+    ensures { λ r. ⌜ r ≡ refusedVectorSurface c ⌝ }
+{
+    let z = [0.0f64; 693];
+    VectorSurfaceAnswer {
+        refusal: c,
+        jet: VectorSurfaceDerivatives {
+            order: 0,
+            entries: z,
+        },
+    }
+}
+
+// A jet that has been computed: 10 where it is not finite.
+fn returned(a: [f64; 693], n: usize) -> VectorSurfaceAnswer
+    requires { ⌜ n ≤ 20 ⌝ }
+    ensures { λ r. ⌜ r ≡ cond (finiteVectorSurface (vectorSurfaceNumbers a) n) (madeVectorSurface n a) (refusedVectorSurface 10) ⌝ }
+{
+    if !vector_array::surface_finite(&a, n) {
+        return refused(10);
+    }
+    VectorSurfaceAnswer {
+        refusal: 0,
+        jet: VectorSurfaceDerivatives {
+            order: n,
+            entries: a,
+        },
+    }
+}
+
+// Whether the entries up to the order n of two jets are finite.
+fn both_finite(a: &[f64; 693], b: &[f64; 693], n: usize) -> bool
+    requires { ⌜ n ≤ 20 ⌝ }
+    ensures { λ r. ⌜ r ≡ (finiteVectorSurface (vectorSurfaceNumbers (now (a .entry))) n && finiteVectorSurface (vectorSurfaceNumbers (now (b .entry))) n) ⌝ }
+{
+    if vector_array::surface_finite(a, n) {
+        vector_array::surface_finite(b, n)
+    } else {
+        false
+    }
+}
+
+fn weighted_finite(a: &[f64; 693], w: &[f64; 231], n: usize) -> bool
+    requires { ⌜ n ≤ 20 ⌝ }
+    ensures { λ r. ⌜ r ≡ (finiteVectorSurface (vectorSurfaceNumbers (now (a .entry))) n && finiteSurface (surfaceNumbers (now (w .entry))) n) ⌝ }
+{
+    if vector_array::surface_finite(a, n) {
+        crate::finite_surface(w, n)
+    } else {
+        false
+    }
+}
+
+// A formula on two jets of vectors, at the smaller order.
+fn on_two(
+    f: VectorFormula,
+    a: VectorSurfaceDerivatives,
+    b: VectorSurfaceDerivatives,
+) -> VectorSurfaceAnswer
+    ensures { λ r. ⌜ r ≡ onVectorSurfaces (bySurfaceVectorEntries f) a b ⌝ }
+{
+    let m = a.order;
+    let n = b.order;
+    if vector_array::far(m, n) {
+        return refused(1);
+    }
+    let k = crate::smaller(m, n);
+    let x = a.entries;
+    let y = b.entries;
+    if !both_finite(&x, &y, k) {
+        return refused(5);
+    }
+    let z = [0.0f64; 231];
+    let r = vector_surface_entries::entries(f, &x, &y, &z, k);
+    returned(r, k)
+}
+
+// One on a jet of vectors and a jet of floats.
+fn on_weighted(
+    f: VectorFormula,
+    a: VectorSurfaceDerivatives,
+    b: SurfaceDerivatives,
+) -> VectorSurfaceAnswer
+    ensures { λ r. ⌜ r ≡ onWeightedSurface (bySurfaceWeightedEntries f) a b ⌝ }
+{
+    let m = a.order;
+    let n = b.order;
+    if vector_array::far(m, n) {
+        return refused(1);
+    }
+    let k = crate::smaller(m, n);
+    let x = a.entries;
+    let y = b.entries;
+    if !weighted_finite(&x, &y, k) {
+        return refused(5);
+    }
+    let w = y[0];
+    if vector_curve::division_by_zero(f, w) {
+        return refused(7);
+    }
+    let r = vector_surface_entries::entries(f, &x, &x, &y, k);
+    returned(r, k)
+}
+
+impl VectorSurfaceDerivatives {
+    pub fn sum(self, other: VectorSurfaceDerivatives) -> VectorSurfaceAnswer
+        ensures { λ r. ⌜ r ≡ onVectorSurfaces (bySurfaceVectors (sums vectors)) self other ⌝ }
+    {
+        on_two(VectorFormula::Sum, self, other)
+    }
+
+    pub fn difference(self, other: VectorSurfaceDerivatives) -> VectorSurfaceAnswer
+        ensures { λ r. ⌜ r ≡ onVectorSurfaces (bySurfaceVectors (differences vectors)) self other ⌝ }
+    {
+        on_two(VectorFormula::Difference, self, other)
+    }
+
+    pub fn combinatorial_derivatives_scaled(self, other: SurfaceDerivatives) -> VectorSurfaceAnswer
+        ensures { λ r. ⌜ r ≡ onWeightedSurface (bySurfaceWeights (productBy vectors multiple)) self other ⌝ }
+    {
+        on_weighted(VectorFormula::Scaled, self, other)
+    }
+
+    pub fn combinatorial_derivatives_cross(
+        self,
+        other: VectorSurfaceDerivatives,
+    ) -> VectorSurfaceAnswer
+        ensures { λ r. ⌜ r ≡ onVectorSurfaces (bySurfaceVectors (productBy vectors cross)) self other ⌝ }
+    {
+        on_two(VectorFormula::Cross, self, other)
+    }
+
+    // The quotient of this surface by the weights.
+    pub fn rational_derivatives(self, weights: SurfaceDerivatives) -> VectorSurfaceAnswer
+        ensures { λ r. ⌜ r ≡ onWeightedSurface vectorSurfaceQuotient self weights ⌝ }
+    {
+        on_weighted(VectorFormula::Rational, self, weights)
+    }
+}

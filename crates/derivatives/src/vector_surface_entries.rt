@@ -1,0 +1,292 @@
+// The loops that form the entries of jets of surfaces of vectors. Each `requires` is met by the callers.
+ghost use mathlib.Core.Path.{_≡_};
+ghost use Prim.Native.Nat.{ℕ, suc, _+_, _*_, _≤_};
+ghost use Rattle.vectors.specs.Vectors.{multiple, quotient, cross};
+ghost use Rattle.calculus.specs.InTurn.{inTurn};
+ghost use Rattle.calculus.specs.Rising.{risingRows};
+ghost use Rattle.calculus.specs.Choose.{choose, binomialTable};
+ghost use Rattle.calculus.specs.Surface.{leibniz, productBy};
+ghost use Rattle.derivatives.specs.Real.{real};
+ghost use Rattle.derivatives.specs.Rational.{surfaceRationalTerm, surfaceRationalEntry};
+ghost use Rattle.derivatives.specs.Answer.{surfaceNumbers};
+ghost use Rattle.derivatives.specs.Vector.{origin, vectors, vectorSurfaceNumbers, vectorSurfaceArray};
+ghost use Rattle.derivatives.specs.VectorSurfaceAnswer.{vectorSurfaceFormula};
+use crate::vector_array::vector_at;
+use crate::vector_entries::VectorFormula;
+use vectors::Vector3;
+
+// The entry [i][j] of vectors, and of floats.
+fn surface_at(a: &[f64; 693], i: usize, j: usize) -> Vector3
+    requires { ⌜ i + j ≤ 20 ⌝ }
+    ensures { λ r. ⌜ r ≡ vectorSurfaceNumbers (now (a .entry)) i j ⌝ }
+{
+    let k = crate::index(i, j);
+    vector_at(a, k)
+}
+
+fn number_at(a: &[f64; 231], i: usize, j: usize) -> f64
+    requires { ⌜ i + j ≤ 20 ⌝ }
+    ensures { λ r. ⌜ r ≡ surfaceNumbers (now (a .entry)) i j ⌝ }
+{
+    let k = crate::index(i, j);
+    a[k]
+}
+
+// The coefficient of the term [i][j] of Leibniz's rule at [m][n].
+fn coefficient(c: &[u32; 231], m: usize, n: usize, i: usize, j: usize) -> f64
+    requires { ⌜ (i ≤ m) × (j ≤ n) × (m + n ≤ 20) × (now c ≡ binomialTable) ⌝ }
+    ensures { λ r. ⌜ r ≡ real .ofNat (choose m i * choose n j) ⌝ }
+{
+    let x = crate::binomial(c, m, i);
+    let y = crate::binomial(c, n, j);
+    crate::float(x * y)
+}
+
+fn cross_term(
+    a: &[f64; 693],
+    b: &[f64; 693],
+    c: &[u32; 231],
+    m: usize,
+    n: usize,
+    i: usize,
+    j: usize,
+) -> Vector3
+    requires { ⌜ (i ≤ m) × (j ≤ n) × (m + n ≤ 20) × (now c ≡ binomialTable) ⌝ }
+    ensures { λ r. ⌜ r ≡ leibniz vectors cross (vectorSurfaceNumbers (now (a .entry))) (vectorSurfaceNumbers (now (b .entry))) m n i j ⌝ }
+{
+    let k = coefficient(c, m, n, i, j);
+    let x = surface_at(a, i, j);
+    let y = surface_at(b, m - i, n - j);
+    let p = x.cross(y);
+    p.mul(k)
+}
+
+fn scaled_term(
+    a: &[f64; 693],
+    b: &[f64; 231],
+    c: &[u32; 231],
+    m: usize,
+    n: usize,
+    i: usize,
+    j: usize,
+) -> Vector3
+    requires { ⌜ (i ≤ m) × (j ≤ n) × (m + n ≤ 20) × (now c ≡ binomialTable) ⌝ }
+    ensures { λ r. ⌜ r ≡ leibniz vectors multiple (vectorSurfaceNumbers (now (a .entry))) (surfaceNumbers (now (b .entry))) m n i j ⌝ }
+{
+    let k = coefficient(c, m, n, i, j);
+    let x = surface_at(a, i, j);
+    let y = number_at(b, m - i, n - j);
+    let p = x.mul(y);
+    p.mul(k)
+}
+
+fn rational_term(
+    w: &[f64; 231],
+    q: &[f64; 693],
+    c: &[u32; 231],
+    m: usize,
+    n: usize,
+    i: usize,
+    j: usize,
+) -> Vector3
+    requires { ⌜ (i ≤ m) × (j ≤ n) × (m + n ≤ 20) × (now c ≡ binomialTable) ⌝ }
+    ensures { λ r. ⌜ r ≡ surfaceRationalTerm vectors quotient (surfaceNumbers (now (w .entry))) (vectorSurfaceNumbers (now (q .entry))) m n i j ⌝ }
+{
+    let x = crate::float(crate::binomial(c, m, i));
+    let y = crate::float(crate::binomial(c, n, j));
+    let e = surface_at(q, i, j);
+    let d = number_at(w, m - i, n - j);
+    e.mul(d * x * y)
+}
+
+// The terms of one i, j rising, added to a sum.
+fn cross_row(
+    start: Vector3,
+    a: &[f64; 693],
+    b: &[f64; 693],
+    c: &[u32; 231],
+    m: usize,
+    n: usize,
+    i: usize,
+) -> Vector3
+    requires { ⌜ (i ≤ m) × (m + n ≤ 20) × (now c ≡ binomialTable) ⌝ }
+    ensures { λ r. ⌜ r ≡ inTurn (vectors .plus) start (leibniz vectors cross (vectorSurfaceNumbers (now (a .entry))) (vectorSurfaceNumbers (now (b .entry))) m n i) (suc n) ⌝ }
+{
+    let mut sum = start;
+    let mut j = 0;
+    while j <= n {
+        let t = cross_term(a, b, c, m, n, i, j);
+        sum = sum.add(t);
+        j += 1;
+    }
+    sum
+}
+
+pub fn cross_entry(a: &[f64; 693], b: &[f64; 693], c: &[u32; 231], m: usize, n: usize) -> Vector3
+    requires { ⌜ (m + n ≤ 20) × (now c ≡ binomialTable) ⌝ }
+    ensures { λ r. ⌜ r ≡ productBy vectors cross (vectorSurfaceNumbers (now (a .entry))) (vectorSurfaceNumbers (now (b .entry))) m n ⌝ }
+{
+    let mut sum = Vector3 {
+        x: 0.0,
+        y: 0.0,
+        z: 0.0,
+    };
+    let mut i = 0;
+    while i <= m {
+        sum = cross_row(sum, a, b, c, m, n, i);
+        i += 1;
+    }
+    sum
+}
+
+// The terms of one i, j rising, added to a sum.
+fn scaled_row(
+    start: Vector3,
+    a: &[f64; 693],
+    b: &[f64; 231],
+    c: &[u32; 231],
+    m: usize,
+    n: usize,
+    i: usize,
+) -> Vector3
+    requires { ⌜ (i ≤ m) × (m + n ≤ 20) × (now c ≡ binomialTable) ⌝ }
+    ensures { λ r. ⌜ r ≡ inTurn (vectors .plus) start (leibniz vectors multiple (vectorSurfaceNumbers (now (a .entry))) (surfaceNumbers (now (b .entry))) m n i) (suc n) ⌝ }
+{
+    let mut sum = start;
+    let mut j = 0;
+    while j <= n {
+        let t = scaled_term(a, b, c, m, n, i, j);
+        sum = sum.add(t);
+        j += 1;
+    }
+    sum
+}
+
+pub fn scaled_entry(a: &[f64; 693], b: &[f64; 231], c: &[u32; 231], m: usize, n: usize) -> Vector3
+    requires { ⌜ (m + n ≤ 20) × (now c ≡ binomialTable) ⌝ }
+    ensures { λ r. ⌜ r ≡ productBy vectors multiple (vectorSurfaceNumbers (now (a .entry))) (surfaceNumbers (now (b .entry))) m n ⌝ }
+{
+    let mut sum = Vector3 {
+        x: 0.0,
+        y: 0.0,
+        z: 0.0,
+    };
+    let mut i = 0;
+    while i <= m {
+        sum = scaled_row(sum, a, b, c, m, n, i);
+        i += 1;
+    }
+    sum
+}
+
+// The terms of one i, j rising, added to a sum.
+fn rational_row(
+    start: Vector3,
+    w: &[f64; 231],
+    q: &[f64; 693],
+    c: &[u32; 231],
+    m: usize,
+    n: usize,
+    i: usize,
+) -> Vector3
+    requires { ⌜ (i ≤ m) × (m + n ≤ 20) × (now c ≡ binomialTable) ⌝ }
+    ensures { λ r. ⌜ r ≡ inTurn (vectors .plus) start (surfaceRationalTerm vectors quotient (surfaceNumbers (now (w .entry))) (vectorSurfaceNumbers (now (q .entry))) m n i) (suc n) ⌝ }
+{
+    let mut sum = start;
+    let mut j = 0;
+    while j <= n {
+        let t = rational_term(w, q, c, m, n, i, j);
+        sum = sum.add(t);
+        j += 1;
+    }
+    sum
+}
+
+// The quotient's entry [m][n], from the entries q before it.
+fn rational_entry(
+    x: &[f64; 693],
+    w: &[f64; 231],
+    q: &[f64; 693],
+    c: &[u32; 231],
+    m: usize,
+    n: usize,
+) -> Vector3
+    requires { ⌜ (m + n ≤ 20) × (now c ≡ binomialTable) ⌝ }
+    ensures { λ r. ⌜ r ≡ surfaceRationalEntry vectors quotient (vectorSurfaceNumbers (now (x .entry))) (surfaceNumbers (now (w .entry))) (vectorSurfaceNumbers (now (q .entry))) m n ⌝ }
+{
+    let mut sum = Vector3 {
+        x: 0.0,
+        y: 0.0,
+        z: 0.0,
+    };
+    let mut i = 0;
+    while i <= m {
+        sum = rational_row(sum, w, q, c, m, n, i);
+        i += 1;
+    }
+    let e = surface_at(x, m, n);
+    let d = e.sub(sum);
+    let s = number_at(w, 0, 0);
+    d.div(s)
+}
+
+fn entry(
+    f: VectorFormula,
+    a: &[f64; 693],
+    b: &[f64; 693],
+    w: &[f64; 231],
+    q: &[f64; 693],
+    c: &[u32; 231],
+    m: usize,
+    n: usize,
+) -> Vector3
+    requires { ⌜ (m + n ≤ 20) × (now c ≡ binomialTable) ⌝ }
+    ensures { λ r. ⌜ r ≡ vectorSurfaceFormula f (vectorSurfaceNumbers (now (a .entry))) (vectorSurfaceNumbers (now (b .entry))) (surfaceNumbers (now (w .entry))) (vectorSurfaceNumbers (now (q .entry))) m n ⌝ }
+{
+    match f {
+        VectorFormula::Sum => {
+            let x = surface_at(a, m, n);
+            let y = surface_at(b, m, n);
+            x.add(y)
+        }
+        VectorFormula::Difference => {
+            let x = surface_at(a, m, n);
+            let y = surface_at(b, m, n);
+            x.sub(y)
+        }
+        VectorFormula::Cross => cross_entry(a, b, c, m, n),
+        VectorFormula::Scaled => scaled_entry(a, w, c, m, n),
+        VectorFormula::Rational => rational_entry(a, w, q, c, m, n),
+    }
+}
+
+// The entries up to the order n, with i rising, then j; and zeros past them.
+pub fn entries(
+    f: VectorFormula,
+    a: &[f64; 693],
+    b: &[f64; 693],
+    w: &[f64; 231],
+    n: usize,
+) -> [f64; 693]
+    requires { ⌜ n ≤ 20 ⌝ }
+    ensures { λ r. ⌜ r ≡ vectorSurfaceArray (risingRows origin (vectorSurfaceFormula f (vectorSurfaceNumbers (now (a .entry))) (vectorSurfaceNumbers (now (b .entry))) (surfaceNumbers (now (w .entry))))) n ⌝ }
+{
+    let c = calculus::binomials();
+    let mut r = [0.0f64; 693];
+    let mut i = 0;
+    let mut j = 0;
+    while i <= n {
+        let e = entry(f, a, b, w, &r, &c, i, j);
+        let k = crate::index(i, j);
+        let p = 3 * k;
+        r[p] = e.x;
+        r[p + 1] = e.y;
+        r[p + 2] = e.z;
+        j += 1;
+        if n < i + j {
+            i += 1;
+            j = 0;
+        }
+    }
+    r
+}
