@@ -16,7 +16,7 @@ use Rattle.exact.specs.declared.SurfaceDerivatives.{SurfaceDerivatives}
 use Rattle.exact.specs.declared.ParameterCurve.{ParameterCurve}
 use Rattle.exact.specs.declared.CurveAnswer.{CurveAnswer}
 use Rattle.exact.specs.Kinds.{checked}
-use Rattle.exact.specs.Order.{rows}
+use Rattle.calculus.specs.Order.{rows}
 use Rattle.exact.specs.Answer.{unlessRefused, refusedCurve, onSurfaces}
 use Rattle.exact.specs.Composite.{alongCurveAt, alongCurve}
 

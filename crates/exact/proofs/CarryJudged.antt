@@ -20,7 +20,7 @@ use Rattle.exact.specs.declared.SurfaceDerivatives.{SurfaceDerivatives}
 use Rattle.exact.specs.declared.ParameterCurve.{ParameterCurve}
 use Rattle.exact.specs.declared.CurveAnswer.{CurveAnswer}
 use Rattle.exact.specs.Kinds.{checked, traced}
-use Rattle.exact.specs.Order.{curveEntries}
+use Rattle.calculus.specs.Order.{curveEntries}
 use Rattle.exact.specs.Answer.{curveNumbers, surfaceNumbers, refusedCurve, answeredCurve, curveAnswer}
 use Rattle.exact.specs.Judged.{histories, byVerdict, judgedCurve}
 use Rattle.exact.specs.Composite.{withinOrders, alongCurveAt, alongCurve}

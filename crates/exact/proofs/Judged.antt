@@ -18,7 +18,7 @@ use Rattle.calculus.specs.Surface
 use Rattle.calculus.proofs.Related.{Related, regulars}
 use Rattle.calculus.proofs.Alike.{sum-alike, difference-alike, product-alike, quotient-alike, surface-sum-alike, surface-difference-alike, surface-product-alike, surface-quotient-alike}
 use Rattle.exact.specs.Kinds.{checked, traced}
-use Rattle.exact.specs.Order.{rows, curveEntries, surfaceEntries}
+use Rattle.calculus.specs.Order.{rows, curveEntries, surfaceEntries}
 use Rattle.exact.specs.Answer.{valueOf, refusedCurve, refusedSurface, answeredCurve, answeredSurface, unlessRefused, curveAnswer, surfaceAnswer}
 use Rattle.exact.specs.Judged.{histories, byVerdict, judgedCurve, judgedSurface}
 use Rattle.exact.proofs.Work.{map-listed, map-rows}

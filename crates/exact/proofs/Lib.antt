@@ -2,13 +2,11 @@ pub mod Terms
 pub mod Work
 pub mod Progress
 pub mod Earlier
-pub mod Writing
-pub mod Places
 pub mod Same
 pub mod Judged
 pub mod Figures
+pub mod Pairs
 pub mod Masks
-pub mod Walking
 pub mod Orders
 pub mod CarryJudged
 pub mod CarryFigures

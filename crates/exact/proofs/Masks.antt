@@ -1,51 +1,23 @@
--- What the loops of the carry need of lists of parts: the factors of the parts still to come, and the bits of a mask. Assumes nothing.
-use mathlib.Core.Path.{_≡_, refl, _∙_, ap}
-use mathlib.Core.List.{List, [], _∷_}
-use Prim.Native.Nat.{ℕ, zero, suc, _+_, _-_, _*_, _/_, _%_, _^_, _≤_, _<_}
-use native.Mathlib.Nat.{suc-ne-zero, pow-suc, one-mul, mod-eq-of-lt}
-use lib.Pow.{pow-mono}
-use native.Mathlib.Omega.{arith}
+-- The terms of the carry's tensor, its coefficients and its entries, at the checked kind. Assumes nothing.
+use mathlib.Core.Path.{_≡_, refl}
+use mathlib.Core.List.{List}
+use Prim.Native.Nat.{ℕ, zero, suc, _+_, _-_, _*_, _/_, _^_, _≤_, _<_}
+use native.Mathlib.Nat.{suc-ne-zero}
 use lib.Count as Count
 use lib.IntN.{ℤ, pos}
-use lib.ListN.{length, drop, getD}
-use Rattle.partitions.proofs.Slices.{drop-at, drop-past}
-use Rattle.partitions.proofs.Tests.{eqb-yes, eqb-no}
-use Rattle.calculus.specs.Kind.{Kind, regular}
+use lib.ListN.{length, getD}
+use Rattle.partitions.specs.Parts.{total, multiplicity}
+use Rattle.calculus.specs.Kind.{regular}
 use Rattle.calculus.specs.Carry.{digits, factors, ones, coordinates, surfaceEntry, compositeDerivative, compositeDerivatives}
 use Rattle.calculus.specs.Graded.{index}
-use Rattle.calculus.proofs.CarryAlike.{digits-length, ones-le}
+use Rattle.calculus.proofs.Bits as bits
+use Rattle.calculus.proofs.Walking.{multiplicity-fits}
 use Rattle.whole.specs.declared.Whole.{Whole}
 use Rattle.whole.specs.declared.Whole.the-variants.{Value}
+use Rattle.whole.specs.Checked.{formed}
+use Rattle.whole.proofs.Range.{formed-in}
 use Rattle.exact.specs.Kinds.{checked}
 use Rattle.exact.specs.Answer.{curveValues, surfaceValues}
-
-module _ {S : Type 0} (K : Kind S) (d : ℕ) (c : ℕ → ℕ → S) where
-  pub factors-at : (x : S) (l : List ℕ) (p mask : ℕ) → p < length l →
-      factors K d c x (drop p l) mask ≡ factors K d c (K .times x (c (mask % d) (getD l p 0))) (drop (p + 1) l) (mask / d)
-  unfolding factors
-  factors-at x l p mask h = ap (λ r. factors K d c x r mask) (drop-at l p h)
-
-  pub factors-past : (x : S) (l : List ℕ) (p mask : ℕ) → length l ≤ p → factors K d c x (drop p l) mask ≡ x
-  unfolding factors
-  factors-past x l p mask h = ap (λ r. factors K d c x r mask) (drop-past l p h)
-
--- the ones count of a mask with a bit for each part
-pub ones-digits : (l : List ℕ) (mask : ℕ) → mask < 2 ^ length l → Count.ones mask ≡ ones (digits 2 l mask)
-unfolding ones digits Count.ones Count.onesIn
-ones-digits [] zero h = refl
-ones-digits [] (suc n) h = absurd (omega arith)
-ones-digits (a ∷ l) mask h = Count.ones-step mask ∙ ap (λ n. mask % 2 + n) (ones-digits l (mask / 2) (half (2 ^ length l) mask (rw pow-suc at h)))
-  where
-    half : (m n : ℕ) → n < m * 2 → n / 2 < m
-    half m n g = omega arith
-
--- the bit of a part names its coordinate
-module _ {S : Type 0} (u v : ℕ → S) (bit a : ℕ) (x : S) where
-  pub by-u : bit ≡ 0 → x ≡ u a → x ≡ coordinates u v bit a
-  by-u h e = rw (eqb-yes bit 0 h) e
-
-  pub by-v : ¬ (bit ≡ 0) → x ≡ v a → x ≡ coordinates u v bit a
-  by-v h e = rw (eqb-no bit 0 h) e
 
 -- ---- the terms of the tensor
 module _ (entries u v : List ℤ) (l : List ℕ) where
@@ -56,26 +28,11 @@ module _ (entries u v : List ℤ) (l : List ℕ) where
 -- a mask with t ones names the entry that stands t places before the last of its total order
 pub entry-at : (entries : List ℤ) (l : List ℕ) (mask : ℕ) → mask < 2 ^ length l →
     surfaceEntry (surfaceValues entries) (digits 2 l mask) ≡ Value (getD entries (length l * (length l + 1) / 2 + length l - Count.ones mask) (pos 0))
-unfolding index
-entry-at entries l mask h =
-    let e = ones-digits l mask h in
-    let g = digits-length 2 l mask in
-    let k = ones-le l mask in
-    ap (λ n. Value (getD entries n (pos 0))) (place (length (digits 2 l mask)) (ones (digits 2 l mask)) (length l) (Count.ones mask) g e k)
-  where
-    place : (m t n s : ℕ) → m ≡ n → s ≡ t → t ≤ n → (m - t + t) * (m - t + t + 1) / 2 + (m - t) ≡ n * (n + 1) / 2 + n - s
-    place m t n s p q r = let f : m - t + t ≡ n = omega arith in rw f (omega arith)
+entry-at entries l mask h = bits.entry-at (λ n. Value (getD entries n (pos 0))) l mask h
 
--- ---- bounds for lists of up to 20 parts
-pub masks-le : (n : ℕ) → n ≤ 20 → 2 ^ n ≤ 1048576
-masks-le n h = pow-mono h
-
--- 1 << n
-pub masks-shift : (n : ℕ) → n ≤ 20 → 1 * 2 ^ n % 4294967296 ≡ 2 ^ n
-masks-shift n h = ap (λ x. x % 4294967296) (one-mul (2 ^ n)) ∙ mod-eq-of-lt (small (2 ^ n) (masks-le n h))
-  where
-    small : (x : ℕ) → x ≤ 1048576 → x < 4294967296
-    small x k = omega arith
+-- a multiplicity is a number of 64 bits
+pub coefficient-formed : (l : List ℕ) → total l ≤ 20 → formed (pos (multiplicity l)) ≡ Value (pos (multiplicity l))
+coefficient-formed l h = formed-in (pos (multiplicity l)) (multiplicity-fits l h)
 
 -- ---- the carried jet: the surface's value at order 0, and a derivative at every other
 module _ (entries u v : List ℤ) where

@@ -17,7 +17,7 @@ use Rattle.calculus.proofs.Filling.{CurveStored, curve-none, curve-more, curve-
 use Rattle.calculus.proofs.SurfaceFilling.{SurfaceStored, surface-none, surface-more, surface-next, surface-all}
 use Rattle.exact.specs.declared.CurveAnswer.{CurveAnswer}
 use Rattle.exact.specs.declared.SurfaceAnswer.{SurfaceAnswer}
-use Rattle.exact.specs.Order.{curveEntries, surfaceEntries}
+use Rattle.calculus.specs.Order.{curveEntries, surfaceEntries}
 use Rattle.exact.specs.Answer.{valueOf, refusedCurve, refusedSurface, answeredCurve, answeredSurface, unlessRefused, curveAnswer, surfaceAnswer}
 use Rattle.exact.proofs.Work as work
 

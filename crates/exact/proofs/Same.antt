@@ -12,7 +12,7 @@ use Rattle.whole.specs.declared.Whole.{Whole}
 use Rattle.calculus.specs.Graded.{triangle, place, graded}
 use Rattle.calculus.specs.Array.{listed, filled}
 use Rattle.calculus.proofs.Graded.{place-order}
-use Rattle.exact.specs.Order.{rows, curveEntries, surfaceEntries}
+use Rattle.calculus.specs.Order.{rows, curveEntries, surfaceEntries}
 use Rattle.exact.specs.Answer.{valueOf, refusedCurve, refusedSurface, answeredCurve, answeredSurface, unlessRefused, curveAnswer, surfaceAnswer}
 
 module _ {X : Type 0} where

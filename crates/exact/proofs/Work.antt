@@ -9,7 +9,7 @@ use lib.IntN.{ℤ}
 use Rattle.whole.specs.declared.Whole.{Whole}
 use Rattle.whole.specs.declared.Whole.the-variants.{Value, Refused}
 use Rattle.calculus.specs.Array.{listed}
-use Rattle.exact.specs.Order.{rows, curveEntries, surfaceEntries}
+use Rattle.calculus.specs.Order.{rows, curveEntries, surfaceEntries}
 use Rattle.exact.specs.Answer.{unlessRefused, pairs}
 
 -- ---- the answer, by what is left

@@ -17,7 +17,7 @@ use Rattle.exact.specs.declared.ParameterCurve.{ParameterCurve}
 use Rattle.exact.specs.declared.CurveAnswer.{CurveAnswer}
 use Rattle.exact.specs.declared.SurfaceAnswer.{SurfaceAnswer}
 use Rattle.exact.specs.declared.ParameterAnswer.{ParameterAnswer}
-use Rattle.exact.specs.Order.{curveEntries, surfaceEntries, listPlace}
+use Rattle.calculus.specs.Order.{curveEntries, surfaceEntries, listPlace}
 
 -- ---- the entries of an array as a jet, and as a jet of checked numbers
 abbrev pub curveNumbers : List ℤ → ℕ → ℤ

@@ -6,7 +6,7 @@ use lib.IntN.{ℤ}
 use Rattle.whole.specs.History.{Event, Traced, verdict}
 use Rattle.exact.specs.declared.CurveAnswer.{CurveAnswer}
 use Rattle.exact.specs.declared.SurfaceAnswer.{SurfaceAnswer}
-use Rattle.exact.specs.Order.{curveEntries, surfaceEntries}
+use Rattle.calculus.specs.Order.{curveEntries, surfaceEntries}
 use Rattle.exact.specs.Answer.{refusedCurve, refusedSurface, answeredCurve, answeredSurface}
 
 -- what the entries of a list took, one after the other

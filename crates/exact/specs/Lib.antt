@@ -1,5 +1,4 @@
 pub mod Kinds
-pub mod Order
 pub mod Answer
 pub mod Formula
 pub mod Judged

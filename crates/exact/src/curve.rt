@@ -9,7 +9,7 @@ ghost use Rattle.calculus.specs.Rising.{rising};
 ghost use Rattle.calculus.specs.Choose.{binomialTable};
 ghost use Rattle.calculus.specs.Curve.{derivative, sum as sums, difference as differences, product, leibniz, owed as owedBy, quotientEntry, quotient as quotients};
 ghost use Rattle.exact.specs.Kinds.{checked};
-ghost use Rattle.exact.specs.Order.{curveEntries};
+ghost use Rattle.calculus.specs.Order.{curveEntries};
 ghost use Rattle.exact.specs.Answer.{curveNumbers, curveValues, answeredCurve, curveAnswer, onCurves, onCurvesAt, curveDerivative, curveFromList, curveIntoList};
 ghost use Rattle.exact.specs.Formula.{curveFormula};
 use crate::CurveAnswer;

@@ -11,7 +11,7 @@ ghost use Rattle.calculus.specs.Choose.{binomialTable};
 ghost use Rattle.calculus.specs.Graded.{triangle};
 ghost use Rattle.calculus.specs.Surface.{derivativeU, derivativeV, sum as sums, difference as differences, product, leibniz, owed as owedBy, quotientEntry, quotient as quotients};
 ghost use Rattle.exact.specs.Kinds.{checked};
-ghost use Rattle.exact.specs.Order.{surfaceEntries, listPlace};
+ghost use Rattle.calculus.specs.Order.{surfaceEntries, listPlace};
 ghost use Rattle.exact.specs.Answer.{surfaceNumbers, surfaceValues, answeredSurface, surfaceAnswer, onSurfaces, onSurfacesAt, surfaceDerivative, surfaceFromList, surfaceIntoList};
 ghost use Rattle.exact.specs.Formula.{surfaceFormula};
 use crate::SurfaceAnswer;

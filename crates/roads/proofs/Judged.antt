@@ -13,7 +13,7 @@ use Rattle.whole.specs.History.{Event, Traced, verdict, numbers, every, exact}
 use Rattle.whole.proofs.History.{verdict-parts, exact-append, verdict-exact}
 use Rattle.calculus.specs.Array.{listed}
 use Rattle.exact.specs.declared.SurfaceAnswer.{SurfaceAnswer}
-use Rattle.exact.specs.Order.{rows, surfaceEntries}
+use Rattle.calculus.specs.Order.{rows, surfaceEntries}
 use Rattle.exact.specs.Answer.{refusedCurve, refusedSurface, answeredCurve, answeredSurface, curveAnswer, surfaceAnswer}
 use Rattle.exact.specs.Judged.{histories, byVerdict}
 use Rattle.exact.proofs.Judged.{Settled, Valued, curve-judged, surface-judged}

@@ -10,7 +10,7 @@ use Rattle.calculus.specs.Carry.{compositeDerivatives}
 use Rattle.exact.specs.declared.SurfaceDerivatives.{SurfaceDerivatives}
 use Rattle.exact.specs.declared.ParameterCurve.{ParameterCurve}
 use Rattle.exact.specs.Kinds.{traced}
-use Rattle.exact.specs.Order.{curveEntries}
+use Rattle.calculus.specs.Order.{curveEntries}
 use Rattle.exact.specs.Answer.{curveNumbers, surfaceNumbers}
 use Rattle.exact.specs.Judged.{histories}
 use Rattle.roads.specs.declared.Step.{Step}

@@ -8,7 +8,7 @@ use native.Mathlib.Numerals.{add-one}
 use lib.IntN.{ℤ}
 use lib.ListN.{length}
 use borrow.Author.Tests.{lt-ltb, le-ltb, eq-eqb, ne-eqb}
-use Rattle.exact.specs.Order.{curveEntries}
+use Rattle.calculus.specs.Order.{curveEntries}
 use Rattle.exact.specs.Answer.{curveNumbers, curveIntoList}
 use Rattle.exact.proofs.CurveDerivatives.into_list.Statement.{statement}
 use Rattle.exact.proofs.CurveDerivatives.into_list.Tie as tie

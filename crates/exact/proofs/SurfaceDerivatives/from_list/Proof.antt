@@ -8,7 +8,7 @@ use lib.IntN.{pos}
 use lib.ListN.{length, getD}
 use borrow.Author.Tests.{lt-ltb, le-ltb, eq-eqb, ne-eqb}
 use Rattle.calculus.specs.Graded.{triangle}
-use Rattle.exact.specs.Order.{listPlace}
+use Rattle.calculus.specs.Order.{listPlace}
 use Rattle.exact.specs.Answer.{refusedSurface, answeredSurface, surfaceFromList}
 use Rattle.exact.proofs.SurfaceDerivatives.from_list.Statement.{statement}
 use Rattle.exact.proofs.SurfaceDerivatives.from_list.Tie as tie

@@ -9,7 +9,7 @@ use lib.IntN.{ℤ}
 use lib.ListN.{length}
 use borrow.Author.Tests.{lt-ltb, le-ltb, eq-eqb, ne-eqb}
 use Rattle.calculus.specs.Graded.{triangle}
-use Rattle.exact.specs.Order.{surfaceEntries}
+use Rattle.calculus.specs.Order.{surfaceEntries}
 use Rattle.exact.specs.Answer.{surfaceNumbers, surfaceIntoList}
 use Rattle.exact.proofs.SurfaceDerivatives.into_list.Statement.{statement}
 use Rattle.exact.proofs.SurfaceDerivatives.into_list.Tie as tie

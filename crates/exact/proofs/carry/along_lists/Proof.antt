@@ -16,7 +16,7 @@ use Rattle.calculus.specs.Carry.{summand as Summand, coordinates, surfaceEntry}
 use Rattle.whole.specs.declared.Whole.{Whole}
 use Rattle.exact.specs.Kinds.{checked}
 use Rattle.exact.specs.Answer.{curveValues, surfaceValues}
-use Rattle.exact.proofs.Walking.{Walks, Steps, pending, pending-some, pending-none, steps, first-step, is-list}
+use Rattle.calculus.proofs.Walking.{Walks, Steps, pending, pending-some, pending-none, steps, first-step, is-list}
 use Prim.Native.Nat.{ℕ, _<_}
 use native.Mathlib.Omega.{arith}
 use borrow.Author.Needs.{needs}

@@ -10,7 +10,8 @@ use Rattle.partitions.specs.declared.Count.{Count}
 use Rattle.partitions.specs.declared.Count.the-variants as Counts
 use Rattle.whole.specs.declared.Whole.the-variants.{Value}
 use Rattle.exact.specs.Kinds.{checked}
-use Rattle.exact.proofs.Walking.{counted-list, list-short, multiplicity-fits, coefficient-formed}
+use Rattle.calculus.proofs.Walking.{counted-list, list-short, multiplicity-fits}
+use Rattle.exact.proofs.Masks.{coefficient-formed}
 use Prim.Native.Nat.{ℕ}
 use native.Mathlib.Omega.{arith}
 use borrow.Author.Needs.{needs}

@@ -15,7 +15,8 @@ use Rattle.calculus.specs.Carry.{digits, surfaceEntry}
 use Rattle.whole.specs.declared.Whole.the-variants.{Value}
 use Rattle.exact.specs.Kinds.{checked}
 use Rattle.exact.specs.Answer.{surfaceValues}
-use Rattle.exact.proofs.Masks.{termOf, entry-at, masks-le, masks-shift}
+use Rattle.calculus.proofs.Bits.{masks-le, masks-shift}
+use Rattle.exact.proofs.Masks.{termOf, entry-at}
 use Rattle.exact.proofs.Terms.{small-square}
 use Prim.Native.Nat.{_+_, _-_, _≤_, _<_}
 use native.Mathlib.Omega.{arith}

@@ -11,7 +11,8 @@ use mir.Val.{SFits}
 use mir.Facts.{toZ-ofZ}
 use Rattle.exact.specs.Answer.{curveNumbers, pairs}
 use Rattle.exact.proofs.Work.{pairsLeft, pairs-start, pairs-next, pairs-end}
-use Rattle.exact.proofs.Writing.{Writing, writing-begins, in-list, writing-goes-on, writing-ends, pairs-length}
+use Rattle.calculus.proofs.Writing.{Writing, writing-begins, in-list, writing-goes-on, writing-ends}
+use Rattle.exact.proofs.Pairs.{pairs-length}
 use Rattle.exact.proofs.parameter.write.Statement.{statement}
 use Rattle.exact.proofs.parameter.write.Tie as tie
 

@@ -10,8 +10,8 @@ use mir.Syntax.{w64}
 use mir.Val.{SFits}
 use Rattle.whole.specs.declared.Whole.the-variants.{Value}
 use Rattle.calculus.proofs.Graded.{index-231}
-use Rattle.exact.specs.Order.{rowStart, listPlace}
-use Rattle.exact.proofs.Places.{row-turn, list-place}
+use Rattle.calculus.specs.Order.{rowStart, listPlace}
+use Rattle.calculus.proofs.Places.{row-turn, list-place}
 use Rattle.exact.proofs.Progress.{SurfaceProgress, surface-begins, surface-goes-on, surface-turns, surface-ends, surface-of-numbers, room}
 use Rattle.exact.proofs.surface.read.Statement.{statement}
 use Rattle.exact.proofs.surface.read.Tie as tie
