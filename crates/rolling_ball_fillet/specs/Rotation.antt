@@ -33,9 +33,9 @@ byQuarters (suc (suc (suc _))) s c = pairOf (neg c) s
 abbrev pub turned : ℕ → Float → Float → Pair
 turned n s c = byQuarters (n % 4) s c
 
--- ---- the rotation c·I + s·[a]× + (1 − c)·a aᵀ (Rodrigues 1840), here with k for 1 − c
+-- ---- the rotation c·I + s·[a]× + k·a aᵀ with k = 1 − c (Rodrigues 1840)
 
--- by columns, as Matrix3::new
+-- by columns
 abbrev pub matrix : (a b c d e f g h i : Float) → Matrix3
 matrix a b c d e f g h i = columns (vector a b c) (vector d e f) (vector g h i)
 
@@ -74,17 +74,17 @@ byZ a s k =
     let y = times (a .y) k in
     matrix nought s x (neg s) nought y x y (times (times two (a .z)) k)
 
--- by two components: what is left of k·a aᵀ
-abbrev pub twice : (xx xy xz yy yz zz : Float) → Matrix3
-twice xx xy xz yy yz zz = matrix xx xy xz xy yy yz xz yz zz
+-- by two components: entries of k·a aᵀ are left
+abbrev pub symmetric : (xx xy xz yy yz zz : Float) → Matrix3
+symmetric xx xy xz yy yz zz = matrix xx xy xz xy yy yz xz yz zz
 
 abbrev pub zeros : Matrix3
-zeros = twice nought nought nought nought nought nought
+zeros = symmetric nought nought nought nought nought nought
 
 abbrev pub same : (x y z p q r : ℕ) → Bool
 same x y z p q r = eqb x p && eqb y q && eqb z r
 
--- by how often each component is derived by; zero from the third time on
+-- x, y and z times by the axis' components: the third derivative is zero, and each after it
 abbrev pub byAxis : (x y z : ℕ) → Vector3 → (s c k : Float) → Matrix3
 byAxis x y z a s c k =
     let o = nought in
@@ -92,20 +92,20 @@ byAxis x y z a s c k =
     (cond (same x y z 1 0 0) (byX a s k)
     (cond (same x y z 0 1 0) (byY a s k)
     (cond (same x y z 0 0 1) (byZ a s k)
-    (cond (same x y z 2 0 0) (twice (times two k) o o o o o)
-    (cond (same x y z 0 2 0) (twice o o o (times two k) o o)
-    (cond (same x y z 0 0 2) (twice o o o o o (times two k))
-    (cond (same x y z 0 1 1) (twice o o o o k o)
-    (cond (same x y z 1 0 1) (twice o o k o o o)
-    (cond (same x y z 1 1 0) (twice o k o o o o)
+    (cond (same x y z 2 0 0) (symmetric (times two k) o o o o o)
+    (cond (same x y z 0 2 0) (symmetric o o o (times two k) o o)
+    (cond (same x y z 0 0 2) (symmetric o o o o o (times two k))
+    (cond (same x y z 0 1 1) (symmetric o o o o k o)
+    (cond (same x y z 1 0 1) (symmetric o o k o o o)
+    (cond (same x y z 1 1 0) (symmetric o k o o o o)
     zeros)))))))))
 
--- 1.0 where the order is 0: what is no function of the angle, as the 1 of 1 − c, ends there
+-- the derivative of order n of 1.0
 abbrev pub constant : ℕ → Float
 constant zero = one
 constant (suc _) = nought
 
--- by the axis' components x, y and z times, and n times by the angle
+-- x, y and z times by the axis' components and n times by the angle, whose sine and cosine are s and c; k is −c + 1.0, derived −c + 0.0
 abbrev pub rotation : (x y z n : ℕ) → Vector3 → (s c : Float) → Matrix3
 rotation x y z n a s c =
     let p = turned n s c in

@@ -1,7 +1,7 @@
 // Rodrigues' rotation about an axis, and its partial derivatives by the axis' components and by the angle.
 ghost use mathlib.Core.Path.{_≡_};
 ghost use Rattle.rolling_ball_fillet.specs.Rotation.{turned as turnedBy, constant as constantAt};
-ghost use Rattle.rolling_ball_fillet.specs.Rotation.{matrix as matrixOf, rodrigues as rodriguesBy, byX, byY, byZ, twice as twiceOf, zeros};
+ghost use Rattle.rolling_ball_fillet.specs.Rotation.{matrix as matrixOf, rodrigues as rodriguesBy, byX, byY, byZ, symmetric as symmetricOf, zeros};
 ghost use Rattle.rolling_ball_fillet.specs.Rotation.{byAxis, rotation as rotationBy};
 use crate::Pair;
 use vectors::Matrix3;
@@ -106,8 +106,8 @@ fn by_z(axis: Vector3, s: f64, k: f64) -> Matrix3
 }
 
 // A symmetric matrix.
-fn twice(xx: f64, xy: f64, xz: f64, yy: f64, yz: f64, zz: f64) -> Matrix3
-    ensures { λ r. ⌜ r ≡ twiceOf xx xy xz yy yz zz ⌝ }
+fn symmetric(xx: f64, xy: f64, xz: f64, yy: f64, yz: f64, zz: f64) -> Matrix3
+    ensures { λ r. ⌜ r ≡ symmetricOf xx xy xz yy yz zz ⌝ }
 {
     matrix(xx, xy, xz, xy, yy, yz, xz, yz, zz)
 }
@@ -115,7 +115,7 @@ fn twice(xx: f64, xy: f64, xz: f64, yy: f64, yz: f64, zz: f64) -> Matrix3
 fn zero() -> Matrix3
     ensures { λ r. ⌜ r ≡ zeros ⌝ }
 {
-    twice(0.0, 0.0, 0.0, 0.0, 0.0, 0.0)
+    symmetric(0.0, 0.0, 0.0, 0.0, 0.0, 0.0)
 }
 
 // The source's match over the axis' orders, one order after the other.
@@ -126,16 +126,16 @@ fn not_by_x(y: usize, z: usize, axis: Vector3, s: f64, c: f64, k: f64) -> Matrix
         0 => match z {
             0 => rodrigues(axis, s, c, k),
             1 => by_z(axis, s, k),
-            2 => twice(0.0, 0.0, 0.0, 0.0, 0.0, 2.0 * k),
+            2 => symmetric(0.0, 0.0, 0.0, 0.0, 0.0, 2.0 * k),
             _ => zero(),
         },
         1 => match z {
             0 => by_y(axis, s, k),
-            1 => twice(0.0, 0.0, 0.0, 0.0, k, 0.0),
+            1 => symmetric(0.0, 0.0, 0.0, 0.0, k, 0.0),
             _ => zero(),
         },
         2 => match z {
-            0 => twice(0.0, 0.0, 0.0, 2.0 * k, 0.0, 0.0),
+            0 => symmetric(0.0, 0.0, 0.0, 2.0 * k, 0.0, 0.0),
             _ => zero(),
         },
         _ => zero(),
@@ -148,11 +148,11 @@ fn once_by_x(y: usize, z: usize, axis: Vector3, s: f64, c: f64, k: f64) -> Matri
     match y {
         0 => match z {
             0 => by_x(axis, s, k),
-            1 => twice(0.0, 0.0, k, 0.0, 0.0, 0.0),
+            1 => symmetric(0.0, 0.0, k, 0.0, 0.0, 0.0),
             _ => zero(),
         },
         1 => match z {
-            0 => twice(0.0, k, 0.0, 0.0, 0.0, 0.0),
+            0 => symmetric(0.0, k, 0.0, 0.0, 0.0, 0.0),
             _ => zero(),
         },
         _ => zero(),
@@ -164,7 +164,7 @@ fn twice_by_x(y: usize, z: usize, axis: Vector3, s: f64, c: f64, k: f64) -> Matr
 {
     match y {
         0 => match z {
-            0 => twice(2.0 * k, 0.0, 0.0, 0.0, 0.0, 0.0),
+            0 => symmetric(2.0 * k, 0.0, 0.0, 0.0, 0.0, 0.0),
             _ => zero(),
         },
         _ => zero(),

@@ -12,8 +12,8 @@ rodrigues-requires c κs = tt
 by-z-requires : tie.Need-by-z-requires
 by-z-requires c κs = tt
 
-twice-requires : tie.Need-twice-requires
-twice-requires c κs = tt
+symmetric-requires : tie.Need-symmetric-requires
+symmetric-requires c κs = tt
 
 zero-requires : tie.Need-zero-requires
 zero-requires c κs = tt
@@ -21,14 +21,14 @@ zero-requires c κs = tt
 by-y-requires : tie.Need-by-y-requires
 by-y-requires c κs = tt
 
-twice-requires-2 : tie.Need-twice-requires-2
-twice-requires-2 c κs = tt
+symmetric-requires-2 : tie.Need-symmetric-requires-2
+symmetric-requires-2 c κs = tt
 
 zero-requires-2 : tie.Need-zero-requires-2
 zero-requires-2 c κs = tt
 
-twice-requires-3 : tie.Need-twice-requires-3
-twice-requires-3 c κs = tt
+symmetric-requires-3 : tie.Need-symmetric-requires-3
+symmetric-requires-3 c κs = tt
 
 zero-requires-3 : tie.Need-zero-requires-3
 zero-requires-3 c κs = tt
@@ -49,7 +49,7 @@ returns-2 c =
 returns-3 : tie.Need-returns-3
 returns-3 c =
     let r = c .before .before .before .args in
-    c .twice .ensures ∙ at (r .axis) (r .s) (r .c) (r .k) 0 (c .before .before .match .keys1) (c .before .match2 .keys3)
+    c .symmetric .ensures ∙ at (r .axis) (r .s) (r .c) (r .k) 0 (c .before .before .match .keys1) (c .before .match2 .keys3)
 
 returns-4 : tie.Need-returns-4
 returns-4 c =
@@ -65,7 +65,7 @@ returns-5 c =
 returns-6 : tie.Need-returns-6
 returns-6 c =
     let r = c .before .before .before .args in
-    c .twice2 .ensures ∙ at (r .axis) (r .s) (r .c) (r .k) 0 (c .before .before .match .keys2) (c .before .match3 .keys2)
+    c .symmetric2 .ensures ∙ at (r .axis) (r .s) (r .c) (r .k) 0 (c .before .before .match .keys2) (c .before .match3 .keys2)
 
 returns-7 : tie.Need-returns-7
 returns-7 c =
@@ -76,7 +76,7 @@ returns-7 c =
 returns-8 : tie.Need-returns-8
 returns-8 c =
     let r = c .before .before .before .args in
-    c .twice3 .ensures ∙ at (r .axis) (r .s) (r .c) (r .k) 0 (c .before .before .match .keys3) (c .before .match4 .keys1)
+    c .symmetric3 .ensures ∙ at (r .axis) (r .s) (r .c) (r .k) 0 (c .before .before .match .keys3) (c .before .match4 .keys1)
 
 returns-9 : tie.Need-returns-9
 returns-9 c =
@@ -91,4 +91,4 @@ returns-10 c =
     c .zero4 .ensures ∙ third (r .axis) (r .s) (r .c) (r .k) 0 (r .y) (r .z) h
 
 pub not-by-x-spec : {M : Type 1} → statement M
-not-by-x-spec = tie.close (tie.spec rodrigues-requires by-z-requires twice-requires zero-requires by-y-requires twice-requires-2 zero-requires-2 twice-requires-3 zero-requires-3 zero-requires-4 returns returns-2 returns-3 returns-4 returns-5 returns-6 returns-7 returns-8 returns-9 returns-10)
+not-by-x-spec = tie.close (tie.spec rodrigues-requires by-z-requires symmetric-requires zero-requires by-y-requires symmetric-requires-2 zero-requires-2 symmetric-requires-3 zero-requires-3 zero-requires-4 returns returns-2 returns-3 returns-4 returns-5 returns-6 returns-7 returns-8 returns-9 returns-10)

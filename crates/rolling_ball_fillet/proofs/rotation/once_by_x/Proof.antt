@@ -9,14 +9,14 @@ use Rattle.rolling_ball_fillet.proofs.rotation.once_by_x.Tie as tie
 by-x-requires : tie.Need-by-x-requires
 by-x-requires c κs = tt
 
-twice-requires : tie.Need-twice-requires
-twice-requires c κs = tt
+symmetric-requires : tie.Need-symmetric-requires
+symmetric-requires c κs = tt
 
 zero-requires : tie.Need-zero-requires
 zero-requires c κs = tt
 
-twice-requires-2 : tie.Need-twice-requires-2
-twice-requires-2 c κs = tt
+symmetric-requires-2 : tie.Need-symmetric-requires-2
+symmetric-requires-2 c κs = tt
 
 zero-requires-2 : tie.Need-zero-requires-2
 zero-requires-2 c κs = tt
@@ -32,7 +32,7 @@ returns c =
 returns-2 : tie.Need-returns-2
 returns-2 c =
     let r = c .before .before .before .args in
-    c .twice .ensures ∙ at (r .axis) (r .s) (r .c) (r .k) 1 (c .before .before .match .keys1) (c .before .match2 .keys2)
+    c .symmetric .ensures ∙ at (r .axis) (r .s) (r .c) (r .k) 1 (c .before .before .match .keys1) (c .before .match2 .keys2)
 
 returns-3 : tie.Need-returns-3
 returns-3 c =
@@ -43,7 +43,7 @@ returns-3 c =
 returns-4 : tie.Need-returns-4
 returns-4 c =
     let r = c .before .before .before .args in
-    c .twice2 .ensures ∙ at (r .axis) (r .s) (r .c) (r .k) 1 (c .before .before .match .keys2) (c .before .match3 .keys1)
+    c .symmetric2 .ensures ∙ at (r .axis) (r .s) (r .c) (r .k) 1 (c .before .before .match .keys2) (c .before .match3 .keys1)
 
 returns-5 : tie.Need-returns-5
 returns-5 c =
@@ -58,4 +58,4 @@ returns-6 c =
     c .zero3 .ensures ∙ third (r .axis) (r .s) (r .c) (r .k) 1 (r .y) (r .z) h
 
 pub once-by-x-spec : {M : Type 1} → statement M
-once-by-x-spec = tie.close (tie.spec by-x-requires twice-requires zero-requires twice-requires-2 zero-requires-2 zero-requires-3 returns returns-2 returns-3 returns-4 returns-5 returns-6)
+once-by-x-spec = tie.close (tie.spec by-x-requires symmetric-requires zero-requires symmetric-requires-2 zero-requires-2 zero-requires-3 returns returns-2 returns-3 returns-4 returns-5 returns-6)

@@ -6,8 +6,8 @@ use Rattle.rolling_ball_fillet.proofs.Orders.{at, third}
 use Rattle.rolling_ball_fillet.proofs.rotation.twice_by_x.Statement.{statement}
 use Rattle.rolling_ball_fillet.proofs.rotation.twice_by_x.Tie as tie
 
-twice-requires : tie.Need-twice-requires
-twice-requires c κs = tt
+symmetric-requires : tie.Need-symmetric-requires
+symmetric-requires c κs = tt
 
 zero-requires : tie.Need-zero-requires
 zero-requires c κs = tt
@@ -18,7 +18,7 @@ zero-requires-2 c κs = tt
 returns : tie.Need-returns
 returns c =
     let r = c .before .before .before .args in
-    c .twice .ensures ∙ at (r .axis) (r .s) (r .c) (r .k) 2 (c .before .before .match .keys1) (c .before .match2 .keys1)
+    c .symmetric .ensures ∙ at (r .axis) (r .s) (r .c) (r .k) 2 (c .before .before .match .keys1) (c .before .match2 .keys1)
 
 returns-2 : tie.Need-returns-2
 returns-2 c =
@@ -33,4 +33,4 @@ returns-3 c =
     c .zero2 .ensures ∙ third (r .axis) (r .s) (r .c) (r .k) 2 (r .y) (r .z) h
 
 pub twice-by-x-spec : {M : Type 1} → statement M
-twice-by-x-spec = tie.close (tie.spec twice-requires zero-requires zero-requires-2 returns returns-2 returns-3)
+twice-by-x-spec = tie.close (tie.spec symmetric-requires zero-requires zero-requires-2 returns returns-2 returns-3)
