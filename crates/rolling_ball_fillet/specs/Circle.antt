@@ -1,5 +1,5 @@
--- The contact circle's derivatives along its arc: centre + R(angle·u)·(contact point 0 − centre), derived by u (document 01, "Axis, angle, partials"; `derivative_n` of
--- the source), each operation rounded in the source's order. Assumes nothing.
+-- The contact circle's derivatives along its arc, centre + R(angle·u)·(contact point 0 − centre) by u, each operation rounded in the order of the
+-- source's `derivative_n` (document 01, "Axis, angle, partials"). Assumes nothing.
 use Prim.Native.Nat.{ℕ, zero, suc}
 use lib.Ieee.{Float}
 use Rattle.vectors.specs.Vectors.{times, sum, difference, multiple}
