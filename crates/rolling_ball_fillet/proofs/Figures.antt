@@ -1,0 +1,46 @@
+-- Document 01's figure for the rotation, and a small input for each refusal, computed. Assumes nothing.
+use mathlib.Core.Path.{_≡_, refl}
+use lib.Ieee
+use lib.Ieee.{Float, nan, binary64, ofBits, add, sub, mul, neg}
+use Rattle.vectors.specs.Vectors.{vector}
+use Rattle.vectors.specs.Matrices.{columns}
+use Rattle.vectors.specs.Answers.{nought, refused3}
+use Rattle.vectors.specs.declared.VectorAnswer.the-variants.{Refused}
+use Rattle.rolling_ball_fillet.specs.declared.ContactCircle.{ContactCircle}
+use Rattle.rolling_ball_fillet.specs.Rotation.{one, turned, pairOf, rotation, zeros}
+use Rattle.rolling_ball_fillet.specs.Answers.{rotationAnswer, derivativeAnswer}
+
+-- −1.0 and 1e308
+abbrev minusOne : Float
+minusOne = ofBits binary64 0xBFF0_0000_0000_0000
+
+abbrev huge : Float
+huge = ofBits binary64 0x7FE1_CCF3_85EB_C8A0
+
+-- a quarter turn about the z axis: axis (0, 0, 1), s = 1, c = 0
+pub quarter-turn : rotationAnswer 0 0 0 0 (vector nought nought one) one nought ≡ record { refusal = 0; matrix = columns (vector nought one nought) (vector minusOne nought nought) (vector nought nought one) }
+unfolding add sub mul neg ofBits
+quarter-turn = refl
+
+-- four quarter turns are none
+pub whole-turn : (s c : Float) → turned 4 s c ≡ pairOf s c
+whole-turn s c = refl
+
+-- k is +0, not −0, at c = +0 where the angle's order is not 0
+pub signed-zero : rotation 2 0 0 4 (vector nought nought one) one nought ≡ zeros
+unfolding add mul neg ofBits
+signed-zero = refl
+
+-- ---- refusals
+pub order-21 : rotationAnswer 0 0 0 21 (vector nought nought one) one nought ≡ refused3 1
+order-21 = refl
+
+pub not-finite : rotationAnswer 0 0 0 0 (vector nan nought one) one nought ≡ refused3 5
+not-finite = refl
+
+pub overflow : rotationAnswer 1 0 0 0 (vector huge nought one) nought minusOne ≡ refused3 10
+unfolding add mul neg ofBits
+overflow = refl
+
+pub derivative-order-21 : (o : ContactCircle) (s c : Float) → derivativeAnswer o 21 s c ≡ Refused 1
+derivative-order-21 o s c = refl

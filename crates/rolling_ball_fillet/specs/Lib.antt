@@ -1,0 +1,3 @@
+pub mod Rotation
+pub mod Circle
+pub mod Answers

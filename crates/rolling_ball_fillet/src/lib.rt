@@ -1,0 +1,98 @@
+// The fillet that a rolling ball leaves between two surfaces: its contact circle, and how that turns. Refusals: 1 where an order is above 20,
+// 5 where a float handed in is not finite, 10 where a returned float is not.
+ghost use mathlib.Core.Path.{_≡_};
+ghost use Rattle.rolling_ball_fillet.specs.Answers.{rotationAnswer, finiteContact, finiteCircle, derivativeAnswer};
+use vectors::Matrix3Answer;
+use vectors::Vector2;
+use vectors::Vector3;
+use vectors::VectorAnswer;
+
+mod answers;
+mod circle;
+mod rotation;
+
+// The sine and the cosine of an angle.
+pub struct Pair {
+    pub s: f64,
+    pub c: f64,
+}
+
+// Where the ball touches a surface, and the surface's parameters there.
+pub struct ContactPoint {
+    pub point: Vector3,
+    pub uv: Vector2,
+}
+
+// The arc of the ball's great circle from contact point 0 to contact point 1: `angle` about `axis`.
+pub struct ContactCircle {
+    pub center: Vector3,
+    pub axis: Vector3,
+    pub angle: f64,
+    pub contact_point0: ContactPoint,
+    pub contact_point1: ContactPoint,
+}
+
+// Rodrigues' rotation, derived x, y and z times by the axis' components and n times by the angle, whose sine and cosine are s and c.
+pub fn rot_der_n(
+    x: usize,
+    y: usize,
+    z: usize,
+    n: usize,
+    axis: Vector3,
+    s: f64,
+    c: f64,
+) -> Matrix3Answer
+    ensures { λ r. ⌜ r ≡ rotationAnswer x y z n axis s c ⌝ }
+{
+    if answers::served(x, y, z, n) {
+        if answers::finite_turn(axis, s, c) {
+            return answers::returned(rotation::rotation(x, y, z, n, axis, s, c));
+        }
+        return answers::refused(5);
+    }
+    answers::refused(1)
+}
+
+pub fn from_axis_angle(axis: Vector3, s: f64, c: f64) -> Matrix3Answer
+    ensures { λ r. ⌜ r ≡ rotationAnswer 0 0 0 0 axis s c ⌝ }
+{
+    rot_der_n(0, 0, 0, 0, axis, s, c)
+}
+
+impl ContactPoint {
+    pub fn is_finite(self) -> bool
+        ensures { λ r. ⌜ r ≡ finiteContact self ⌝ }
+    {
+        let p = self.point;
+        let uv = self.uv;
+        let pu = answers::both(p.is_finite(), ieee::is_finite(uv.x));
+        answers::both(pu, ieee::is_finite(uv.y))
+    }
+}
+
+impl ContactCircle {
+    pub fn is_finite(self) -> bool
+        ensures { λ r. ⌜ r ≡ finiteCircle self ⌝ }
+    {
+        let center = self.center;
+        let axis = self.axis;
+        let p = self.contact_point0;
+        let q = self.contact_point1;
+        let vectors = answers::both(center.is_finite(), axis.is_finite());
+        let turn = answers::both(vectors, ieee::is_finite(self.angle));
+        let first = answers::both(turn, p.is_finite());
+        answers::both(first, q.is_finite())
+    }
+
+    // The derivative of order m along the arc, by the share u of it that is passed; s and c are the sine and cosine of angle·u.
+    pub fn derivative_n(self, m: usize, s: f64, c: f64) -> VectorAnswer
+        ensures { λ r. ⌜ r ≡ derivativeAnswer self m s c ⌝ }
+    {
+        if answers::order_served(m) {
+            let pair = answers::both(self.is_finite(), ieee::is_finite(s));
+            let inputs = answers::both(pair, ieee::is_finite(c));
+            return answers::vector_from(inputs, circle::derivative(self, m, s, c));
+        }
+        VectorAnswer::Refused(1)
+    }
+}
