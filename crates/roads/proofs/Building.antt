@@ -2,12 +2,12 @@
 use mathlib.Core.Path.{_≡_, refl, sym, ap, ap₂, _∙_}
 use mathlib.Core.Bool.{Bool, true, false, cond}
 use mathlib.Core.List.{List, [], _∷_, map}
-use Prim.Native.Nat.{ℕ, zero, suc, _≤_, _<_, min}
-use native.Mathlib.Nat.{min-eq-left, min-eq-right, min-le-left, min-le-right}
+use Prim.Native.Nat.{ℕ, zero, suc, _<_, min}
+use native.Mathlib.Nat.{min-eq-left, min-eq-right, min-le-right}
 use native.Mathlib.Decide.{decLt}
 use native.Mathlib.Omega.{arith}
 use lib.ListN.{length, getD, take, length-map}
-use lib.Seq.{take-all, take-nil, getD-take, length-take-le}
+use lib.Seq.{take-all, getD-take, length-take-le}
 use Rattle.exact.specs.Judged.{byVerdict}
 use Rattle.roads.specs.declared.Step.{Step}
 use Rattle.roads.specs.Recipe.{Jets, someAbove20, smallest, wellFormed, worked, built}

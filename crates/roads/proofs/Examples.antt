@@ -23,7 +23,6 @@ use Rattle.exact.specs.Answer.{unlessRefused, refusedCurve, refusedSurface}
 use Rattle.exact.specs.Judged.{histories}
 use Rattle.roads.specs.declared.Step.{Step}
 use Rattle.roads.specs.declared.SurfaceRecipe.{SurfaceRecipe}
-use Rattle.roads.specs.declared.CurveRecipe.{CurveRecipe}
 use Rattle.roads.specs.declared.Operation.the-variants.{Sum, Difference, Product, Quotient}
 use Rattle.roads.specs.Recipe.{someAbove20, smallest, namesEarlier, worked}
 use Rattle.roads.specs.Roads.{firstRefusal, builtSurface, builtCurve, buildThenCarry, carryThenBuild}

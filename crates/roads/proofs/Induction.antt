@@ -1,11 +1,11 @@
 -- The steps of a recipe, on the surfaces of the first road and on the curves of the second at once: one induction over the steps, over all kinds
 -- of step. Assumes nothing.
-use mathlib.Core.Path.{_≡_, refl, sym, ap, ap₂, _∙_, subst}
+use mathlib.Core.Path.{_≡_, refl, sym, ap, _∙_}
 use mathlib.Core.Bool.{Bool, true, false, cond}
 use mathlib.Core.List.{List, [], _∷_, _++_}
 use mathlib.Core.Logic.{⊎-elim}
 use Prim.Native.Nat.{ℕ, zero, suc, _+_, _-_, _≤_, _<_}
-use native.Mathlib.Nat.{le-refl, eq-or-lt-of-le, le-of-suc-le-suc, suc-ne-zero}
+use native.Mathlib.Nat.{eq-or-lt-of-le, le-of-suc-le-suc, suc-ne-zero}
 use native.Mathlib.Omega.{arith}
 use lib.Dec.{ltb, eqb}
 use lib.IntN.{ℤ}
@@ -111,7 +111,7 @@ module _ (c : ParameterCurve) (k n : ℕ) (o : Orders c k n) where
   abbrev pub Met : (ℕ → SurfaceDerivatives) → (ℕ → CurveDerivatives) → (ℕ → ℕ → ℤ) → ℕ → List Step → Type 0
   Met hs hc hz m ss =
       thenCarry (worked surfaces hs m ss) .refusal ≡ 0 →
-      worked curves hc m ss ≡ cond (every inRange (numbers (stepsTake c n hz m ss))) (thenCarry (worked surfaces hs m ss)) (refusedCurve 9)
+      worked curves hc m ss ≡ cond (every inRange (numbers (stepsTake n hz m ss))) (thenCarry (worked surfaces hs m ss)) (refusedCurve 9)
 
   -- one step, and then those after it
   module _ (s : Step) (ss : List Step) {hs : ℕ → SurfaceDerivatives} {hc : ℕ → CurveDerivatives} {hz : ℕ → ℕ → ℤ} (m : ℕ) (h : Hands hs hc hz m)
@@ -132,18 +132,18 @@ module _ (c : ParameterCurve) (k n : ℕ) (o : Orders c k n) where
         Met (with hs m (first .jet)) (with hc m (alongJet c k n (first .jet))) handed (suc m) ss) →
         (x : ℕ) → first .refusal ≡ x → thenCarry (byVerdict refusedSurface x after) .refusal ≡ 0 →
         byVerdict refusedCurve (second .refusal) (worked curves (with hc m (second .jet)) (suc m) ss)
-        ≡ cond (every inRange (numbers (taken (stepWith s hz) n ++ stepsTake c n handed (suc m) ss))) (thenCarry (byVerdict refusedSurface x after)) (refusedCurve 9)
+        ≡ cond (every inRange (numbers (taken (stepWith s hz) n ++ stepsTake n handed (suc m) ss))) (thenCarry (byVerdict refusedSurface x after)) (refusedCurve 9)
     step-met next zero e f =
         ap (λ (a : CurveAnswer). byVerdict refusedCurve (a .refusal) (worked curves (with hc m (a .jet)) (suc m) ss))
         (step-answer c k n o (s .operation) (h (s .left) l) (h (s .right) r) e)
         ∙ by (every inRange (numbers (taken (stepWith s hz) n)))
         (next (hands-more m h (step-meets c k n o (s .operation) (h (s .left) l) (h (s .right) r) e)) f)
-        ∙ ap (λ (t : Bool). cond t (thenCarry after) (refusedCurve 9)) (sym (every-two (taken (stepWith s hz) n) (stepsTake c n handed (suc m) ss)))
+        ∙ ap (λ (t : Bool). cond t (thenCarry after) (refusedCurve 9)) (sym (every-two (taken (stepWith s hz) n) (stepsTake n handed (suc m) ss)))
       where
         by : (t : Bool) → worked curves (with hc m (alongJet c k n (first .jet))) (suc m) ss
-            ≡ cond (every inRange (numbers (stepsTake c n handed (suc m) ss))) (thenCarry after) (refusedCurve 9) →
+            ≡ cond (every inRange (numbers (stepsTake n handed (suc m) ss))) (thenCarry after) (refusedCurve 9) →
             byVerdict refusedCurve (cond t (answeredCurve n (alongNumbers c k n (first .jet))) (refusedCurve 9) .refusal) (worked curves (with hc m (cond t (answeredCurve n (alongNumbers c k n (first .jet))) (refusedCurve 9) .jet)) (suc m) ss)
-            ≡ cond (cond t (every inRange (numbers (stepsTake c n handed (suc m) ss))) false) (thenCarry after) (refusedCurve 9)
+            ≡ cond (cond t (every inRange (numbers (stepsTake n handed (suc m) ss))) false) (thenCarry after) (refusedCurve 9)
         by true g = g
         by false g = refl
     step-met next (suc x) e f = absurd (suc-ne-zero x f)

@@ -1,8 +1,8 @@
 -- The inputs of the two roads: what an answered first road says of the orders, and what carrying every input answers. Assumes nothing.
 use mathlib.Core.Path.{_≡_, refl, sym, ap, ap₂, _∙_}
 use mathlib.Core.Bool.{Bool, true, false, cond}
-use mathlib.Core.List.{List, [], _∷_, _++_, map}
-use Prim.Native.Nat.{ℕ, zero, suc, _+_, _≤_, _<_, min}
+use mathlib.Core.List.{List, [], _∷_, map}
+use Prim.Native.Nat.{ℕ, zero, suc, _≤_, _<_, min}
 use native.Mathlib.Nat.{le-refl, min-le-left, min-le-right, min-eq-left, le-min, suc-ne-zero, not-suc-le-zero}
 use native.Mathlib.Omega.{arith}
 use lib.Dec.{ltb, eqb}
@@ -14,9 +14,7 @@ use Rattle.exact.specs.declared.CurveDerivatives.{CurveDerivatives}
 use Rattle.exact.specs.declared.SurfaceDerivatives.{SurfaceDerivatives}
 use Rattle.exact.specs.declared.ParameterCurve.{ParameterCurve}
 use Rattle.exact.specs.declared.CurveAnswer.{CurveAnswer}
-use Rattle.exact.specs.declared.SurfaceAnswer.{SurfaceAnswer}
-use Rattle.exact.specs.Answer.{refusedCurve, refusedSurface, answeredCurve}
-use Rattle.exact.specs.Judged.{byVerdict}
+use Rattle.exact.specs.Answer.{refusedCurve, answeredCurve}
 use Rattle.exact.specs.Composite.{withinOrders, alongCurve}
 use Rattle.roads.specs.declared.Step.{Step}
 use Rattle.roads.specs.Recipe.{namesEarlier, wellFormed, someAbove20, smallest}

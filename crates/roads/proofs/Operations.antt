@@ -1,7 +1,7 @@
 -- One step: the operations keep a relation between kinds of number; and an operation on surfaces that is answered is carried to the operation on
 -- the carried, over the integers, every division of which is exact. Assumes nothing.
 use mathlib.Core.Path.{_≡_, refl, sym, ap, _∙_, subst}
-use mathlib.Core.Bool.{Bool, true, false}
+use mathlib.Core.Bool.{false}
 use Prim.Native.Nat.{ℕ, suc, _+_, _≤_}
 use native.Mathlib.Nat.{le-refl}
 use native.Mathlib.Omega.{arith}

@@ -3,18 +3,16 @@
 use mathlib.Core.Path.{_≡_, refl, ap, ap₂, _∙_, subst, sym}
 use mathlib.Core.Bool.{true, false}
 use mathlib.Core.List.{[], _∷_}
-use Prim.Native.Nat.{ℕ}
 use lib.Dec.{eqb}
 use lib.IntN.{ℤ, pos, natAbs, _+ℤ_, _-ℤ_, _*ℤ_}
 use lib.Signed.{quotZ, remZ}
-use Rattle.whole.specs.declared.Whole.{Whole}
 use Rattle.whole.specs.Checked
-use Rattle.whole.specs.History.{Event, forms, divides, Traced, settle, given, verdict, exact, tracedOver}
-use Rattle.whole.proofs.History.{settle-given, settle-plus, settle-minus, settle-times, settle-over, settle-ofNat, exact-then, exact-one, exact-division, answered-value, settle-answered}
+use Rattle.whole.specs.History.{forms, divides, Traced, settle, given, verdict, exact, tracedOver}
+use Rattle.whole.proofs.History.{settle-over, exact-then, exact-one, exact-division, answered-value, settle-answered}
 use Rattle.whole.proofs.Answers.{both-answered, divided-answered}
 use Rattle.calculus.specs.Kind.{Kind, regular, plain}
 use Rattle.calculus.proofs.Related.{Related, RelatedModules}
-use Rattle.exact.specs.Kinds.{checked, traced}
+use Rattle.exact.specs.Kinds.{traced}
 
 -- the value is the integer, and every division that was taken is exact: kept by every operation but the division
 abbrev pub Sound : Traced → ℤ → Type 0

@@ -1,10 +1,10 @@
 -- The two roads meet (document 01's demand 3). Take any surfaces, steps, curve in their parameters and order for which the first road (build, then
 -- carry) is answered. Then the second road (carry every input, then build) is answered with the same jet, where every number that it forms lies
 -- within signed 64 bits; and it is refused with 9 where one does not. Assumes nothing.
-use mathlib.Core.Path.{_≡_, refl, sym, ap, ap₂, _∙_, subst}
+use mathlib.Core.Path.{_≡_, refl, sym, ap, ap₂, _∙_}
 use mathlib.Core.Bool.{Bool, true, false, cond}
 use mathlib.Core.List.{List, map}
-use Prim.Native.Nat.{ℕ, zero, suc, _≤_, _<_, min}
+use Prim.Native.Nat.{ℕ, zero, suc}
 use native.Mathlib.Nat.{suc-ne-zero, min-eq-left}
 use native.Mathlib.Omega.{arith}
 use lib.IntN.{ℤ}
@@ -23,11 +23,11 @@ use Rattle.exact.specs.Composite.{alongCurve}
 use Rattle.roads.specs.declared.Step.{Step}
 use Rattle.roads.specs.declared.SurfaceRecipe.{SurfaceRecipe}
 use Rattle.roads.specs.Recipe.{wellFormed, someAbove20, smallest, worked}
-use Rattle.roads.specs.Roads.{surfaces, curves, builtSurface, buildThenCarry, carryThenBuild, firstRefusal}
+use Rattle.roads.specs.Roads.{surfaces, curves, builtSurface, buildThenCarry, carryThenBuild}
 use Rattle.roads.specs.Formed.{carriedWith, carriesTake, stepsTake, numbersFormed}
 use Rattle.roads.proofs.Meeting.{alongJet, Orders, carried-value}
 use Rattle.roads.proofs.Induction.{steps-order, steps-met, every-two}
-use Rattle.roads.proofs.Inputs.{Counts, counts, Within, within, at-map, smallest-20, inputs-refusal, inputs-jets, jets-above, jets-smallest}
+use Rattle.roads.proofs.Inputs.{Counts, counts, within, at-map, smallest-20, inputs-refusal, inputs-jets, jets-above, jets-smallest}
 
 -- an answered recipe passed the checks
 passed : (t u : Bool) (w : SurfaceAnswer) (f : SurfaceAnswer → CurveAnswer) → ((x : ℕ) → f (refusedSurface (suc x)) .refusal ≡ suc x) →
@@ -103,7 +103,7 @@ module _ (r : SurfaceRecipe) (four : length (r .surfaces) ≡ 4) (c : ParameterC
     unfolding jets
     smallest-jets = jets-smallest c k n (orders .parameter) (orders .reach) (omega (arith, orders .asked, orders .high)) inputs (omega (arith, length-inputs, count .some))
 
-    rebuilt : rebuild jets ≡ cond (every inRange (numbers (stepsTake c n third-hand (r .inputs) steps))) (carry work) (refusedCurve 9)
+    rebuilt : rebuild jets ≡ cond (every inRange (numbers (stepsTake n third-hand (r .inputs) steps))) (carry work) (refusedCurve 9)
     unfolding jets
     rebuilt =
         ap₂ (λ (t u : Bool). cond t (refusedCurve 1) (cond u (worked curves (λ i. curves .cut (smallest (map (curves .order) jets)) (getD jets i (curves .blank))) (r .inputs) steps) (refusedCurve 4)))
@@ -119,7 +119,7 @@ module _ (r : SurfaceRecipe) (four : length (r .surfaces) ≡ 4) (c : ParameterC
 
     by : (t : Bool) → every inRange (numbers (carriesTake c n inputs)) ≡ t →
         byVerdict refusedCurve (cond t 0 9) (rebuild (take (r .inputs) (map (λ (a : CurveAnswer). a .jet) (map (λ s. alongCurve s c n) inputs))))
-        ≡ cond (cond t (every inRange (numbers (stepsTake c n third-hand (r .inputs) steps))) false) (carry work) (refusedCurve 9)
+        ≡ cond (cond t (every inRange (numbers (stepsTake n third-hand (r .inputs) steps))) false) (carry work) (refusedCurve 9)
     unfolding jets
     by true h =
         ap (λ (l : List CurveDerivatives). rebuild (take (r .inputs) l)) (inputs-jets c k n (orders .parameter) (orders .reach) inputs (checks .0) (orders .asked) h)
@@ -132,7 +132,7 @@ module _ (r : SurfaceRecipe) (four : length (r .surfaces) ≡ 4) (c : ParameterC
         (inputs-refusal c k n (orders .parameter) (orders .reach) inputs (checks .0) (orders .asked))
         ∙ by (every inRange (numbers (carriesTake c n inputs))) refl
         ∙ ap₂ (λ (t : Bool) (a : SurfaceAnswer). cond t (carry a) (refusedCurve 9))
-        (sym (every-two (carriesTake c n inputs) (stepsTake c n third-hand (r .inputs) steps))) (sym built-is)
+        (sym (every-two (carriesTake c n inputs) (stepsTake n third-hand (r .inputs) steps))) (sym built-is)
 
 -- THE THEOREM. The array of surfaces has its four places, as every array of that type has; which of them are given, the count says.
 pub roads-meet : (r : SurfaceRecipe) (c : ParameterCurve) (order : ℕ) → length (r .surfaces) ≡ 4 →

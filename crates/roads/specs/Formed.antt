@@ -31,20 +31,19 @@ carriedWith c s =
 abbrev pub stepWith : Step → (ℕ → ℕ → ℤ) → ℕ → Traced
 stepWith s hand = curveOperation traced (s .operation) (λ i. given (hand (s .left) i)) (λ i. given (hand (s .right) i))
 
-module _ (c : ParameterCurve) (n : ℕ) where
-  -- of carrying each surface
-  unfoldable pub carriesTake : List SurfaceDerivatives → List Event
-  carriesTake [] = []
-  carriesTake (s ∷ ss) = taken (carriedWith c s) n ++ carriesTake ss
+-- what carrying each surface took
+unfoldable pub carriesTake : ParameterCurve → ℕ → List SurfaceDerivatives → List Event
+carriesTake c n [] = []
+carriesTake c n (s ∷ ss) = taken (carriedWith c s) n ++ carriesTake c n ss
 
-  -- of the steps on the jets in hand, the first of which makes the number m
-  unfoldable pub stepsTake : (ℕ → ℕ → ℤ) → ℕ → List Step → List Event
-  stepsTake hand m [] = []
-  stepsTake hand m (s ∷ ss) = taken (stepWith s hand) n ++ stepsTake (with hand m (λ i. stepWith s hand i .value)) (suc m) ss
+-- what the steps took, on the jets in hand, the first step making the number m
+unfoldable pub stepsTake : ℕ → (ℕ → ℕ → ℤ) → ℕ → List Step → List Event
+stepsTake n hand m [] = []
+stepsTake n hand m (s ∷ ss) = taken (stepWith s hand) n ++ stepsTake n (with hand m (λ i. stepWith s hand i .value)) (suc m) ss
 
 -- all numbers that the second road forms, in the order of work
 abbrev pub numbersFormed : SurfaceRecipe → ParameterCurve → ℕ → List ℤ
 numbersFormed r c n =
     let inputs = take (r .inputs) (r .surfaces) in
     numbers (carriesTake c n inputs
-    ++ stepsTake c n (λ k i. carriedWith c (getD inputs k (surfaces .blank)) i .value) (r .inputs) (take (r .steps) (r .program)))
+    ++ stepsTake n (λ k i. carriedWith c (getD inputs k (surfaces .blank)) i .value) (r .inputs) (take (r .steps) (r .program)))

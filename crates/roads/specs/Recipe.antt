@@ -2,7 +2,7 @@
 -- quotient of two earlier jets. One definition over the kind of jet. Assumes nothing.
 use mathlib.Core.Bool.{Bool, true, false, cond}
 use mathlib.Core.List.{List, [], _∷_, map}
-use Prim.Native.Nat.{ℕ, zero, suc, _-_, min}
+use Prim.Native.Nat.{ℕ, suc, _-_, min}
 use lib.Dec.{ltb, eqb}
 use lib.ListN.{getD, take}
 use Rattle.exact.specs.Judged.{byVerdict}

@@ -2,8 +2,7 @@
 -- derivatives along the curve. Each jet that a call returns is handed on unchanged. Assumes nothing.
 use mathlib.Core.List.{List, [], _∷_, map}
 use Prim.Native.Nat.{ℕ}
-use lib.IntN.{pos}
-use lib.ListN.{take, replicate}
+use lib.ListN.{take}
 use Rattle.whole.specs.History.{orElse}
 use Rattle.exact.specs.declared.CurveDerivatives.{CurveDerivatives}
 use Rattle.exact.specs.declared.SurfaceDerivatives.{SurfaceDerivatives}
@@ -53,11 +52,13 @@ builtCurve r = built curves (r .inputs) (r .curves) (r .steps) (r .program)
 abbrev pub buildThenCarry : SurfaceRecipe → ParameterCurve → ℕ → CurveAnswer
 buildThenCarry r c n = let a = builtSurface r in byVerdict refusedCurve (a .refusal) (alongCurve (a .jet) c n)
 
+-- the first refusal of calls made in turn, or 0
 unfoldable pub firstRefusal : List CurveAnswer → ℕ
 firstRefusal [] = 0
 firstRefusal (a ∷ rest) = orElse (a .refusal) (firstRefusal rest)
 
--- the second road: carry every surface given, used or not, by rising number, then work the same steps on the curves
+-- the second road: carry every surface given, used or not, by rising number, then work the same steps on the curves. A count out of range is
+-- refused by the recipe, and so after the carries
 abbrev pub carryThenBuild : SurfaceRecipe → ParameterCurve → ℕ → CurveAnswer
 carryThenBuild r c n =
     let carried = map (λ s. alongCurve s c n) (take (r .inputs) (r .surfaces)) in

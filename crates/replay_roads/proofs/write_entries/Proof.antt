@@ -1,6 +1,5 @@
 -- `replay_roads::write_entries` is safe and ends. Assumes nothing.
-use Prim.Native.Nat.{ℕ, _+_, _-_, _≤_, _<_}
-use lib.ListN.{length}
+use Prim.Native.Nat.{_-_, _≤_}
 use borrow.Author.Needs.{needs}
 use Rattle.replay_roads.proofs.write_entries.Statement.{statement}
 use Rattle.replay_roads.proofs.write_entries.Tie as tie

@@ -1,5 +1,5 @@
 -- `roads::SurfaceRecipe::build_then_carry` meets its contract. Assumes nothing.
-use mathlib.Core.Path.{_≡_, sym, ap, _∙_}
+use mathlib.Core.Path.{ap, _∙_}
 use borrow.Author.Needs.{needs}
 use Rattle.exact.specs.declared.SurfaceAnswer.{SurfaceAnswer}
 use Rattle.exact.specs.Answer.{refusedCurve}
@@ -8,11 +8,6 @@ use Rattle.roads.specs.Roads.{builtSurface}
 use Rattle.roads.proofs.Building.{a-refusal, no-refusal}
 use Rattle.roads.proofs.SurfaceRecipe.build_then_carry.Statement.{statement}
 use Rattle.roads.proofs.SurfaceRecipe.build_then_carry.Tie as tie
-use Rattle.roads.proofs.SurfaceRecipe.build_then_carry.Reads as reads
-use Rattle.roads.proofs.SurfaceRecipe.build_then_carry.Lts as lts
-use Rattle.exact.proofs.SurfaceDerivatives.composite_derivatives.Reads as composite-derivatives-reads
-use Rattle.roads.proofs.SurfaceRecipe.build.Reads as build-reads
-use Rattle.roads.proofs.refused_curve.Reads as refused-curve-reads
 
 build-requires : tie.Need-build-requires
 build-requires c κs = search needs

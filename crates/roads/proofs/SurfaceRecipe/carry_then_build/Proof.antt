@@ -1,5 +1,5 @@
 -- `roads::SurfaceRecipe::carry_then_build` meets its contract. Assumes nothing.
-use mathlib.Core.Path.{_≡_, sym, ap, _∙_}
+use mathlib.Core.Path.{_∙_}
 use mathlib.Core.List.{map}
 use lib.ListN.{take}
 use borrow.Author.Needs.{needs}
@@ -11,12 +11,6 @@ use Rattle.roads.proofs.Building.{a-refusal, no-refusal, built-same}
 use Rattle.roads.proofs.Carrying.{all-refusals, all-carried}
 use Rattle.roads.proofs.SurfaceRecipe.carry_then_build.Statement.{statement}
 use Rattle.roads.proofs.SurfaceRecipe.carry_then_build.Tie as tie
-use Rattle.roads.proofs.SurfaceRecipe.carry_then_build.Reads as reads
-use Rattle.roads.proofs.SurfaceRecipe.carry_then_build.Lts as lts
-use Rattle.roads.proofs.CurveRecipe.build.Reads as build-reads
-use Rattle.roads.proofs.checks.given.Reads as given-reads
-use Rattle.roads.proofs.refused_curve.Reads as refused-curve-reads
-use Rattle.roads.proofs.roads.carry_each.Reads as carry-each-reads
 
 given-requires : tie.Need-given-requires
 given-requires c κs = search needs

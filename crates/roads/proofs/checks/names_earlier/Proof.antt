@@ -1,16 +1,14 @@
 -- `roads::checks::names_earlier` meets its contract. The invariant: the test on the steps left is the test on all. Assumes nothing.
-use mathlib.Core.Path.{_≡_, refl, sym, ap, _∙_}
+use mathlib.Core.Path.{_≡_, sym, ap, _∙_}
 use lib.ListN.{drop, take}
 use Rattle.roads.specs.Recipe.{namesEarlier}
-use Prim.Native.Nat.{ℕ, suc, _+_, _-_, _≤_, _<_}
+use Prim.Native.Nat.{ℕ, _+_, _-_, _≤_}
 use native.Mathlib.Omega.{arith}
 use borrow.Author.Needs.{needs}
 use native.Mathlib.Nat.{add-zero, add-assoc}
 use Rattle.roads.proofs.Tests.{names-left, names-right, names-later, names-none}
 use Rattle.roads.proofs.checks.names_earlier.Statement.{statement}
 use Rattle.roads.proofs.checks.names_earlier.Tie as tie
-use Rattle.roads.proofs.checks.names_earlier.Reads as reads
-use Rattle.roads.proofs.checks.names_earlier.Lts as lts
 
 abbrev Inv-loop : tie.InvT-loop
 Inv-loop inputs steps program i₀ i = (i ≤ steps) × (namesEarlier (inputs + i) (drop i (take steps program)) ≡ namesEarlier inputs (take steps program))

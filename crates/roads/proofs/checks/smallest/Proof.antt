@@ -1,16 +1,14 @@
 -- `roads::checks::smallest` meets its contract. The invariant: the least so far is the smallest of the orders from i on. Assumes nothing.
-use mathlib.Core.Path.{_≡_, refl, sym, ap, _∙_}
+use mathlib.Core.Path.{_≡_, sym, ap, _∙_}
 use lib.ListN.{length, drop}
 use Rattle.roads.specs.Recipe.{smallest}
-use Prim.Native.Nat.{ℕ, suc, _+_, _-_, _≤_, _<_}
+use Prim.Native.Nat.{ℕ, _-_, _≤_}
 use native.Mathlib.Omega.{arith}
 use borrow.Author.Needs.{needs}
 use denote.Ref.{now}
 use Rattle.roads.proofs.Tests.{smaller, not-smaller, smallest-none}
 use Rattle.roads.proofs.checks.smallest.Statement.{statement}
 use Rattle.roads.proofs.checks.smallest.Tie as tie
-use Rattle.roads.proofs.checks.smallest.Reads as reads
-use Rattle.roads.proofs.checks.smallest.Lts as lts
 
 abbrev Inv-loop : tie.InvT-loop
 Inv-loop orders least₀ i₀ least i = (i ≤ length orders) × (least ≡ smallest (drop i orders))

@@ -1,16 +1,14 @@
 -- `roads::checks::some_above_20` meets its contract. The invariant: the test on the orders left is the test on all. Assumes nothing.
-use mathlib.Core.Path.{_≡_, refl, sym, ap, _∙_}
+use mathlib.Core.Path.{_≡_, refl, sym, _∙_}
 use lib.ListN.{length, drop}
 use Rattle.roads.specs.Recipe.{someAbove20}
-use Prim.Native.Nat.{ℕ, suc, _+_, _-_, _≤_, _<_}
+use Prim.Native.Nat.{_-_, _≤_}
 use native.Mathlib.Omega.{arith}
 use borrow.Author.Needs.{needs}
 use denote.Ref.{now}
 use Rattle.roads.proofs.Tests.{above-here, above-later, above-none}
 use Rattle.roads.proofs.checks.some_above_20.Statement.{statement}
 use Rattle.roads.proofs.checks.some_above_20.Tie as tie
-use Rattle.roads.proofs.checks.some_above_20.Reads as reads
-use Rattle.roads.proofs.checks.some_above_20.Lts as lts
 
 abbrev Inv-loop : tie.InvT-loop
 Inv-loop orders i₀ i = (i ≤ length orders) × (someAbove20 (drop i orders) ≡ someAbove20 orders)

@@ -5,9 +5,6 @@ use borrow.Author.Needs.{needs}
 use Rattle.roads.proofs.Tests.{no-inputs, many-inputs, no-steps, many-steps, all-counts}
 use Rattle.roads.proofs.checks.well_formed.Statement.{statement}
 use Rattle.roads.proofs.checks.well_formed.Tie as tie
-use Rattle.roads.proofs.checks.well_formed.Reads as reads
-use Rattle.roads.proofs.checks.well_formed.Lts as lts
-use Rattle.roads.proofs.checks.names_earlier.Reads as names-earlier-reads
 
 returns : tie.Need-returns
 returns c =

@@ -1,16 +1,10 @@
 -- `roads::curves::apply` meets its contract. Assumes nothing.
-use mathlib.Core.Path.{_≡_, sym, ap, _∙_}
+use mathlib.Core.Path.{sym, ap, _∙_}
 use borrow.Author.Needs.{needs}
 use Rattle.roads.specs.declared.Operation.{Operation}
 use Rattle.roads.specs.Roads.{curves}
 use Rattle.roads.proofs.curves.apply.Statement.{statement}
 use Rattle.roads.proofs.curves.apply.Tie as tie
-use Rattle.roads.proofs.curves.apply.Reads as reads
-use Rattle.roads.proofs.curves.apply.Lts as lts
-use Rattle.exact.proofs.CurveDerivatives.combinatorial_derivatives.Reads as combinatorial-derivatives-reads
-use Rattle.exact.proofs.CurveDerivatives.difference.Reads as difference-reads
-use Rattle.exact.proofs.CurveDerivatives.quotient.Reads as quotient-reads
-use Rattle.exact.proofs.CurveDerivatives.sum.Reads as sum-reads
 
 enum-told : tie.Need-enum-told
 enum-told c = search needs

@@ -1,17 +1,12 @@
 -- `roads::roads::carry_each` meets its contract. The invariant: the surfaces passed are carried, and the refusal of those left is that of all. Assumes nothing.
-use mathlib.Core.Path.{_≡_, refl, sym, ap, _∙_}
-use Prim.Native.Nat.{ℕ, _+_, _-_, _≤_, _<_}
-use native.Mathlib.Omega.{arith}
-use lib.ListN.{length, length-set}
+use mathlib.Core.Path.{_≡_, refl}
+use Prim.Native.Nat.{_-_}
+use lib.ListN.{length}
 use borrow.Author.Needs.{needs}
 use Rattle.exact.specs.Composite.{alongCurve}
 use Rattle.roads.proofs.Carrying.{Carrying, carry-begins, carry-goes-on, carry-stops, carry-ends, carry-done}
 use Rattle.roads.proofs.roads.carry_each.Statement.{statement}
 use Rattle.roads.proofs.roads.carry_each.Tie as tie
-use Rattle.roads.proofs.roads.carry_each.Reads as reads
-use Rattle.roads.proofs.roads.carry_each.Lts as lts
-use Rattle.exact.proofs.SurfaceDerivatives.composite_derivatives.Reads as composite-derivatives-reads
-use Rattle.roads.proofs.refused_curve.Reads as refused-curve-reads
 
 abbrev Inv-loop : tie.InvT-loop
 Inv-loop count curve order jets curves₀ i₀ curves i = Carrying (λ s. alongCurve s curve order) jets count curves i

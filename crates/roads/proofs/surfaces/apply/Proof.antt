@@ -1,16 +1,10 @@
 -- `roads::surfaces::apply` meets its contract. Assumes nothing.
-use mathlib.Core.Path.{_≡_, sym, ap, _∙_}
+use mathlib.Core.Path.{sym, ap, _∙_}
 use borrow.Author.Needs.{needs}
 use Rattle.roads.specs.declared.Operation.{Operation}
 use Rattle.roads.specs.Roads.{surfaces}
 use Rattle.roads.proofs.surfaces.apply.Statement.{statement}
 use Rattle.roads.proofs.surfaces.apply.Tie as tie
-use Rattle.roads.proofs.surfaces.apply.Reads as reads
-use Rattle.roads.proofs.surfaces.apply.Lts as lts
-use Rattle.exact.proofs.SurfaceDerivatives.combinatorial_derivatives.Reads as combinatorial-derivatives-reads
-use Rattle.exact.proofs.SurfaceDerivatives.difference.Reads as difference-reads
-use Rattle.exact.proofs.SurfaceDerivatives.quotient.Reads as quotient-reads
-use Rattle.exact.proofs.SurfaceDerivatives.sum.Reads as sum-reads
 
 enum-told : tie.Need-enum-told
 enum-told c = search needs

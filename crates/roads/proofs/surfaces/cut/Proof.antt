@@ -1,17 +1,14 @@
 -- `roads::surfaces::cut` meets its contract. The invariant: the jets passed are in hand, at the order of work. Assumes nothing.
-use mathlib.Core.Path.{_≡_, refl, sym, ap, _∙_}
+use mathlib.Core.Path.{_≡_, refl, _∙_}
 use lib.ListN.{length, getD, length-set}
 use Rattle.roads.specs.Roads.{surfaces}
-use Prim.Native.Nat.{ℕ, suc, _+_, _-_, _≤_, _<_}
+use Prim.Native.Nat.{ℕ, _-_, _≤_, _<_}
 use native.Mathlib.Nat.{not-suc-le-zero}
 use native.Mathlib.Omega.{arith}
 use borrow.Author.Needs.{needs}
 use Rattle.roads.proofs.Tests.{written}
 use Rattle.roads.proofs.surfaces.cut.Statement.{statement}
 use Rattle.roads.proofs.surfaces.cut.Tie as tie
-use Rattle.roads.proofs.surfaces.cut.Reads as reads
-use Rattle.roads.proofs.surfaces.cut.Lts as lts
-use Rattle.roads.proofs.refused_surface.Reads as refused-surface-reads
 
 abbrev Inv-loop : tie.InvT-loop
 Inv-loop inputs order jets hand₀ i₀ hand i = (i ≤ inputs) × (length hand ≡ 16) × ((k : ℕ) → k < i → getD hand k (surfaces .blank) ≡ surfaces .cut order (getD jets k (surfaces .blank)))

@@ -1,14 +1,10 @@
 -- `roads::surfaces::orders` meets its contract. Assumes nothing.
-use mathlib.Core.Path.{_≡_, refl, sym, ap, _∙_}
-use Prim.Native.Nat.{ℕ, suc, _+_, _-_, _≤_, _<_}
-use native.Mathlib.Omega.{arith}
+use Prim.Native.Nat.{_-_}
 use borrow.Author.Needs.{needs}
 use Rattle.roads.specs.Roads.{surfaces}
 use Rattle.roads.proofs.Tests.{four-orders}
 use Rattle.roads.proofs.surfaces.orders.Statement.{statement}
 use Rattle.roads.proofs.surfaces.orders.Tie as tie
-use Rattle.roads.proofs.surfaces.orders.Reads as reads
-use Rattle.roads.proofs.surfaces.orders.Lts as lts
 
 array-copy-out-a : tie.Need-array-copy-out-a
 array-copy-out-a c = search needs
