@@ -1,13 +1,14 @@
 // Jets of surfaces of vectors.
 ghost use mathlib.Core.Path.{_≡_};
 ghost use mathlib.Core.Bool.{cond, _&&_};
-ghost use Prim.Native.Nat.{_≤_};
+ghost use Prim.Native.Nat.{ℕ, _+_, _≤_};
 ghost use Rattle.vectors.specs.Vectors.{multiple, cross};
-ghost use Rattle.calculus.specs.Surface.{sum as sums, difference as differences, productBy};
-ghost use Rattle.derivatives.specs.Answer.{surfaceNumbers, finiteSurface};
+ghost use Rattle.calculus.specs.Surface.{derivativeU, derivativeV, sum as sums, difference as differences, productBy};
+ghost use Rattle.derivatives.specs.Answer.{surfaceNumbers, finiteSurface, refusedSurface};
 ghost use Rattle.derivatives.specs.Vector.{vectors, vectorSurfaceNumbers, finiteVectorSurface};
 ghost use Rattle.derivatives.specs.VectorFormula.{vectorDivisionByZero};
-ghost use Rattle.derivatives.specs.VectorSurfaceAnswer.{refusedVectorSurface, madeVectorSurface, onVectorSurfaces, onWeightedSurface, bySurfaceVectors, bySurfaceWeights, vectorSurfaceQuotient, bySurfaceVectorEntries, bySurfaceWeightedEntries};
+ghost use Rattle.derivatives.specs.VectorSurfaceAnswer.{refusedVectorSurface, madeVectorSurface, madeSurface as made, vectorSurfaceDot, vectorSurfaceDerivative, onVectorSurfaces, onWeightedSurface, bySurfaceVectors, bySurfaceWeights, vectorSurfaceQuotient, bySurfaceVectorEntries, bySurfaceWeightedEntries};
+use crate::SurfaceAnswer;
 use crate::SurfaceDerivatives;
 use crate::VectorSurfaceAnswer;
 use crate::VectorSurfaceDerivatives;
@@ -120,7 +121,62 @@ fn on_weighted(
     returned(r, k)
 }
 
+fn returned_surface(a: [f64; 231], n: usize) -> SurfaceAnswer
+    requires { ⌜ n ≤ 20 ⌝ }
+    ensures { λ r. ⌜ r ≡ cond (finiteSurface (surfaceNumbers a) n) (made n a) (refusedSurface 10) ⌝ }
+{
+    if !crate::finite_surface(&a, n) {
+        return crate::refused_surface(10);
+    }
+    SurfaceAnswer {
+        refusal: 0,
+        jet: SurfaceDerivatives {
+            order: n,
+            entries: a,
+        },
+    }
+}
+
+// The derivative p times by u and q times by v, where p + q is 1.
+fn derivative(a: VectorSurfaceDerivatives, p: usize, q: usize) -> VectorSurfaceAnswer
+    requires { ⌜ p + q ≡ 1 ⌝ }
+    ensures { λ r. ⌜ r ≡ vectorSurfaceDerivative (λ s i j. s (i + p) (j + q)) a ⌝ }
+{
+    let n = a.order;
+    if 20 < n {
+        return refused(1);
+    }
+    if n == 0 {
+        return refused(2);
+    }
+    let x = a.entries;
+    if !vector_array::surface_finite(&x, n) {
+        return refused(5);
+    }
+    let k = n - 1;
+    let r = vector_surface_entries::shifted(&x, k, p, q);
+    VectorSurfaceAnswer {
+        refusal: 0,
+        jet: VectorSurfaceDerivatives {
+            order: k,
+            entries: r,
+        },
+    }
+}
+
 impl VectorSurfaceDerivatives {
+    pub fn derivative_u(self) -> VectorSurfaceAnswer
+        ensures { λ r. ⌜ r ≡ vectorSurfaceDerivative derivativeU self ⌝ }
+    {
+        derivative(self, 1, 0)
+    }
+
+    pub fn derivative_v(self) -> VectorSurfaceAnswer
+        ensures { λ r. ⌜ r ≡ vectorSurfaceDerivative derivativeV self ⌝ }
+    {
+        derivative(self, 0, 1)
+    }
+
     pub fn sum(self, other: VectorSurfaceDerivatives) -> VectorSurfaceAnswer
         ensures { λ r. ⌜ r ≡ onVectorSurfaces (bySurfaceVectors (sums vectors)) self other ⌝ }
     {
@@ -137,6 +193,24 @@ impl VectorSurfaceDerivatives {
         ensures { λ r. ⌜ r ≡ onWeightedSurface (bySurfaceWeights (productBy vectors multiple)) self other ⌝ }
     {
         on_weighted(VectorFormula::Scaled, self, other)
+    }
+
+    pub fn combinatorial_derivatives_dot(self, other: VectorSurfaceDerivatives) -> SurfaceAnswer
+        ensures { λ r. ⌜ r ≡ vectorSurfaceDot self other ⌝ }
+    {
+        let m = self.order;
+        let n = other.order;
+        if vector_array::far(m, n) {
+            return crate::refused_surface(1);
+        }
+        let k = crate::smaller(m, n);
+        let x = self.entries;
+        let y = other.entries;
+        if !both_finite(&x, &y, k) {
+            return crate::refused_surface(5);
+        }
+        let r = vector_surface_entries::dots(&x, &y, k);
+        returned_surface(r, k)
     }
 
     pub fn combinatorial_derivatives_cross(
