@@ -1,6 +1,7 @@
 -- The answer of a function on jets of surfaces of vectors, by the tests that led to it. Assumes nothing.
 use mathlib.Core.Path.{_≡_, refl, sym, ap, ap₂, _∙_, fun-ext}
-use mathlib.Core.Bool.{Bool, true, false, cond, _&&_}
+use mathlib.Core.Bool.{Bool, true, false, cond, _&&_, _||_}
+use lib.Dec.{ltb}
 use mathlib.Core.List.{List}
 use Prim.Native.Nat.{ℕ, suc, _+_, _*_, _/_, _-_, _≤_, _<_, min}
 use native.Mathlib.Nat.{add-zero}
@@ -10,6 +11,8 @@ use lib.Ieee.{Float}
 use borrow.Author.Tests.{lt-ltb, le-ltb, eq-eqb, ne-eqb}
 use Rattle.vectors.specs.declared.Vector3.{Vector3}
 use Rattle.calculus.specs.Graded.{triangle, graded}
+use Rattle.vectors.specs.declared.VectorAnswer.the-variants.{Refused}
+use Rattle.vectors.specs.Answers.{returnedVector}
 use Rattle.vectors.specs.Vectors.{dot}
 use Rattle.calculus.specs.Kind.{regular}
 use Rattle.calculus.specs.Surface.{productBy, derivativeU, derivativeV}
@@ -22,7 +25,7 @@ use Rattle.derivatives.specs.Answer.{curveNumbers, surfaceNumbers, allFi
 use Rattle.derivatives.specs.Real.{nil, real}
 use Rattle.derivatives.specs.Vector.{origin, vectorNumbers, vectorSurfaceNumbers, flat, vectorSurfaceArray, allVectorsFinite, finiteVectorSurface}
 use Rattle.derivatives.specs.VectorAnswer.{far}
-use Rattle.derivatives.specs.VectorSurfaceAnswer.{refusedVectorSurface, madeVectorSurface, madeSurface, answeredVectorSurface, returnedVectorSurface, vectorSurfaceDot, vectorSurfaceDerivative, onVectorSurfaces, onWeightedSurface}
+use Rattle.derivatives.specs.VectorSurfaceAnswer.{refusedVectorSurface, madeVectorSurface, madeSurface, answeredVectorSurface, returnedVectorSurface, vectorSurfaceDot, vectorSurfaceDerivative, onVectorSurfaces, onWeightedSurface, onVectorSurfacesAt, onWeightedSurfaceAt}
 use Rattle.derivatives.proofs.Finite.{count-is, surface-finite as float-surface-finite}
 use Rattle.derivatives.proofs.Answers.{filled-finite as float-filled-finite}
 use Rattle.derivatives.proofs.Vectors.{surface-finite, filled-finite}
@@ -121,3 +124,36 @@ pub by-v : (a : VectorSurfaceDerivatives) → vectorSurfaceDerivative (λ s i j.
 by-v a =
     ap (λ (op : (ℕ → ℕ → Vector3) → ℕ → ℕ → Vector3). vectorSurfaceDerivative op a)
     (fun-ext (λ s. fun-ext (λ i. fun-ext (λ j. ap₂ (λ (x y : ℕ). s x y) (add-zero i) (add-one j)))))
+
+-- ---- one entry
+module _ {R : Type 0} (refused : ℕ → R) (op : (ℕ → ℕ → Vector3) → (ℕ → ℕ → Vector3) → ℕ → ℕ → R) (a : VectorSurfaceDerivatives) (b : VectorSurfaceDerivatives) (m k : ℕ) where
+  pub two-far-at : (far (a .order) (b .order) || ltb 20 (m + k)) ≡ true → refused 1 ≡ onVectorSurfacesAt refused op a b m k
+  two-far-at e = rw e
+
+  module _ (e : (far (a .order) (b .order) || ltb 20 (m + k)) ≡ false) {n : ℕ} (q : n ≡ min (a .order) (b .order)) where
+    pub two-beyond : n < m + k → refused 2 ≡ onVectorSurfacesAt refused op a b m k
+    two-beyond l = rw (e, ← q, lt-ltb n (m + k) l)
+
+    pub two-infinite-at : m + k ≤ n → (finiteVectorSurface (vectorSurfaceNumbers (a .entries)) (m + k) && finiteVectorSurface (vectorSurfaceNumbers (b .entries)) (m + k)) ≡ false →
+        refused 5 ≡ onVectorSurfacesAt refused op a b m k
+    two-infinite-at l f = rw (e, ← q, le-ltb n (m + k) l, f)
+
+    pub two-worked-at : m + k ≤ n → (finiteVectorSurface (vectorSurfaceNumbers (a .entries)) (m + k) && finiteVectorSurface (vectorSurfaceNumbers (b .entries)) (m + k)) ≡ true →
+        op (vectorSurfaceNumbers (a .entries)) (vectorSurfaceNumbers (b .entries)) m k ≡ onVectorSurfacesAt refused op a b m k
+    two-worked-at l f = rw (e, ← q, le-ltb n (m + k) l, f)
+
+module _ (op : (ℕ → ℕ → Vector3) → (ℕ → ℕ → Float) → ℕ → ℕ → Vector3) (a : VectorSurfaceDerivatives) (b : SurfaceDerivatives) (m k : ℕ) where
+  pub weighted-far-at : (far (a .order) (b .order) || ltb 20 (m + k)) ≡ true → Refused 1 ≡ onWeightedSurfaceAt op a b m k
+  weighted-far-at e = rw e
+
+  module _ (e : (far (a .order) (b .order) || ltb 20 (m + k)) ≡ false) {n : ℕ} (q : n ≡ min (a .order) (b .order)) where
+    pub weighted-beyond : n < m + k → Refused 2 ≡ onWeightedSurfaceAt op a b m k
+    weighted-beyond l = rw (e, ← q, lt-ltb n (m + k) l)
+
+    pub weighted-infinite-at : m + k ≤ n → (finiteVectorSurface (vectorSurfaceNumbers (a .entries)) (m + k) && finiteSurface (surfaceNumbers (b .entries)) (m + k)) ≡ false →
+        Refused 5 ≡ onWeightedSurfaceAt op a b m k
+    weighted-infinite-at l f = rw (e, ← q, le-ltb n (m + k) l, f)
+
+    pub weighted-worked-at : m + k ≤ n → (finiteVectorSurface (vectorSurfaceNumbers (a .entries)) (m + k) && finiteSurface (surfaceNumbers (b .entries)) (m + k)) ≡ true →
+        returnedVector (op (vectorSurfaceNumbers (a .entries)) (surfaceNumbers (b .entries)) m k) ≡ onWeightedSurfaceAt op a b m k
+    weighted-worked-at l f = rw (e, ← q, le-ltb n (m + k) l, f)

@@ -1,11 +1,14 @@
 -- What a function on jets of surfaces of vectors answers: as for curves of vectors, with the entries up to the order. Assumes nothing.
-use mathlib.Core.Bool.{Bool, false, cond, _&&_}
+use mathlib.Core.Bool.{Bool, false, cond, _&&_, _||_}
 use mathlib.Core.List.{List}
-use Prim.Native.Nat.{ℕ, _-_, min}
+use Prim.Native.Nat.{ℕ, _+_, _-_, min}
 use lib.Dec.{ltb, eqb}
 use lib.ListN.{replicate}
 use lib.Ieee.{Float}
 use Rattle.vectors.specs.declared.Vector3.{Vector3}
+use Rattle.vectors.specs.declared.VectorAnswer.{VectorAnswer}
+use Rattle.vectors.specs.declared.VectorAnswer.the-variants.{Refused}
+use Rattle.vectors.specs.Answers.{returnedVector}
 use Rattle.vectors.specs.Vectors.{multiple, quotient, dot, cross}
 use Rattle.calculus.specs.Kind.{regular}
 use Rattle.calculus.specs.Rising.{risingRows}
@@ -88,6 +91,21 @@ vectorSurfaceDot a b =
     let y = vectorSurfaceNumbers (b .entries) in
     tested refusedSurface (far (a .order) (b .order)) false (finiteVectorSurface x n && finiteVectorSurface y n)
     (returnedSurface n (Surface.productBy (regular real) dot x y))
+
+-- ---- one entry of a formula, m times by u and n times by v: worked at the order m + n
+abbrev pub onVectorSurfacesAt : {R : Type 0} → (ℕ → R) → ((ℕ → ℕ → Vector3) → (ℕ → ℕ → Vector3) → ℕ → ℕ → R) → VectorSurfaceDerivatives → VectorSurfaceDerivatives → ℕ → ℕ → R
+onVectorSurfacesAt refused op a b m n =
+    let x = vectorSurfaceNumbers (a .entries) in
+    let y = vectorSurfaceNumbers (b .entries) in
+    tested refused (far (a .order) (b .order) || ltb 20 (m + n)) (ltb (min (a .order) (b .order)) (m + n))
+    (finiteVectorSurface x (m + n) && finiteVectorSurface y (m + n)) (op x y m n)
+
+abbrev pub onWeightedSurfaceAt : ((ℕ → ℕ → Vector3) → (ℕ → ℕ → Float) → ℕ → ℕ → Vector3) → VectorSurfaceDerivatives → SurfaceDerivatives → ℕ → ℕ → VectorAnswer
+onWeightedSurfaceAt op a b m n =
+    let x = vectorSurfaceNumbers (a .entries) in
+    let y = surfaceNumbers (b .entries) in
+    tested Refused (far (a .order) (b .order) || ltb 20 (m + n)) (ltb (min (a .order) (b .order)) (m + n))
+    (finiteVectorSurface x (m + n) && finiteSurface y (m + n)) (returnedVector (op x y m n))
 
 -- ---- a derivative has one order less
 abbrev pub vectorSurfaceDerivative : ((ℕ → ℕ → Vector3) → ℕ → ℕ → Vector3) → VectorSurfaceDerivatives → VectorSurfaceAnswer

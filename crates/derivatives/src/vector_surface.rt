@@ -1,13 +1,21 @@
 // Jets of surfaces of vectors.
 ghost use mathlib.Core.Path.{_≡_};
-ghost use mathlib.Core.Bool.{cond, _&&_};
+ghost use mathlib.Core.Bool.{cond, _&&_, _||_};
+ghost use lib.Dec.{ltb};
 ghost use Prim.Native.Nat.{ℕ, _+_, _≤_};
-ghost use Rattle.vectors.specs.Vectors.{multiple, cross};
+ghost use Rattle.vectors.specs.Vectors.{multiple, dot, cross};
+ghost use Rattle.ieee.specs.Answer.{returned as returnedReal};
+ghost use Rattle.ieee.specs.declared.Real.the-variants.{Refused as RealRefused};
+ghost use Rattle.vectors.specs.declared.VectorAnswer.the-variants.{Refused};
+ghost use Rattle.vectors.specs.Answers.{returnedVector};
+ghost use Rattle.calculus.specs.Kind.{regular};
+ghost use Rattle.derivatives.specs.Real.{real};
+ghost use Rattle.derivatives.specs.VectorAnswer.{far};
 ghost use Rattle.calculus.specs.Surface.{derivativeU, derivativeV, sum as sums, difference as differences, productBy};
 ghost use Rattle.derivatives.specs.Answer.{surfaceNumbers, finiteSurface, refusedSurface};
 ghost use Rattle.derivatives.specs.Vector.{vectors, vectorSurfaceNumbers, finiteVectorSurface};
 ghost use Rattle.derivatives.specs.VectorFormula.{vectorDivisionByZero};
-ghost use Rattle.derivatives.specs.VectorSurfaceAnswer.{refusedVectorSurface, madeVectorSurface, madeSurface as made, vectorSurfaceDot, vectorSurfaceDerivative, onVectorSurfaces, onWeightedSurface, bySurfaceVectors, bySurfaceWeights, vectorSurfaceQuotient, bySurfaceVectorEntries, bySurfaceWeightedEntries};
+ghost use Rattle.derivatives.specs.VectorSurfaceAnswer.{refusedVectorSurface, madeVectorSurface, madeSurface as made, vectorSurfaceDot, vectorSurfaceDerivative, onVectorSurfaces, onWeightedSurface, onVectorSurfacesAt, onWeightedSurfaceAt, bySurfaceVectors, bySurfaceWeights, vectorSurfaceQuotient, bySurfaceVectorEntries, bySurfaceWeightedEntries};
 use crate::SurfaceAnswer;
 use crate::SurfaceDerivatives;
 use crate::VectorSurfaceAnswer;
@@ -16,6 +24,8 @@ use crate::vector_array;
 use crate::vector_curve;
 use crate::vector_entries::VectorFormula;
 use crate::vector_surface_entries;
+use ieee::Real;
+use vectors::VectorAnswer;
 
 fn refused(c: u8) -> VectorSurfaceAnswer
     ensures { λ r. ⌜ r ≡ refusedVectorSurface c ⌝ }
@@ -137,6 +147,29 @@ fn returned_surface(a: [f64; 231], n: usize) -> SurfaceAnswer
     }
 }
 
+// Whether one of two orders, or m + n, is above 20.
+fn far_sum(m: usize, n: usize) -> bool
+    ensures { λ r. ⌜ r ≡ ltb 20 (m + n) ⌝ }
+{
+    if 20 < m {
+        return true;
+    }
+    if 20 < n {
+        return true;
+    }
+    20 < m + n
+}
+
+fn far_at(k: usize, l: usize, m: usize, n: usize) -> bool
+    ensures { λ r. ⌜ r ≡ (far k l || ltb 20 (m + n)) ⌝ }
+{
+    if vector_array::far(k, l) {
+        true
+    } else {
+        far_sum(m, n)
+    }
+}
+
 // The derivative p times by u and q times by v, where p + q is 1.
 fn derivative(a: VectorSurfaceDerivatives, p: usize, q: usize) -> VectorSurfaceAnswer
     requires { ⌜ p + q ≡ 1 ⌝ }
@@ -187,6 +220,87 @@ impl VectorSurfaceDerivatives {
         ensures { λ r. ⌜ r ≡ onVectorSurfaces (bySurfaceVectors (differences vectors)) self other ⌝ }
     {
         on_two(VectorFormula::Difference, self, other)
+    }
+
+    // One entry of the product of the vectors by floats.
+    pub fn combinatorial_derivative_scaled(
+        self,
+        other: SurfaceDerivatives,
+        m: usize,
+        n: usize,
+    ) -> VectorAnswer
+        ensures { λ r. ⌜ r ≡ onWeightedSurfaceAt (productBy vectors multiple) self other m n ⌝ }
+    {
+        let k = self.order;
+        let l = other.order;
+        if far_at(k, l, m, n) {
+            return VectorAnswer::Refused(1);
+        }
+        let o = m + n;
+        if crate::smaller(k, l) < o {
+            return VectorAnswer::Refused(2);
+        }
+        let x = self.entries;
+        let y = other.entries;
+        if !weighted_finite(&x, &y, o) {
+            return VectorAnswer::Refused(5);
+        }
+        let c = calculus::binomials();
+        vector_array::returned_vector(vector_surface_entries::scaled_entry(&x, &y, &c, m, n))
+    }
+
+    // One entry of the dot product.
+    pub fn combinatorial_derivative_dot(
+        self,
+        other: VectorSurfaceDerivatives,
+        m: usize,
+        n: usize,
+    ) -> Real
+        ensures { λ r. ⌜ r ≡ onVectorSurfacesAt RealRefused (λ x y i j. returnedReal (productBy (regular real) dot x y i j)) self other m n ⌝ }
+    {
+        let k = self.order;
+        let l = other.order;
+        if far_at(k, l, m, n) {
+            return Real::Refused(1);
+        }
+        let o = m + n;
+        if crate::smaller(k, l) < o {
+            return Real::Refused(2);
+        }
+        let x = self.entries;
+        let y = other.entries;
+        if !both_finite(&x, &y, o) {
+            return Real::Refused(5);
+        }
+        let c = calculus::binomials();
+        crate::returned(vector_surface_entries::dot_entry(&x, &y, &c, m, n))
+    }
+
+    // One entry of the cross product.
+    pub fn combinatorial_derivative_cross(
+        self,
+        other: VectorSurfaceDerivatives,
+        m: usize,
+        n: usize,
+    ) -> VectorAnswer
+        ensures { λ r. ⌜ r ≡ onVectorSurfacesAt Refused (λ x y i j. returnedVector (productBy vectors cross x y i j)) self other m n ⌝ }
+    {
+        let k = self.order;
+        let l = other.order;
+        if far_at(k, l, m, n) {
+            return VectorAnswer::Refused(1);
+        }
+        let o = m + n;
+        if crate::smaller(k, l) < o {
+            return VectorAnswer::Refused(2);
+        }
+        let x = self.entries;
+        let y = other.entries;
+        if !both_finite(&x, &y, o) {
+            return VectorAnswer::Refused(5);
+        }
+        let c = calculus::binomials();
+        vector_array::returned_vector(vector_surface_entries::cross_entry(&x, &y, &c, m, n))
     }
 
     pub fn combinatorial_derivatives_scaled(self, other: SurfaceDerivatives) -> VectorSurfaceAnswer
