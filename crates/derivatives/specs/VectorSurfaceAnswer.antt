@@ -1,11 +1,14 @@
 -- What a function on jets of surfaces of vectors answers: as for curves of vectors, with the entries up to the order. Assumes nothing.
 use mathlib.Core.Bool.{Bool, false, cond, _&&_, _||_}
 use mathlib.Core.List.{List}
-use Prim.Native.Nat.{ℕ, suc, _+_, _-_, min}
+use Prim.Native.Nat.{ℕ, _+_, _-_, min}
 use lib.Dec.{ltb, eqb}
 use lib.ListN.{replicate}
 use lib.Ieee.{Float}
 use Rattle.vectors.specs.declared.Vector3.{Vector3}
+use Rattle.vectors.specs.declared.VectorAnswer.{VectorAnswer}
+use Rattle.vectors.specs.declared.VectorAnswer.the-variants.{Refused}
+use Rattle.vectors.specs.Answers.{returnedVector}
 use Rattle.vectors.specs.Vectors.{multiple, quotient, dot, cross}
 use Rattle.calculus.specs.Kind.{regular}
 use Rattle.calculus.specs.Rising.{risingRows}
@@ -18,7 +21,7 @@ use Rattle.derivatives.specs.declared.vector_entries.VectorFormula.{Vect
 use Rattle.derivatives.specs.declared.vector_entries.VectorFormula.the-variants as vector
 use Rattle.derivatives.specs.Real.{nil, real, isZero}
 use Rattle.derivatives.specs.Rational.{surfaceRational, surfaceRationalEntry}
-use Rattle.derivatives.specs.Answer.{surfaceNumbers, finiteSurface, returnedSurface}
+use Rattle.derivatives.specs.Answer.{surfaceNumbers, finiteSurface, refusedSurface, returnedSurface}
 use Rattle.derivatives.specs.Vector.{origin, vectors, vectorSurfaceNumbers, vectorSurfaceArray, finiteVectorSurface}
 use Rattle.derivatives.specs.VectorAnswer.{tested, far}
 use Rattle.derivatives.specs.VectorFormula.{vectorDivisionByZero}
@@ -29,6 +32,9 @@ refusedVectorSurface c = record { refusal = c; jet = record { order = 0; entries
 
 abbrev pub madeVectorSurface : ℕ → List Float → VectorSurfaceAnswer
 madeVectorSurface n l = record { refusal = 0; jet = record { order = n; entries = l } }
+
+abbrev pub madeSurface : ℕ → List Float → SurfaceAnswer
+madeSurface n l = record { refusal = 0; jet = record { order = n; entries = l } }
 
 abbrev pub answeredVectorSurface : ℕ → (ℕ → ℕ → Vector3) → VectorSurfaceAnswer
 answeredVectorSurface n s = madeVectorSurface n (vectorSurfaceArray s n)
@@ -76,3 +82,33 @@ bySurfaceVectorEntries f x y n = returnedVectorSurface n (risingRows origin (vec
 abbrev pub bySurfaceWeightedEntries : VectorFormula → (ℕ → ℕ → Vector3) → (ℕ → ℕ → Float) → ℕ → VectorSurfaceAnswer
 bySurfaceWeightedEntries f x w n =
     cond (vectorDivisionByZero f (w 0 0)) (refusedVectorSurface 7) (returnedVectorSurface n (risingRows origin (vectorSurfaceFormula f x x w)))
+
+-- the dot product, whose entries are floats
+abbrev pub vectorSurfaceDot : VectorSurfaceDerivatives → VectorSurfaceDerivatives → SurfaceAnswer
+vectorSurfaceDot a b =
+    let n = min (a .order) (b .order) in
+    let x = vectorSurfaceNumbers (a .entries) in
+    let y = vectorSurfaceNumbers (b .entries) in
+    tested refusedSurface (far (a .order) (b .order)) false (finiteVectorSurface x n && finiteVectorSurface y n)
+    (returnedSurface n (Surface.productBy (regular real) dot x y))
+
+-- ---- one entry of a formula, m times by u and n times by v: worked at the order m + n
+abbrev pub onVectorSurfacesAt : {R : Type 0} → (ℕ → R) → ((ℕ → ℕ → Vector3) → (ℕ → ℕ → Vector3) → ℕ → ℕ → R) → VectorSurfaceDerivatives → VectorSurfaceDerivatives → ℕ → ℕ → R
+onVectorSurfacesAt refused op a b m n =
+    let x = vectorSurfaceNumbers (a .entries) in
+    let y = vectorSurfaceNumbers (b .entries) in
+    tested refused (far (a .order) (b .order) || ltb 20 (m + n)) (ltb (min (a .order) (b .order)) (m + n))
+    (finiteVectorSurface x (m + n) && finiteVectorSurface y (m + n)) (op x y m n)
+
+abbrev pub onWeightedSurfaceAt : ((ℕ → ℕ → Vector3) → (ℕ → ℕ → Float) → ℕ → ℕ → Vector3) → VectorSurfaceDerivatives → SurfaceDerivatives → ℕ → ℕ → VectorAnswer
+onWeightedSurfaceAt op a b m n =
+    let x = vectorSurfaceNumbers (a .entries) in
+    let y = surfaceNumbers (b .entries) in
+    tested Refused (far (a .order) (b .order) || ltb 20 (m + n)) (ltb (min (a .order) (b .order)) (m + n))
+    (finiteVectorSurface x (m + n) && finiteSurface y (m + n)) (returnedVector (op x y m n))
+
+-- ---- a derivative has one order less
+abbrev pub vectorSurfaceDerivative : ((ℕ → ℕ → Vector3) → ℕ → ℕ → Vector3) → VectorSurfaceDerivatives → VectorSurfaceAnswer
+vectorSurfaceDerivative op a =
+    let x = vectorSurfaceNumbers (a .entries) in
+    tested refusedVectorSurface (ltb 20 (a .order)) (eqb (a .order) 0) (finiteVectorSurface x (a .order)) (answeredVectorSurface (a .order - 1) (op x))

@@ -1,13 +1,22 @@
 // Jets of surfaces of vectors.
 ghost use mathlib.Core.Path.{_≡_};
-ghost use mathlib.Core.Bool.{cond, _&&_};
-ghost use Prim.Native.Nat.{_≤_};
-ghost use Rattle.vectors.specs.Vectors.{multiple, cross};
-ghost use Rattle.calculus.specs.Surface.{sum as sums, difference as differences, productBy};
-ghost use Rattle.derivatives.specs.Answer.{surfaceNumbers, finiteSurface};
+ghost use mathlib.Core.Bool.{cond, _&&_, _||_};
+ghost use lib.Dec.{ltb};
+ghost use Prim.Native.Nat.{ℕ, _+_, _≤_};
+ghost use Rattle.vectors.specs.Vectors.{multiple, dot, cross};
+ghost use Rattle.ieee.specs.Answer.{returned as returnedReal};
+ghost use Rattle.ieee.specs.declared.Real.the-variants.{Refused as RealRefused};
+ghost use Rattle.vectors.specs.declared.VectorAnswer.the-variants.{Refused};
+ghost use Rattle.vectors.specs.Answers.{returnedVector};
+ghost use Rattle.calculus.specs.Kind.{regular};
+ghost use Rattle.derivatives.specs.Real.{real};
+ghost use Rattle.derivatives.specs.VectorAnswer.{far};
+ghost use Rattle.calculus.specs.Surface.{derivativeU, derivativeV, sum as sums, difference as differences, productBy};
+ghost use Rattle.derivatives.specs.Answer.{surfaceNumbers, finiteSurface, refusedSurface};
 ghost use Rattle.derivatives.specs.Vector.{vectors, vectorSurfaceNumbers, finiteVectorSurface};
 ghost use Rattle.derivatives.specs.VectorFormula.{vectorDivisionByZero};
-ghost use Rattle.derivatives.specs.VectorSurfaceAnswer.{refusedVectorSurface, madeVectorSurface, onVectorSurfaces, onWeightedSurface, bySurfaceVectors, bySurfaceWeights, vectorSurfaceQuotient, bySurfaceVectorEntries, bySurfaceWeightedEntries};
+ghost use Rattle.derivatives.specs.VectorSurfaceAnswer.{refusedVectorSurface, madeVectorSurface, madeSurface as made, vectorSurfaceDot, vectorSurfaceDerivative, onVectorSurfaces, onWeightedSurface, onVectorSurfacesAt, onWeightedSurfaceAt, bySurfaceVectors, bySurfaceWeights, vectorSurfaceQuotient, bySurfaceVectorEntries, bySurfaceWeightedEntries};
+use crate::SurfaceAnswer;
 use crate::SurfaceDerivatives;
 use crate::VectorSurfaceAnswer;
 use crate::VectorSurfaceDerivatives;
@@ -15,6 +24,8 @@ use crate::vector_array;
 use crate::vector_curve;
 use crate::vector_entries::VectorFormula;
 use crate::vector_surface_entries;
+use ieee::Real;
+use vectors::VectorAnswer;
 
 fn refused(c: u8) -> VectorSurfaceAnswer
     ensures { λ r. ⌜ r ≡ refusedVectorSurface c ⌝ }
@@ -120,7 +131,85 @@ fn on_weighted(
     returned(r, k)
 }
 
+fn returned_surface(a: [f64; 231], n: usize) -> SurfaceAnswer
+    requires { ⌜ n ≤ 20 ⌝ }
+    ensures { λ r. ⌜ r ≡ cond (finiteSurface (surfaceNumbers a) n) (made n a) (refusedSurface 10) ⌝ }
+{
+    if !crate::finite_surface(&a, n) {
+        return crate::refused_surface(10);
+    }
+    SurfaceAnswer {
+        refusal: 0,
+        jet: SurfaceDerivatives {
+            order: n,
+            entries: a,
+        },
+    }
+}
+
+// Whether one of two orders, or m + n, is above 20.
+fn far_sum(m: usize, n: usize) -> bool
+    ensures { λ r. ⌜ r ≡ ltb 20 (m + n) ⌝ }
+{
+    if 20 < m {
+        return true;
+    }
+    if 20 < n {
+        return true;
+    }
+    20 < m + n
+}
+
+fn far_at(k: usize, l: usize, m: usize, n: usize) -> bool
+    ensures { λ r. ⌜ r ≡ (far k l || ltb 20 (m + n)) ⌝ }
+{
+    if vector_array::far(k, l) {
+        true
+    } else {
+        far_sum(m, n)
+    }
+}
+
+// The derivative p times by u and q times by v, where p + q is 1.
+fn derivative(a: VectorSurfaceDerivatives, p: usize, q: usize) -> VectorSurfaceAnswer
+    requires { ⌜ p + q ≡ 1 ⌝ }
+    ensures { λ r. ⌜ r ≡ vectorSurfaceDerivative (λ s i j. s (i + p) (j + q)) a ⌝ }
+{
+    let n = a.order;
+    if 20 < n {
+        return refused(1);
+    }
+    if n == 0 {
+        return refused(2);
+    }
+    let x = a.entries;
+    if !vector_array::surface_finite(&x, n) {
+        return refused(5);
+    }
+    let k = n - 1;
+    let r = vector_surface_entries::shifted(&x, k, p, q);
+    VectorSurfaceAnswer {
+        refusal: 0,
+        jet: VectorSurfaceDerivatives {
+            order: k,
+            entries: r,
+        },
+    }
+}
+
 impl VectorSurfaceDerivatives {
+    pub fn derivative_u(self) -> VectorSurfaceAnswer
+        ensures { λ r. ⌜ r ≡ vectorSurfaceDerivative derivativeU self ⌝ }
+    {
+        derivative(self, 1, 0)
+    }
+
+    pub fn derivative_v(self) -> VectorSurfaceAnswer
+        ensures { λ r. ⌜ r ≡ vectorSurfaceDerivative derivativeV self ⌝ }
+    {
+        derivative(self, 0, 1)
+    }
+
     pub fn sum(self, other: VectorSurfaceDerivatives) -> VectorSurfaceAnswer
         ensures { λ r. ⌜ r ≡ onVectorSurfaces (bySurfaceVectors (sums vectors)) self other ⌝ }
     {
@@ -133,10 +222,109 @@ impl VectorSurfaceDerivatives {
         on_two(VectorFormula::Difference, self, other)
     }
 
+    // One entry of the product of the vectors by floats.
+    pub fn combinatorial_derivative_scaled(
+        self,
+        other: SurfaceDerivatives,
+        m: usize,
+        n: usize,
+    ) -> VectorAnswer
+        ensures { λ r. ⌜ r ≡ onWeightedSurfaceAt (productBy vectors multiple) self other m n ⌝ }
+    {
+        let k = self.order;
+        let l = other.order;
+        if far_at(k, l, m, n) {
+            return VectorAnswer::Refused(1);
+        }
+        let o = m + n;
+        if crate::smaller(k, l) < o {
+            return VectorAnswer::Refused(2);
+        }
+        let x = self.entries;
+        let y = other.entries;
+        if !weighted_finite(&x, &y, o) {
+            return VectorAnswer::Refused(5);
+        }
+        let c = calculus::binomials();
+        vector_array::returned_vector(vector_surface_entries::scaled_entry(&x, &y, &c, m, n))
+    }
+
+    // One entry of the dot product.
+    pub fn combinatorial_derivative_dot(
+        self,
+        other: VectorSurfaceDerivatives,
+        m: usize,
+        n: usize,
+    ) -> Real
+        ensures { λ r. ⌜ r ≡ onVectorSurfacesAt RealRefused (λ x y i j. returnedReal (productBy (regular real) dot x y i j)) self other m n ⌝ }
+    {
+        let k = self.order;
+        let l = other.order;
+        if far_at(k, l, m, n) {
+            return Real::Refused(1);
+        }
+        let o = m + n;
+        if crate::smaller(k, l) < o {
+            return Real::Refused(2);
+        }
+        let x = self.entries;
+        let y = other.entries;
+        if !both_finite(&x, &y, o) {
+            return Real::Refused(5);
+        }
+        let c = calculus::binomials();
+        crate::returned(vector_surface_entries::dot_entry(&x, &y, &c, m, n))
+    }
+
+    // One entry of the cross product.
+    pub fn combinatorial_derivative_cross(
+        self,
+        other: VectorSurfaceDerivatives,
+        m: usize,
+        n: usize,
+    ) -> VectorAnswer
+        ensures { λ r. ⌜ r ≡ onVectorSurfacesAt Refused (λ x y i j. returnedVector (productBy vectors cross x y i j)) self other m n ⌝ }
+    {
+        let k = self.order;
+        let l = other.order;
+        if far_at(k, l, m, n) {
+            return VectorAnswer::Refused(1);
+        }
+        let o = m + n;
+        if crate::smaller(k, l) < o {
+            return VectorAnswer::Refused(2);
+        }
+        let x = self.entries;
+        let y = other.entries;
+        if !both_finite(&x, &y, o) {
+            return VectorAnswer::Refused(5);
+        }
+        let c = calculus::binomials();
+        vector_array::returned_vector(vector_surface_entries::cross_entry(&x, &y, &c, m, n))
+    }
+
     pub fn combinatorial_derivatives_scaled(self, other: SurfaceDerivatives) -> VectorSurfaceAnswer
         ensures { λ r. ⌜ r ≡ onWeightedSurface (bySurfaceWeights (productBy vectors multiple)) self other ⌝ }
     {
         on_weighted(VectorFormula::Scaled, self, other)
+    }
+
+    pub fn combinatorial_derivatives_dot(self, other: VectorSurfaceDerivatives) -> SurfaceAnswer
+        ensures { λ r. ⌜ r ≡ vectorSurfaceDot self other ⌝ }
+    {
+        let m = self.order;
+        let n = other.order;
+        if vector_array::far(m, n) {
+            return crate::refused_surface(1);
+        }
+        let k = crate::smaller(m, n);
+        let x = self.entries;
+        let y = other.entries;
+        if !both_finite(&x, &y, k) {
+            return crate::refused_surface(5);
+        }
+        let r = vector_surface_entries::dots(&x, &y, k);
+        returned_surface(r, k)
     }
 
     pub fn combinatorial_derivatives_cross(

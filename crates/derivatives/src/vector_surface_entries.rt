@@ -1,12 +1,14 @@
 // The loops that form the entries of jets of surfaces of vectors. Each `requires` is met by the callers.
 ghost use mathlib.Core.Path.{_≡_};
 ghost use Prim.Native.Nat.{ℕ, suc, _+_, _*_, _≤_};
-ghost use Rattle.vectors.specs.Vectors.{multiple, quotient, cross};
+ghost use Rattle.vectors.specs.Vectors.{multiple, quotient, dot, cross};
+ghost use Rattle.calculus.specs.Kind.{regular};
 ghost use Rattle.calculus.specs.InTurn.{inTurn};
 ghost use Rattle.calculus.specs.Rising.{risingRows};
+ghost use Rattle.calculus.specs.Array.{surfaceArray};
 ghost use Rattle.calculus.specs.Choose.{choose, binomialTable};
 ghost use Rattle.calculus.specs.Surface.{leibniz, productBy};
-ghost use Rattle.derivatives.specs.Real.{real};
+ghost use Rattle.derivatives.specs.Real.{nil, real};
 ghost use Rattle.derivatives.specs.Rational.{surfaceRationalTerm, surfaceRationalEntry};
 ghost use Rattle.derivatives.specs.Answer.{surfaceNumbers};
 ghost use Rattle.derivatives.specs.Vector.{origin, vectors, vectorSurfaceNumbers, vectorSurfaceArray};
@@ -59,6 +61,25 @@ fn cross_term(
     let y = surface_at(b, m - i, n - j);
     let p = x.cross(y);
     p.mul(k)
+}
+
+fn dot_term(
+    a: &[f64; 693],
+    b: &[f64; 693],
+    c: &[u32; 231],
+    m: usize,
+    n: usize,
+    i: usize,
+    j: usize,
+) -> f64
+    requires { ⌜ (i ≤ m) × (j ≤ n) × (m + n ≤ 20) × (now c ≡ binomialTable) ⌝ }
+    ensures { λ r. ⌜ r ≡ leibniz (regular real) dot (vectorSurfaceNumbers (now (a .entry))) (vectorSurfaceNumbers (now (b .entry))) m n i j ⌝ }
+{
+    let k = coefficient(c, m, n, i, j);
+    let x = surface_at(a, i, j);
+    let y = surface_at(b, m - i, n - j);
+    let p = x.dot(y);
+    p * k
 }
 
 fn scaled_term(
@@ -282,6 +303,88 @@ pub fn entries(
         r[p] = e.x;
         r[p + 1] = e.y;
         r[p + 2] = e.z;
+        j += 1;
+        if n < i + j {
+            i += 1;
+            j = 0;
+        }
+    }
+    r
+}
+
+// The terms of one i, j rising, added to a sum.
+fn dot_row(
+    start: f64,
+    a: &[f64; 693],
+    b: &[f64; 693],
+    c: &[u32; 231],
+    m: usize,
+    n: usize,
+    i: usize,
+) -> f64
+    requires { ⌜ (i ≤ m) × (m + n ≤ 20) × (now c ≡ binomialTable) ⌝ }
+    ensures { λ r. ⌜ r ≡ inTurn (real .plus) start (leibniz (regular real) dot (vectorSurfaceNumbers (now (a .entry))) (vectorSurfaceNumbers (now (b .entry))) m n i) (suc n) ⌝ }
+{
+    let mut sum = start;
+    let mut j = 0;
+    while j <= n {
+        let t = dot_term(a, b, c, m, n, i, j);
+        sum = sum + t;
+        j += 1;
+    }
+    sum
+}
+
+pub fn dot_entry(a: &[f64; 693], b: &[f64; 693], c: &[u32; 231], m: usize, n: usize) -> f64
+    requires { ⌜ (m + n ≤ 20) × (now c ≡ binomialTable) ⌝ }
+    ensures { λ r. ⌜ r ≡ productBy (regular real) dot (vectorSurfaceNumbers (now (a .entry))) (vectorSurfaceNumbers (now (b .entry))) m n ⌝ }
+{
+    let mut sum = 0.0f64;
+    let mut i = 0;
+    while i <= m {
+        sum = dot_row(sum, a, b, c, m, n, i);
+        i += 1;
+    }
+    sum
+}
+
+// The dot product's entries up to the order n, and zeros past them.
+pub fn dots(a: &[f64; 693], b: &[f64; 693], n: usize) -> [f64; 231]
+    requires { ⌜ n ≤ 20 ⌝ }
+    ensures { λ r. ⌜ r ≡ surfaceArray nil (productBy (regular real) dot (vectorSurfaceNumbers (now (a .entry))) (vectorSurfaceNumbers (now (b .entry)))) n ⌝ }
+{
+    let c = calculus::binomials();
+    let mut r = [0.0f64; 231];
+    let mut i = 0;
+    let mut j = 0;
+    while i <= n {
+        let e = dot_entry(a, b, &c, i, j);
+        let k = crate::index(i, j);
+        r[k] = e;
+        j += 1;
+        if n < i + j {
+            i += 1;
+            j = 0;
+        }
+    }
+    r
+}
+
+// The derivative p times by u and q times by v, of the order n.
+pub fn shifted(a: &[f64; 693], n: usize, p: usize, q: usize) -> [f64; 693]
+    requires { ⌜ n + (p + q) ≤ 20 ⌝ }
+    ensures { λ r. ⌜ r ≡ vectorSurfaceArray (λ i j. vectorSurfaceNumbers (now (a .entry)) (i + p) (j + q)) n ⌝ }
+{
+    let mut r = [0.0f64; 693];
+    let mut i = 0;
+    let mut j = 0;
+    while i <= n {
+        let e = surface_at(a, i + p, j + q);
+        let k = crate::index(i, j);
+        let o = 3 * k;
+        r[o] = e.x;
+        r[o + 1] = e.y;
+        r[o + 2] = e.z;
         j += 1;
         if n < i + j {
             i += 1;

@@ -1,0 +1,28 @@
+-- `derivatives::vector_surface::far_sum` meets its contract. Assumes nothing.
+use borrow.Author.Tests.{lt-ltb}
+use borrow.Author.Needs.{needs}
+use denote.Ref.{now}
+use mathlib.Core.Path.{_≡_, refl, sym, ap, ap₂, _∙_}
+use Prim.Native.Nat.{ℕ, suc, _+_, _-_, _*_, _≤_, _<_}
+use native.Mathlib.Omega.{arith}
+use Rattle.derivatives.proofs.vector_surface.far_sum.Statement.{statement}
+use Rattle.derivatives.proofs.vector_surface.far_sum.Tie as tie
+use Rattle.derivatives.proofs.vector_surface.far_sum.Reads as reads
+use Rattle.derivatives.proofs.vector_surface.far_sum.Lts as lts
+
+returns : tie.Need-returns
+returns c = let s = c .before .args in
+    sym (lt-ltb 20 (s .m + s .n) (omega arith))
+
+returns-2 : tie.Need-returns-2
+returns-2 c = let s = c .before .before .args in
+    sym (lt-ltb 20 (s .m + s .n) (omega arith))
+
+add-result : tie.Need-add-result
+add-result c = search needs
+
+returns-3 : tie.Need-returns-3
+returns-3 c = refl
+
+pub far-sum-spec : {M : Type 1} → statement M
+far-sum-spec = tie.close (tie.spec returns returns-2 add-result returns-3)

@@ -1,0 +1,60 @@
+-- `derivatives::vector_surface_entries::dot_row` meets its contract. Assumes nothing.
+use Rattle.derivatives.proofs.Terms.{one-more, one-row-more}
+use Rattle.calculus.specs.InTurn.{inTurn, inRows}
+use Rattle.calculus.specs.Surface.{leibniz}
+use Rattle.derivatives.specs.Vector.{origin, vectors, vectorNumbers, vectorSurfaceNumbers}
+use Rattle.derivatives.specs.Real.{nil, real}
+use Rattle.derivatives.specs.Answer.{surfaceNumbers}
+use Rattle.vectors.specs.Vectors.{sum, difference, multiple, quotient, dot, cross}
+use Rattle.calculus.specs.Kind.{regular}
+use borrow.Author.Needs.{needs}
+use denote.Ref.{now}
+use native.Mathlib.Numerals.{add-one}
+use mathlib.Core.Path.{_≡_, refl, sym, ap, ap₂, _∙_}
+use Prim.Native.Nat.{ℕ, suc, _+_, _-_, _*_, _≤_, _<_}
+use native.Mathlib.Omega.{arith}
+use Rattle.derivatives.proofs.vector_surface_entries.dot_row.Statement.{statement}
+use Rattle.derivatives.proofs.vector_surface_entries.dot_row.Tie as tie
+use Rattle.derivatives.proofs.vector_surface_entries.dot_row.Reads as reads
+use Rattle.derivatives.proofs.vector_surface_entries.dot_row.Lts as lts
+use Rattle.derivatives.proofs.vector_surface_entries.dot_term.Reads as dot-term-reads
+
+abbrev Inv-loop : tie.InvT-loop
+Inv-loop start a b c m n i sum₀ j₀ sum j = (sum ≡ inTurn (real .plus) start (leibniz (regular real) dot (vectorSurfaceNumbers a) (vectorSurfaceNumbers b) m n i) j) × (j ≤ suc n)
+
+abbrev μ-loop : tie.MeasureT-loop
+μ-loop start a b c m n i sum₀ j₀ sum j = suc n - j
+
+loop-holds : tie.Need-loop-holds Inv-loop μ-loop
+unfolding inTurn
+loop-holds c = (refl, omega arith)
+
+dot-term-requires : tie.Need-dot-term-requires Inv-loop μ-loop
+dot-term-requires c κs = search needs
+
+add-j : tie.Need-add-j Inv-loop μ-loop
+add-j c = search needs
+
+loop-less : tie.Need-loop-less Inv-loop μ-loop
+loop-less c = search needs
+
+loop-again : tie.Need-loop-again Inv-loop μ-loop
+loop-again c = (one-more (real .plus) (c .before .before .before .args .start) _ (c .before .before .loop .inv .0) (c .dot-term .ensures) (add-one (c .before .before .loop .j)), omega arith)
+
+returns : tie.Need-returns Inv-loop μ-loop
+returns c = let s = c .before .before .args in
+    let e : c .before .loop .j ≡ suc (s .n) = omega arith in
+    c .before .loop .inv .0 ∙ ap (inTurn (real .plus) (s .start) (leibniz (regular real) dot (vectorSurfaceNumbers (now (s .a))) (vectorSurfaceNumbers (now (s .b))) (s .m) (s .n) (s .i))) e
+
+pub dot-row-spec : {M : Type 1} → statement M
+dot-row-spec =
+    tie.close
+    (tie.spec
+    Inv-loop
+    μ-loop
+    loop-holds
+    dot-term-requires
+    add-j
+    loop-less
+    loop-again
+    returns)

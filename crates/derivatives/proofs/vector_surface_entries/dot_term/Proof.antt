@@ -1,0 +1,42 @@
+-- `derivatives::vector_surface_entries::dot_term` meets its contract. Assumes nothing.
+use Rattle.derivatives.specs.Vector.{origin, vectors, vectorNumbers, vectorSurfaceNumbers}
+use Rattle.derivatives.specs.Real.{nil, real}
+use Rattle.derivatives.specs.Answer.{surfaceNumbers}
+use Rattle.vectors.specs.Vectors.{sum, difference, multiple, quotient, dot, cross}
+use Rattle.calculus.specs.Kind.{regular}
+use borrow.Author.Needs.{needs}
+use denote.Ref.{now}
+use mathlib.Core.Path.{_≡_, refl, sym, ap, ap₂, _∙_}
+use Prim.Native.Nat.{ℕ, suc, _+_, _-_, _*_, _≤_, _<_}
+use native.Mathlib.Omega.{arith}
+use Rattle.derivatives.proofs.vector_surface_entries.dot_term.Statement.{statement}
+use Rattle.derivatives.proofs.vector_surface_entries.dot_term.Tie as tie
+use Rattle.derivatives.proofs.vector_surface_entries.dot_term.Reads as reads
+use Rattle.derivatives.proofs.vector_surface_entries.dot_term.Lts as lts
+use Rattle.derivatives.proofs.vector_surface_entries.coefficient.Reads as coefficient-reads
+use Rattle.derivatives.proofs.vector_surface_entries.surface_at.Reads as surface-at-reads
+use Rattle.vectors.proofs.Vector3.dot.Reads as dot-reads
+
+coefficient-requires : tie.Need-coefficient-requires
+coefficient-requires c κs = search needs
+
+surface-at-requires : tie.Need-surface-at-requires
+surface-at-requires c κs = search needs
+
+sub-surface-at : tie.Need-sub-surface-at
+sub-surface-at c = search needs
+
+sub-surface-at-2 : tie.Need-sub-surface-at-2
+sub-surface-at-2 c = search needs
+
+surface-at-requires-2 : tie.Need-surface-at-requires-2
+surface-at-requires-2 c κs = search needs
+
+dot-requires : tie.Need-dot-requires
+dot-requires c κs = search needs
+
+returns : tie.Need-returns
+returns c = ap₂ (real .times) (c .dot .ensures ∙ ap₂ dot (c .before .before .surface-at .ensures) (c .before .surface-at2 .ensures)) (c .before .before .before .coefficient .ensures)
+
+pub dot-term-spec : {M : Type 1} → statement M
+dot-term-spec = tie.close (tie.spec coefficient-requires surface-at-requires sub-surface-at sub-surface-at-2 surface-at-requires-2 dot-requires returns)
