@@ -227,6 +227,11 @@ a = (2, Zeros({(0, 0): 1, (2, 0): big, (0, 2): big}))
 b = (2, Zeros({(0, 0): 1, (2, 0): big - 3, (0, 2): big - 1}))
 roads(2, [a, b], 1, [(1, 0, 1)], (2, Zeros({1: 3, 2: 1}), Zeros({1: 2})), 2)
 roads(2, [a, b], 2, [(1, 0, 1), (0, 2, 2)], (2, Zeros({1: 3, 2: 1}), Zeros({1: 2})), 2)
+for _ in range(40):
+    order = rng.randint(1, 3)
+    far = jet(2, order, 2 ** rng.randint(57, 62), 1)
+    near = (order, Zeros({k: z - rng.randint(-3, 3) for k, z in far[1].items()}))
+    roads(2, [far, near], 2, [(1, 0, 1), (rng.choice([0, 1, 2]), 2, 2)], curve(order, 9), rng.randint(1, order))
 # an input that no step names decides the order, and one that no step names is refused when it is carried
 roads(2, [jet(2, 3, 2), jet(2, 1, 2)], 1, [(2, 0, 0)], curve(3, 2), 1)
 roads(2, [jet(2, 3, 2), jet(2, 1, 2)], 1, [(2, 0, 0)], curve(3, 2), 2)
