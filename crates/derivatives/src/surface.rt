@@ -20,7 +20,7 @@ use crate::SurfaceAnswer;
 use crate::SurfaceDerivatives;
 use ieee::Real;
 
-fn leibniz_term(
+pub fn leibniz_term(
     a: &[f64; 231],
     b: &[f64; 231],
     c: &[u32; 231],

@@ -15,6 +15,7 @@ ghost use Rattle.calculus.specs.Surface.{derivativeU, derivativeV, sum as sums,
 ghost use Rattle.derivatives.specs.Answer.{surfaceNumbers, finiteSurface, refusedSurface};
 ghost use Rattle.derivatives.specs.Vector.{vectors, vectorSurfaceNumbers, finiteVectorSurface};
 ghost use Rattle.derivatives.specs.VectorFormula.{vectorDivisionByZero};
+ghost use Rattle.derivatives.specs.VectorSurfaceNorm.{vectorSurfaceAbsolute};
 ghost use Rattle.derivatives.specs.VectorSurfaceAnswer.{refusedVectorSurface, madeVectorSurface, madeSurface as made, vectorSurfaceDot, vectorSurfaceDerivative, onVectorSurfaces, onWeightedSurface, onVectorSurfacesAt, onWeightedSurfaceAt, bySurfaceVectors, bySurfaceWeights, vectorSurfaceQuotient, bySurfaceVectorEntries, bySurfaceWeightedEntries};
 use crate::SurfaceAnswer;
 use crate::SurfaceDerivatives;
@@ -24,6 +25,7 @@ use crate::vector_array;
 use crate::vector_curve;
 use crate::vector_entries::VectorFormula;
 use crate::vector_surface_entries;
+use crate::vector_surface_norm;
 use ieee::Real;
 use vectors::VectorAnswer;
 
@@ -341,5 +343,25 @@ impl VectorSurfaceDerivatives {
         ensures { λ r. ⌜ r ≡ onWeightedSurface vectorSurfaceQuotient self weights ⌝ }
     {
         on_weighted(VectorFormula::Rational, self, weights)
+    }
+
+    // The norm.
+    pub fn absolute_derivatives(self) -> SurfaceAnswer
+        ensures { λ r. ⌜ r ≡ vectorSurfaceAbsolute self ⌝ }
+    {
+        let n = self.order;
+        if 20 < n {
+            return crate::refused_surface(1);
+        }
+        let x = self.entries;
+        if !vector_array::surface_finite(&x, n) {
+            return crate::refused_surface(5);
+        }
+        let r = vector_surface_norm::norms(&x, n);
+        let first = r[0];
+        if vector_array::norm_divides(n, first) {
+            return crate::refused_surface(7);
+        }
+        returned_surface(r, n)
     }
 }

@@ -18,7 +18,7 @@ use crate::vector_entries::VectorFormula;
 use vectors::Vector3;
 
 // The entry [i][j] of vectors, and of floats.
-fn surface_at(a: &[f64; 693], i: usize, j: usize) -> Vector3
+pub fn surface_at(a: &[f64; 693], i: usize, j: usize) -> Vector3
     requires { ⌜ i + j ≤ 20 ⌝ }
     ensures { λ r. ⌜ r ≡ vectorSurfaceNumbers (now (a .entry)) i j ⌝ }
 {
@@ -26,7 +26,7 @@ fn surface_at(a: &[f64; 693], i: usize, j: usize) -> Vector3
     vector_at(a, k)
 }
 
-fn number_at(a: &[f64; 231], i: usize, j: usize) -> f64
+pub fn number_at(a: &[f64; 231], i: usize, j: usize) -> f64
     requires { ⌜ i + j ≤ 20 ⌝ }
     ensures { λ r. ⌜ r ≡ surfaceNumbers (now (a .entry)) i j ⌝ }
 {
