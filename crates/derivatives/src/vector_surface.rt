@@ -16,7 +16,7 @@ ghost use Rattle.derivatives.specs.Answer.{surfaceNumbers, finiteSurface
 ghost use Rattle.derivatives.specs.Vector.{vectors, vectorSurfaceNumbers, finiteVectorSurface};
 ghost use Rattle.derivatives.specs.VectorFormula.{vectorDivisionByZero};
 ghost use Rattle.derivatives.specs.VectorSurfaceNorm.{vectorSurfaceAbsolute};
-ghost use Rattle.derivatives.specs.VectorSurfaceAnswer.{refusedVectorSurface, madeVectorSurface, madeSurface as made, vectorSurfaceDot, vectorSurfaceDerivative, onVectorSurfaces, onWeightedSurface, onVectorSurfacesAt, onWeightedSurfaceAt, bySurfaceVectors, bySurfaceWeights, vectorSurfaceQuotient, bySurfaceVectorEntries, bySurfaceWeightedEntries};
+ghost use Rattle.derivatives.specs.VectorSurfaceAnswer.{refusedVectorSurface, madeVectorSurface, madeSurface as made, vectorSurfaceDot, vectorSurfaceDerivative, vectorSurfaceFromList, onVectorSurfaces, onWeightedSurface, onVectorSurfacesAt, onWeightedSurfaceAt, bySurfaceVectors, bySurfaceWeights, vectorSurfaceQuotient, bySurfaceVectorEntries, bySurfaceWeightedEntries};
 use crate::SurfaceAnswer;
 use crate::SurfaceDerivatives;
 use crate::VectorSurfaceAnswer;
@@ -200,6 +200,26 @@ fn derivative(a: VectorSurfaceDerivatives, p: usize, q: usize) -> VectorSurfaceA
 }
 
 impl VectorSurfaceDerivatives {
+    pub fn from_list(order: usize, list: &[f64]) -> VectorSurfaceAnswer
+        ensures { λ r. ⌜ r ≡ vectorSurfaceFromList order (now (list .entry)) ⌝ }
+    {
+        if 20 < order {
+            return refused(1);
+        }
+        let k = crate::surface::count(order);
+        if list.len() != 3 * k {
+            return refused(2);
+        }
+        if !crate::finite_list(list) {
+            return refused(5);
+        }
+        let r = vector_surface_entries::read(list, order);
+        VectorSurfaceAnswer {
+            refusal: 0,
+            jet: VectorSurfaceDerivatives { order, entries: r },
+        }
+    }
+
     pub fn derivative_u(self) -> VectorSurfaceAnswer
         ensures { λ r. ⌜ r ≡ vectorSurfaceDerivative derivativeU self ⌝ }
     {
