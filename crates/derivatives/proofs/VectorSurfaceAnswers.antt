@@ -1,14 +1,13 @@
 -- The answer of a function on jets of surfaces of vectors, by the tests that led to it. Assumes nothing.
-use mathlib.Core.Path.{_≡_, refl, sym, ap, ap₂, _∙_, fun-ext}
+use mathlib.Core.Path.{_≡_, sym, ap, ap₂, _∙_, fun-ext}
 use mathlib.Core.Bool.{Bool, true, false, cond, _&&_, _||_}
 use lib.Dec.{ltb}
 use lib.ListN.{length}
 use Rattle.calculus.specs.Order.{listPlace}
 use mathlib.Core.List.{List}
-use Prim.Native.Nat.{ℕ, suc, _+_, _*_, _/_, _-_, _≤_, _<_, min}
+use Prim.Native.Nat.{ℕ, suc, _+_, _*_, _-_, _≤_, _<_, min}
 use native.Mathlib.Nat.{add-zero}
 use native.Mathlib.Numerals.{add-one}
-use native.Mathlib.Omega.{arith}
 use lib.Ieee.{Float}
 use borrow.Author.Tests.{lt-ltb, le-ltb, eq-eqb, ne-eqb}
 use Rattle.vectors.specs.declared.Vector3.{Vector3}
@@ -18,14 +17,14 @@ use Rattle.vectors.specs.Answers.{returnedVector}
 use Rattle.vectors.specs.Vectors.{dot}
 use Rattle.calculus.specs.Kind.{regular}
 use Rattle.calculus.specs.Surface.{productBy, derivativeU, derivativeV}
-use Rattle.calculus.specs.Array.{filled, surfaceArray}
+use Rattle.calculus.specs.Array.{surfaceArray}
 use Rattle.calculus.proofs.Graded.{room-231}
 use Rattle.derivatives.specs.declared.SurfaceDerivatives.{SurfaceDerivatives}
 use Rattle.derivatives.specs.declared.VectorSurfaceDerivatives.{VectorSurfaceDerivatives}
 use Rattle.derivatives.specs.declared.VectorSurfaceAnswer.{VectorSurfaceAnswer}
 use Rattle.derivatives.specs.Answer.{curveNumbers, surfaceNumbers, allFinite, finiteList, finiteSurface, refusedSurface, returnedSurface}
 use Rattle.derivatives.specs.Real.{nil, real}
-use Rattle.derivatives.specs.Vector.{origin, vectorNumbers, vectorSurfaceNumbers, flat, vectorSurfaceArray, allVectorsFinite, finiteVectorSurface}
+use Rattle.derivatives.specs.Vector.{vectorNumbers, vectorSurfaceNumbers, vectorSurfaceArray, allVectorsFinite, finiteVectorSurface}
 use Rattle.derivatives.specs.VectorAnswer.{far}
 use Rattle.derivatives.specs.VectorSurfaceAnswer.{refusedVectorSurface, madeVectorSurface, madeSurface, answeredVectorSurface, returnedVectorSurface, vectorSurfaceDot, vectorSurfaceDerivative, vectorSurfaceFromList, onVectorSurfaces, onWeightedSurface, onVectorSurfacesAt, onWeightedSurfaceAt}
 use Rattle.derivatives.proofs.Finite.{count-is, surface-finite as float-surface-finite}

@@ -1,5 +1,5 @@
 -- What a function on jets of surfaces of vectors answers: as for curves of vectors, with the entries up to the order. Assumes nothing.
-use mathlib.Core.Bool.{Bool, false, cond, not, _&&_, _||_}
+use mathlib.Core.Bool.{false, cond, not, _&&_, _||_}
 use mathlib.Core.List.{List}
 use Prim.Native.Nat.{ℕ, suc, _+_, _*_, _-_, min}
 use lib.Dec.{ltb, eqb}

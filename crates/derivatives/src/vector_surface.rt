@@ -2,7 +2,7 @@
 ghost use mathlib.Core.Path.{_≡_};
 ghost use mathlib.Core.Bool.{cond, _&&_, _||_};
 ghost use lib.Dec.{ltb};
-ghost use Prim.Native.Nat.{ℕ, _+_, _≤_};
+ghost use Prim.Native.Nat.{_+_, _≤_};
 ghost use Rattle.vectors.specs.Vectors.{multiple, dot, cross};
 ghost use Rattle.ieee.specs.Answer.{returned as returnedReal};
 ghost use Rattle.ieee.specs.declared.Real.the-variants.{Refused as RealRefused};
@@ -14,7 +14,6 @@ ghost use Rattle.derivatives.specs.VectorAnswer.{far};
 ghost use Rattle.calculus.specs.Surface.{derivativeU, derivativeV, sum as sums, difference as differences, productBy};
 ghost use Rattle.derivatives.specs.Answer.{surfaceNumbers, finiteSurface, refusedSurface};
 ghost use Rattle.derivatives.specs.Vector.{vectors, vectorSurfaceNumbers, finiteVectorSurface};
-ghost use Rattle.derivatives.specs.VectorFormula.{vectorDivisionByZero};
 ghost use Rattle.derivatives.specs.VectorSurfaceNorm.{vectorSurfaceAbsolute};
 ghost use Rattle.derivatives.specs.VectorSurfaceAnswer.{refusedVectorSurface, madeVectorSurface, madeSurface as made, vectorSurfaceDot, vectorSurfaceDerivative, vectorSurfaceFromList, onVectorSurfaces, onWeightedSurface, onVectorSurfacesAt, onWeightedSurfaceAt, bySurfaceVectors, bySurfaceWeights, vectorSurfaceQuotient, bySurfaceVectorEntries, bySurfaceWeightedEntries};
 use crate::SurfaceAnswer;

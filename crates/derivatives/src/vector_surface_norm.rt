@@ -1,7 +1,7 @@
 // The loops that form the norm of a surface of vectors. Each `requires` is met by the callers.
 ghost use mathlib.Core.Path.{_≡_};
 ghost use mathlib.Core.Bool.{_&&_, _||_};
-ghost use Prim.Native.Nat.{ℕ, suc, _+_, _≤_};
+ghost use Prim.Native.Nat.{suc, _+_, _≤_};
 ghost use lib.Dec.{eqb};
 ghost use Rattle.ieee.specs.SquareRoot.{squareRoot};
 ghost use Rattle.vectors.specs.Vectors.{dot};

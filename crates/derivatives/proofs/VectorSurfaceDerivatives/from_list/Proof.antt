@@ -5,8 +5,8 @@ use Rattle.calculus.proofs.Graded.{room-231}
 use borrow.Author.Tests.{not-true, not-false}
 use borrow.Author.Needs.{needs}
 use denote.Ref.{now}
-use mathlib.Core.Path.{_≡_, refl, sym, ap, ap₂, _∙_}
-use Prim.Native.Nat.{ℕ, suc, _+_, _-_, _*_, _≤_, _<_}
+use mathlib.Core.Path.{sym, ap, _∙_}
+use Prim.Native.Nat.{_-_, _*_}
 use native.Mathlib.Omega.{arith}
 use Rattle.derivatives.proofs.VectorSurfaceDerivatives.from_list.Statement.{statement}
 use Rattle.derivatives.proofs.VectorSurfaceDerivatives.from_list.Tie as tie

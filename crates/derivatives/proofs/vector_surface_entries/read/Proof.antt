@@ -6,9 +6,8 @@ use Rattle.calculus.proofs.Places.{row-turn, list-place}
 use Rattle.calculus.specs.Order.{rowStart, listPlace}
 use borrow.Author.Needs.{needs}
 use denote.Ref.{now}
-use native.Mathlib.Numerals.{add-one}
-use mathlib.Core.Path.{_≡_, refl, sym, ap, ap₂, _∙_}
-use Prim.Native.Nat.{ℕ, suc, _+_, _-_, _*_, _≤_, _<_}
+use mathlib.Core.Path.{_≡_, refl, sym, ap, _∙_}
+use Prim.Native.Nat.{suc, _+_, _-_, _*_, _≤_}
 use native.Mathlib.Omega.{arith}
 use Rattle.derivatives.proofs.vector_surface_entries.read.Statement.{statement}
 use Rattle.derivatives.proofs.vector_surface_entries.read.Tie as tie

@@ -1,23 +1,13 @@
 -- `derivatives::vector_surface_norm::others_row` meets its contract. Assumes nothing.
-use Rattle.derivatives.specs.Real.{nil, real, isZero}
 use Rattle.derivatives.specs.Answer.{surfaceNumbers}
-use Rattle.derivatives.specs.Vector.{vectorSurfaceNumbers}
-use Rattle.derivatives.specs.VectorSurfaceNorm.{withOther, vectorSurfaceNorm}
-use Rattle.derivatives.specs.Norm.{others, surfaceNormEntry}
-use Rattle.ieee.specs.SquareRoot.{squareRoot}
-use Rattle.vectors.specs.Vectors.{dot, magnitude}
-use Rattle.calculus.specs.Kind.{regular}
-use Rattle.calculus.specs.Surface.{leibniz, productBy}
-use Rattle.calculus.specs.InTurn.{inTurn, inRows}
-use mathlib.Core.Bool.{_&&_, _||_}
-use lib.Dec.{ltb, eqb}
-use Rattle.derivatives.proofs.Answers.{yes, no}
-use Rattle.derivatives.proofs.Terms.{one-more, one-row-more}
+use Rattle.derivatives.specs.VectorSurfaceNorm.{withOther}
+use Rattle.calculus.specs.InTurn.{inTurn}
+use Rattle.derivatives.proofs.Terms.{one-more}
 use borrow.Author.Needs.{needs}
 use denote.Ref.{now}
 use native.Mathlib.Numerals.{add-one}
-use mathlib.Core.Path.{_≡_, refl, sym, ap, ap₂, _∙_}
-use Prim.Native.Nat.{ℕ, suc, _+_, _-_, _*_, _≤_, _<_}
+use mathlib.Core.Path.{_≡_, refl, ap, _∙_}
+use Prim.Native.Nat.{suc, _-_, _≤_}
 use native.Mathlib.Omega.{arith}
 use Rattle.derivatives.proofs.vector_surface_norm.others_row.Statement.{statement}
 use Rattle.derivatives.proofs.vector_surface_norm.others_row.Tie as tie
