@@ -40,6 +40,7 @@ pub mod Plain
 pub mod Entries
 pub mod Masks
 pub mod Quotient
+-- what the loops of the jets need: the order of work, lists that are written, the bits of masks, walks over part lists
 pub mod Places
 pub mod Left
 pub mod Writing
