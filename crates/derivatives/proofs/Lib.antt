@@ -16,3 +16,4 @@ pub mod VectorCarries
 pub mod VectorFigures
 pub mod VectorSurfaces
 pub mod VectorSurfaceAnswers
+pub mod VectorSurfaceNorms

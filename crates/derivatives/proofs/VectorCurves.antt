@@ -1,15 +1,14 @@
 -- A formula on jets of vectors reads of the entries before it only those that are formed: what the array holds serves as well.
 -- Assumes nothing.
-use mathlib.Core.Path.{_≡_, refl, sym, ap, ap₂, _∙_}
+use mathlib.Core.Path.{_≡_, refl, ap₂}
 use mathlib.Core.List.{List}
-use Prim.Native.Nat.{ℕ, zero, suc, _+_, _-_, _≤_, _<_, zero-le}
+use Prim.Native.Nat.{ℕ, zero, suc, _-_, _≤_, zero-le}
 use native.Mathlib.Nat.{le-refl}
 use native.Mathlib.Omega.{arith}
 use lib.Ieee.{Float, nan}
 use Rattle.ieee.specs.SquareRoot.{squareRoot}
 use Rattle.vectors.specs.declared.Vector3.{Vector3}
 use Rattle.vectors.specs.Vectors.{quotient, dot}
-use Rattle.calculus.specs.Kind.{regular}
 use Rattle.calculus.specs.Choose.{choose}
 use Rattle.calculus.specs.Rising.{before, rising}
 use Rattle.calculus.proofs.Related.{sameModule, inTurn-alike}

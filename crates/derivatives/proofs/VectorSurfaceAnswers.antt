@@ -1,12 +1,13 @@
 -- The answer of a function on jets of surfaces of vectors, by the tests that led to it. Assumes nothing.
-use mathlib.Core.Path.{_≡_, refl, sym, ap, ap₂, _∙_, fun-ext}
+use mathlib.Core.Path.{_≡_, sym, ap, ap₂, _∙_, fun-ext}
 use mathlib.Core.Bool.{Bool, true, false, cond, _&&_, _||_}
 use lib.Dec.{ltb}
+use lib.ListN.{length}
+use Rattle.calculus.specs.Order.{listPlace}
 use mathlib.Core.List.{List}
-use Prim.Native.Nat.{ℕ, suc, _+_, _*_, _/_, _-_, _≤_, _<_, min}
+use Prim.Native.Nat.{ℕ, suc, _+_, _*_, _-_, _≤_, _<_, min}
 use native.Mathlib.Nat.{add-zero}
 use native.Mathlib.Numerals.{add-one}
-use native.Mathlib.Omega.{arith}
 use lib.Ieee.{Float}
 use borrow.Author.Tests.{lt-ltb, le-ltb, eq-eqb, ne-eqb}
 use Rattle.vectors.specs.declared.Vector3.{Vector3}
@@ -16,16 +17,16 @@ use Rattle.vectors.specs.Answers.{returnedVector}
 use Rattle.vectors.specs.Vectors.{dot}
 use Rattle.calculus.specs.Kind.{regular}
 use Rattle.calculus.specs.Surface.{productBy, derivativeU, derivativeV}
-use Rattle.calculus.specs.Array.{filled, surfaceArray}
+use Rattle.calculus.specs.Array.{surfaceArray}
 use Rattle.calculus.proofs.Graded.{room-231}
 use Rattle.derivatives.specs.declared.SurfaceDerivatives.{SurfaceDerivatives}
 use Rattle.derivatives.specs.declared.VectorSurfaceDerivatives.{VectorSurfaceDerivatives}
 use Rattle.derivatives.specs.declared.VectorSurfaceAnswer.{VectorSurfaceAnswer}
-use Rattle.derivatives.specs.Answer.{curveNumbers, surfaceNumbers, allFinite, finiteSurface, refusedSurface, returnedSurface}
+use Rattle.derivatives.specs.Answer.{curveNumbers, surfaceNumbers, allFinite, finiteList, finiteSurface, refusedSurface, returnedSurface}
 use Rattle.derivatives.specs.Real.{nil, real}
-use Rattle.derivatives.specs.Vector.{origin, vectorNumbers, vectorSurfaceNumbers, flat, vectorSurfaceArray, allVectorsFinite, finiteVectorSurface}
+use Rattle.derivatives.specs.Vector.{vectorNumbers, vectorSurfaceNumbers, vectorSurfaceArray, allVectorsFinite, finiteVectorSurface}
 use Rattle.derivatives.specs.VectorAnswer.{far}
-use Rattle.derivatives.specs.VectorSurfaceAnswer.{refusedVectorSurface, madeVectorSurface, madeSurface, answeredVectorSurface, returnedVectorSurface, vectorSurfaceDot, vectorSurfaceDerivative, onVectorSurfaces, onWeightedSurface, onVectorSurfacesAt, onWeightedSurfaceAt}
+use Rattle.derivatives.specs.VectorSurfaceAnswer.{refusedVectorSurface, madeVectorSurface, madeSurface, answeredVectorSurface, returnedVectorSurface, vectorSurfaceDot, vectorSurfaceDerivative, vectorSurfaceFromList, onVectorSurfaces, onWeightedSurface, onVectorSurfacesAt, onWeightedSurfaceAt}
 use Rattle.derivatives.proofs.Finite.{count-is, surface-finite as float-surface-finite}
 use Rattle.derivatives.proofs.Answers.{filled-finite as float-filled-finite}
 use Rattle.derivatives.proofs.Vectors.{surface-finite, filled-finite}
@@ -157,3 +158,19 @@ module _ (op : (ℕ → ℕ → Vector3) → (ℕ → ℕ → Float) → ℕ →
     pub weighted-worked-at : m + k ≤ n → (finiteVectorSurface (vectorSurfaceNumbers (a .entries)) (m + k) && finiteSurface (surfaceNumbers (b .entries)) (m + k)) ≡ true →
         returnedVector (op (vectorSurfaceNumbers (a .entries)) (surfaceNumbers (b .entries)) m k) ≡ onWeightedSurfaceAt op a b m k
     weighted-worked-at l f = rw (e, ← q, le-ltb n (m + k) l, f)
+
+-- ---- from a list
+module _ (n : ℕ) (l : List Float) where
+  pub list-order : 20 < n → refusedVectorSurface 1 ≡ vectorSurfaceFromList n l
+  list-order h = rw (lt-ltb 20 n h)
+
+  module _ (h : n ≤ 20) {k : ℕ} (c : k ≡ triangle (suc n)) where
+    pub list-length : ¬ (length l ≡ 3 * k) → refusedVectorSurface 2 ≡ vectorSurfaceFromList n l
+    list-length e = rw (le-ltb 20 n h, ne-eqb (length l) (3 * triangle (suc n)) (λ q. e (q ∙ ap (_*_ 3) (sym c))))
+
+    pub list-finite : length l ≡ 3 * k → finiteList l ≡ false → refusedVectorSurface 5 ≡ vectorSurfaceFromList n l
+    list-finite e p = rw (le-ltb 20 n h, eq-eqb (length l) (3 * triangle (suc n)) (e ∙ ap (_*_ 3) c), p)
+
+    pub list-is : length l ≡ 3 * k → finiteList l ≡ true →
+        answeredVectorSurface n (λ i j. vectorNumbers l (listPlace n i j)) ≡ vectorSurfaceFromList n l
+    list-is e p = rw (le-ltb 20 n h, eq-eqb (length l) (3 * triangle (suc n)) (e ∙ ap (_*_ 3) c), p)

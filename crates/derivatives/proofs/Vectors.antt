@@ -1,5 +1,5 @@
 -- Arrays of vectors: what they hold, what a loop stores in them, and when they are finite. Assumes nothing.
-use mathlib.Core.Path.{_≡_, refl, sym, ap, ap₂, _∙_, subst}
+use mathlib.Core.Path.{_≡_, refl, sym, ap, ap₂, _∙_}
 use mathlib.Core.Bool.{Bool, true, false, cond, _&&_}
 use mathlib.Core.List.{List, [], _∷_}
 use Prim.Native.Nat.{ℕ, zero, suc, _+_, _*_, _/_, _≤_, _<_}
@@ -7,20 +7,19 @@ use native.Mathlib.Nat.{le-refl, not-suc-le-zero}
 use native.Mathlib.Numerals.{add-one}
 use native.Mathlib.Decide.{ℕ-discrete}
 use native.Mathlib.Omega.{arith}
-use lib.Dec.{ltb}
-use lib.ListN.{getD, set, length, replicate}
+use lib.ListN.{getD, set, replicate}
 use lib.Ieee.{Float, nan}
 use borrow.Author.Tests.{lt-ltb}
 use Rattle.vectors.specs.declared.Vector3.{Vector3}
 use Rattle.vectors.specs.Vectors.{vector}
 use Rattle.vectors.specs.Answers.{finiteVector}
-use Rattle.calculus.specs.Array.{listed, filled, curveArray}
+use Rattle.calculus.specs.Array.{listed, filled}
 use Rattle.calculus.specs.Rising.{before, rising}
 use Rattle.calculus.proofs.Filling.{CurveStored, curve-none, curve-more, curve-all, curve-earlier, filled-at}
 use Rattle.calculus.specs.Graded.{triangle, graded}
 use Rattle.calculus.proofs.Graded.{index-place}
 use Rattle.derivatives.specs.Real.{nil}
-use Rattle.derivatives.specs.Vector.{origin, vectorNumbers, flat, vectorSurfaceNumbers, vectorArray, allVectorsFinite, finiteVectors, finiteVectorSurface}
+use Rattle.derivatives.specs.Vector.{origin, vectorNumbers, flat, vectorSurfaceNumbers, vectorArray, allVectorsFinite, finiteVectorSurface}
 use Rattle.derivatives.proofs.Finite.{count-is}
 
 -- what the logic reads past the end

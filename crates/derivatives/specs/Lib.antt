@@ -9,3 +9,4 @@ pub mod VectorAnswer
 pub mod VectorFormula
 pub mod VectorComposite
 pub mod VectorSurfaceAnswer
+pub mod VectorSurfaceNorm

@@ -7,9 +7,6 @@ use lib.Dec.{ltb, eqb}
 use lib.ListN.{length, replicate}
 use lib.Ieee.{Float}
 use Rattle.ieee.specs.SquareRoot.{squareRoot}
-use Rattle.ieee.specs.declared.Real.{Real}
-use Rattle.ieee.specs.declared.Real.the-variants.{Refused as RealRefused}
-use Rattle.ieee.specs.Answer.{returned}
 use Rattle.vectors.specs.declared.Vector3.{Vector3}
 use Rattle.vectors.specs.declared.VectorAnswer.{VectorAnswer}
 use Rattle.vectors.specs.declared.VectorAnswer.the-variants.{Refused}
@@ -25,7 +22,7 @@ use Rattle.derivatives.specs.Real.{nil, real, isZero}
 use Rattle.derivatives.specs.Rational.{rational}
 use Rattle.derivatives.specs.Norm.{norm}
 use Rattle.derivatives.specs.Answer.{curveNumbers, finiteList, finiteCurve, refusedCurve, returnedCurve}
-use Rattle.derivatives.specs.Vector.{origin, vectors, vectorNumbers, flat, vectorArray, finiteVectors}
+use Rattle.derivatives.specs.Vector.{vectors, vectorNumbers, flat, vectorArray, finiteVectors}
 
 -- ---- the tests before the work: an order is above 20, an order or a length does not fit, what is read is finite
 abbrev pub tested : {R : Type 0} → (ℕ → R) → Bool → Bool → Bool → R → R

@@ -19,7 +19,7 @@ use Rattle.derivatives.specs.declared.vector_entries.NumberFormula.the-v
 use Rattle.derivatives.specs.Real.{nil, real, isZero}
 use Rattle.derivatives.specs.Rational.{rationalEntry}
 use Rattle.derivatives.specs.Norm.{normEntry}
-use Rattle.derivatives.specs.Answer.{curveNumbers, returnedCurve}
+use Rattle.derivatives.specs.Answer.{curveNumbers}
 use Rattle.derivatives.specs.Vector.{origin, vectors}
 use Rattle.derivatives.specs.VectorAnswer.{refusedVectors, returnedVectors}
 

@@ -1,9 +1,9 @@
 -- What a function on jets of surfaces of vectors answers: as for curves of vectors, with the entries up to the order. Assumes nothing.
-use mathlib.Core.Bool.{Bool, false, cond, _&&_, _||_}
+use mathlib.Core.Bool.{false, cond, not, _&&_, _||_}
 use mathlib.Core.List.{List}
-use Prim.Native.Nat.{ℕ, _+_, _-_, min}
+use Prim.Native.Nat.{ℕ, suc, _+_, _*_, _-_, min}
 use lib.Dec.{ltb, eqb}
-use lib.ListN.{replicate}
+use lib.ListN.{length, replicate}
 use lib.Ieee.{Float}
 use Rattle.vectors.specs.declared.Vector3.{Vector3}
 use Rattle.vectors.specs.declared.VectorAnswer.{VectorAnswer}
@@ -12,6 +12,8 @@ use Rattle.vectors.specs.Answers.{returnedVector}
 use Rattle.vectors.specs.Vectors.{multiple, quotient, dot, cross}
 use Rattle.calculus.specs.Kind.{regular}
 use Rattle.calculus.specs.Rising.{risingRows}
+use Rattle.calculus.specs.Graded.{triangle}
+use Rattle.calculus.specs.Order.{listPlace}
 use Rattle.calculus.specs.Surface
 use Rattle.derivatives.specs.declared.SurfaceDerivatives.{SurfaceDerivatives}
 use Rattle.derivatives.specs.declared.SurfaceAnswer.{SurfaceAnswer}
@@ -21,8 +23,8 @@ use Rattle.derivatives.specs.declared.vector_entries.VectorFormula.{Vect
 use Rattle.derivatives.specs.declared.vector_entries.VectorFormula.the-variants as vector
 use Rattle.derivatives.specs.Real.{nil, real, isZero}
 use Rattle.derivatives.specs.Rational.{surfaceRational, surfaceRationalEntry}
-use Rattle.derivatives.specs.Answer.{surfaceNumbers, finiteSurface, refusedSurface, returnedSurface}
-use Rattle.derivatives.specs.Vector.{origin, vectors, vectorSurfaceNumbers, vectorSurfaceArray, finiteVectorSurface}
+use Rattle.derivatives.specs.Answer.{surfaceNumbers, finiteList, finiteSurface, refusedSurface, returnedSurface}
+use Rattle.derivatives.specs.Vector.{origin, vectors, vectorNumbers, vectorSurfaceNumbers, vectorSurfaceArray, finiteVectorSurface}
 use Rattle.derivatives.specs.VectorAnswer.{tested, far}
 use Rattle.derivatives.specs.VectorFormula.{vectorDivisionByZero}
 
@@ -112,3 +114,9 @@ abbrev pub vectorSurfaceDerivative : ((ℕ → ℕ → Vector3) → ℕ → ℕ 
 vectorSurfaceDerivative op a =
     let x = vectorSurfaceNumbers (a .entries) in
     tested refusedVectorSurface (ltb 20 (a .order)) (eqb (a .order) 0) (finiteVectorSurface x (a .order)) (answeredVectorSurface (a .order - 1) (op x))
+
+-- ---- from a list: x, y and z of each entry, the entries in the order of work
+abbrev pub vectorSurfaceFromList : ℕ → List Float → VectorSurfaceAnswer
+vectorSurfaceFromList n l =
+    tested refusedVectorSurface (ltb 20 n) (not (eqb (length l) (3 * triangle (suc n)))) (finiteList l)
+    (answeredVectorSurface n (λ i j. vectorNumbers l (listPlace n i j)))

@@ -23,6 +23,7 @@ mod vector_curve;
 mod vector_entries;
 mod vector_surface;
 mod vector_surface_entries;
+mod vector_surface_norm;
 
 // The derivatives of a curve, of the orders 0 to `order`.
 pub struct CurveDerivatives {

@@ -2,7 +2,6 @@
 // order above 20, for which an array has no entries, the answer is zero.
 ghost use mathlib.Core.Path.{_≡_};
 ghost use mathlib.Core.Bool.{cond};
-ghost use Prim.Native.Nat.{ℕ};
 ghost use lib.Dec.{ltb};
 ghost use lib.ListN.{replicate};
 ghost use Rattle.vectors.specs.Vectors.{multiple, quotient, dot as dotOf, cross as crossOf};

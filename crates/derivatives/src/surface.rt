@@ -20,7 +20,7 @@ use crate::SurfaceAnswer;
 use crate::SurfaceDerivatives;
 use ieee::Real;
 
-fn leibniz_term(
+pub fn leibniz_term(
     a: &[f64; 231],
     b: &[f64; 231],
     c: &[u32; 231],
@@ -268,7 +268,7 @@ fn shifted(a: &[f64; 231], n: usize, p: usize, q: usize) -> SurfaceAnswer
 }
 
 // How many entries there are up to the order n.
-fn count(n: usize) -> usize
+pub fn count(n: usize) -> usize
     requires { ⌜ n ≤ 20 ⌝ }
     ensures { λ r. ⌜ r ≡ triangle (suc n) ⌝ }
 {

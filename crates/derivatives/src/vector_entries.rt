@@ -1,6 +1,6 @@
 // The loops that form the entries of jets of vectors. Each `requires` is met by the callers.
 ghost use mathlib.Core.Path.{_≡_};
-ghost use Prim.Native.Nat.{ℕ, suc, _+_, _-_, _*_, _≤_, _<_};
+ghost use Prim.Native.Nat.{suc, _+_, _-_, _*_, _≤_, _<_};
 ghost use lib.ListN.{length};
 ghost use Rattle.ieee.specs.SquareRoot.{squareRoot};
 ghost use Rattle.vectors.specs.Vectors.{multiple, quotient, dot, cross};

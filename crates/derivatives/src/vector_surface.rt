@@ -2,7 +2,7 @@
 ghost use mathlib.Core.Path.{_≡_};
 ghost use mathlib.Core.Bool.{cond, _&&_, _||_};
 ghost use lib.Dec.{ltb};
-ghost use Prim.Native.Nat.{ℕ, _+_, _≤_};
+ghost use Prim.Native.Nat.{_+_, _≤_};
 ghost use Rattle.vectors.specs.Vectors.{multiple, dot, cross};
 ghost use Rattle.ieee.specs.Answer.{returned as returnedReal};
 ghost use Rattle.ieee.specs.declared.Real.the-variants.{Refused as RealRefused};
@@ -14,8 +14,8 @@ ghost use Rattle.derivatives.specs.VectorAnswer.{far};
 ghost use Rattle.calculus.specs.Surface.{derivativeU, derivativeV, sum as sums, difference as differences, productBy};
 ghost use Rattle.derivatives.specs.Answer.{surfaceNumbers, finiteSurface, refusedSurface};
 ghost use Rattle.derivatives.specs.Vector.{vectors, vectorSurfaceNumbers, finiteVectorSurface};
-ghost use Rattle.derivatives.specs.VectorFormula.{vectorDivisionByZero};
-ghost use Rattle.derivatives.specs.VectorSurfaceAnswer.{refusedVectorSurface, madeVectorSurface, madeSurface as made, vectorSurfaceDot, vectorSurfaceDerivative, onVectorSurfaces, onWeightedSurface, onVectorSurfacesAt, onWeightedSurfaceAt, bySurfaceVectors, bySurfaceWeights, vectorSurfaceQuotient, bySurfaceVectorEntries, bySurfaceWeightedEntries};
+ghost use Rattle.derivatives.specs.VectorSurfaceNorm.{vectorSurfaceAbsolute};
+ghost use Rattle.derivatives.specs.VectorSurfaceAnswer.{refusedVectorSurface, madeVectorSurface, madeSurface as made, vectorSurfaceDot, vectorSurfaceDerivative, vectorSurfaceFromList, onVectorSurfaces, onWeightedSurface, onVectorSurfacesAt, onWeightedSurfaceAt, bySurfaceVectors, bySurfaceWeights, vectorSurfaceQuotient, bySurfaceVectorEntries, bySurfaceWeightedEntries};
 use crate::SurfaceAnswer;
 use crate::SurfaceDerivatives;
 use crate::VectorSurfaceAnswer;
@@ -24,6 +24,7 @@ use crate::vector_array;
 use crate::vector_curve;
 use crate::vector_entries::VectorFormula;
 use crate::vector_surface_entries;
+use crate::vector_surface_norm;
 use ieee::Real;
 use vectors::VectorAnswer;
 
@@ -198,6 +199,26 @@ fn derivative(a: VectorSurfaceDerivatives, p: usize, q: usize) -> VectorSurfaceA
 }
 
 impl VectorSurfaceDerivatives {
+    pub fn from_list(order: usize, list: &[f64]) -> VectorSurfaceAnswer
+        ensures { λ r. ⌜ r ≡ vectorSurfaceFromList order (now (list .entry)) ⌝ }
+    {
+        if 20 < order {
+            return refused(1);
+        }
+        let k = crate::surface::count(order);
+        if list.len() != 3 * k {
+            return refused(2);
+        }
+        if !crate::finite_list(list) {
+            return refused(5);
+        }
+        let r = vector_surface_entries::read(list, order);
+        VectorSurfaceAnswer {
+            refusal: 0,
+            jet: VectorSurfaceDerivatives { order, entries: r },
+        }
+    }
+
     pub fn derivative_u(self) -> VectorSurfaceAnswer
         ensures { λ r. ⌜ r ≡ vectorSurfaceDerivative derivativeU self ⌝ }
     {
@@ -341,5 +362,25 @@ impl VectorSurfaceDerivatives {
         ensures { λ r. ⌜ r ≡ onWeightedSurface vectorSurfaceQuotient self weights ⌝ }
     {
         on_weighted(VectorFormula::Rational, self, weights)
+    }
+
+    // The norm.
+    pub fn absolute_derivatives(self) -> SurfaceAnswer
+        ensures { λ r. ⌜ r ≡ vectorSurfaceAbsolute self ⌝ }
+    {
+        let n = self.order;
+        if 20 < n {
+            return crate::refused_surface(1);
+        }
+        let x = self.entries;
+        if !vector_array::surface_finite(&x, n) {
+            return crate::refused_surface(5);
+        }
+        let r = vector_surface_norm::norms(&x, n);
+        let first = r[0];
+        if vector_array::norm_divides(n, first) {
+            return crate::refused_surface(7);
+        }
+        returned_surface(r, n)
     }
 }

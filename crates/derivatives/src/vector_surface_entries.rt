@@ -1,6 +1,9 @@
 // The loops that form the entries of jets of surfaces of vectors. Each `requires` is met by the callers.
 ghost use mathlib.Core.Path.{_≡_};
-ghost use Prim.Native.Nat.{ℕ, suc, _+_, _*_, _≤_};
+ghost use Prim.Native.Nat.{suc, _+_, _*_, _≤_};
+ghost use lib.ListN.{length};
+ghost use Rattle.calculus.specs.Graded.{triangle};
+ghost use Rattle.calculus.specs.Order.{listPlace};
 ghost use Rattle.vectors.specs.Vectors.{multiple, quotient, dot, cross};
 ghost use Rattle.calculus.specs.Kind.{regular};
 ghost use Rattle.calculus.specs.InTurn.{inTurn};
@@ -11,14 +14,14 @@ ghost use Rattle.calculus.specs.Surface.{leibniz, productBy};
 ghost use Rattle.derivatives.specs.Real.{nil, real};
 ghost use Rattle.derivatives.specs.Rational.{surfaceRationalTerm, surfaceRationalEntry};
 ghost use Rattle.derivatives.specs.Answer.{surfaceNumbers};
-ghost use Rattle.derivatives.specs.Vector.{origin, vectors, vectorSurfaceNumbers, vectorSurfaceArray};
+ghost use Rattle.derivatives.specs.Vector.{origin, vectors, vectorNumbers, vectorSurfaceNumbers, vectorSurfaceArray};
 ghost use Rattle.derivatives.specs.VectorSurfaceAnswer.{vectorSurfaceFormula};
 use crate::vector_array::vector_at;
 use crate::vector_entries::VectorFormula;
 use vectors::Vector3;
 
 // The entry [i][j] of vectors, and of floats.
-fn surface_at(a: &[f64; 693], i: usize, j: usize) -> Vector3
+pub fn surface_at(a: &[f64; 693], i: usize, j: usize) -> Vector3
     requires { ⌜ i + j ≤ 20 ⌝ }
     ensures { λ r. ⌜ r ≡ vectorSurfaceNumbers (now (a .entry)) i j ⌝ }
 {
@@ -26,7 +29,7 @@ fn surface_at(a: &[f64; 693], i: usize, j: usize) -> Vector3
     vector_at(a, k)
 }
 
-fn number_at(a: &[f64; 231], i: usize, j: usize) -> f64
+pub fn number_at(a: &[f64; 231], i: usize, j: usize) -> f64
     requires { ⌜ i + j ≤ 20 ⌝ }
     ensures { λ r. ⌜ r ≡ surfaceNumbers (now (a .entry)) i j ⌝ }
 {
@@ -385,6 +388,32 @@ pub fn shifted(a: &[f64; 693], n: usize, p: usize, q: usize) -> [f64; 693]
         r[o] = e.x;
         r[o + 1] = e.y;
         r[o + 2] = e.z;
+        j += 1;
+        if n < i + j {
+            i += 1;
+            j = 0;
+        }
+    }
+    r
+}
+
+// The entries of a list: i rising, then j.
+pub fn read(list: &[f64], n: usize) -> [f64; 693]
+    requires { ⌜ (n ≤ 20) × (length (now list) ≡ 3 * triangle (suc n)) ⌝ }
+    ensures { λ r. ⌜ r ≡ vectorSurfaceArray (λ i j. vectorNumbers (now (list .entry)) (listPlace n i j)) n ⌝ }
+{
+    let mut r = [0.0f64; 693];
+    let mut i = 0;
+    let mut j = 0;
+    let mut l = 0;
+    while i <= n {
+        let e = vector_at(list, l);
+        let k = crate::index(i, j);
+        let o = 3 * k;
+        r[o] = e.x;
+        r[o + 1] = e.y;
+        r[o + 2] = e.z;
+        l += 1;
         j += 1;
         if n < i + j {
             i += 1;

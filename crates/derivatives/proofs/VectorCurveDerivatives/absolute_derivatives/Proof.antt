@@ -7,10 +7,8 @@ use Rattle.derivatives.specs.Real.{isZero}
 use mathlib.Core.Bool.{_&&_}
 use lib.Dec.{ltb}
 use borrow.Author.Tests.{not-true, not-false}
-use denote.Ref.{now}
-use Prim.Native.Nat.{ℕ, suc, _+_, _-_, _*_, _≤_, _<_}
-use native.Mathlib.Omega.{arith}
-use mathlib.Core.Path.{_≡_, refl, sym, ap, ap₂, _∙_}
+use Prim.Native.Nat.{_-_}
+use mathlib.Core.Path.{sym, ap, _∙_}
 use borrow.Author.Needs.{needs}
 use Rattle.derivatives.proofs.VectorCurveDerivatives.absolute_derivatives.Statement.{
   statement,

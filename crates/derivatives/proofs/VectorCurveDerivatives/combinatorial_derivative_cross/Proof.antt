@@ -1,16 +1,13 @@
 -- `derivatives::VectorCurveDerivatives::combinatorial_derivative_cross` meets its contract. Assumes nothing.
 use Rattle.derivatives.proofs.VectorAnswers.{two-far-at, two-beyond, two-infinite-at, two-worked-at, near-at}
 use Rattle.derivatives.specs.Vector.{vectors}
-use Rattle.derivatives.specs.Real.{real}
-use Rattle.calculus.specs.Kind.{regular}
 use Rattle.calculus.specs.Curve.{productBy}
 use borrow.Author.Tests.{not-true, not-false}
 use Rattle.vectors.specs.Vectors.{cross}
 use Rattle.vectors.specs.Answers.{returnedVector}
 use Rattle.vectors.specs.declared.VectorAnswer.the-variants.{Refused}
-use Prim.Native.Nat.{ℕ, suc, _+_, _-_, _*_, _≤_, _<_}
-use native.Mathlib.Omega.{arith}
-use mathlib.Core.Path.{_≡_, refl, sym, ap, ap₂, _∙_}
+use Prim.Native.Nat.{_-_}
+use mathlib.Core.Path.{sym, ap, _∙_}
 use borrow.Author.Needs.{needs}
 use Rattle.derivatives.proofs.VectorCurveDerivatives.combinatorial_derivative_cross.Statement.{
   statement,

@@ -1,6 +1,5 @@
 -- `derivatives::VectorCurveDerivatives::combinatorial_derivative_dot` meets its contract. Assumes nothing.
 use Rattle.derivatives.proofs.VectorAnswers.{two-far-at, two-beyond, two-infinite-at, two-worked-at, near-at}
-use Rattle.derivatives.specs.Vector.{vectors}
 use Rattle.derivatives.specs.Real.{real}
 use Rattle.calculus.specs.Kind.{regular}
 use Rattle.calculus.specs.Curve.{productBy}
@@ -8,9 +7,8 @@ use borrow.Author.Tests.{not-true, not-false}
 use Rattle.vectors.specs.Vectors.{dot}
 use Rattle.ieee.specs.declared.Real.the-variants.{Refused}
 use Rattle.ieee.specs.Answer.{returned}
-use Prim.Native.Nat.{ℕ, suc, _+_, _-_, _*_, _≤_, _<_}
-use native.Mathlib.Omega.{arith}
-use mathlib.Core.Path.{_≡_, refl, sym, ap, ap₂, _∙_}
+use Prim.Native.Nat.{_-_}
+use mathlib.Core.Path.{sym, ap, _∙_}
 use borrow.Author.Needs.{needs}
 use Rattle.derivatives.proofs.VectorCurveDerivatives.combinatorial_derivative_dot.Statement.{
   statement,

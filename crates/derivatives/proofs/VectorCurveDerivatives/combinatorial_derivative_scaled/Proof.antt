@@ -1,15 +1,12 @@
 -- `derivatives::VectorCurveDerivatives::combinatorial_derivative_scaled` meets its contract. Assumes nothing.
 use Rattle.derivatives.proofs.VectorAnswers.{weighted-far-at, weighted-beyond, weighted-infinite-at, weighted-worked-at, near-at}
 use Rattle.derivatives.specs.Vector.{vectors}
-use Rattle.derivatives.specs.Real.{real}
-use Rattle.calculus.specs.Kind.{regular}
 use Rattle.calculus.specs.Curve.{productBy}
 use borrow.Author.Tests.{not-true, not-false}
 use Rattle.vectors.specs.Vectors.{multiple}
 use Rattle.vectors.specs.Answers.{returnedVector}
-use Prim.Native.Nat.{ℕ, suc, _+_, _-_, _*_, _≤_, _<_}
-use native.Mathlib.Omega.{arith}
-use mathlib.Core.Path.{_≡_, refl, sym, ap, ap₂, _∙_}
+use Prim.Native.Nat.{_-_}
+use mathlib.Core.Path.{sym, ap, _∙_}
 use borrow.Author.Needs.{needs}
 use Rattle.derivatives.proofs.VectorCurveDerivatives.combinatorial_derivative_scaled.Statement.{
   statement,

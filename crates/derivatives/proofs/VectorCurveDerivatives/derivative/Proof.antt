@@ -1,13 +1,10 @@
 -- `derivatives::VectorCurveDerivatives::derivative` meets its contract. Assumes nothing.
 use Rattle.derivatives.proofs.VectorAnswers.{derivative-order, derivative-none, derivative-finite, derivative-is}
 use Rattle.derivatives.specs.VectorFormula.{madeVectors}
-use Rattle.derivatives.specs.Vector.{vectorNumbers, allVectorsFinite}
-use native.Mathlib.Numerals.{add-one}
 use borrow.Author.Tests.{not-true, not-false}
-use denote.Ref.{now}
-use Prim.Native.Nat.{ℕ, suc, _+_, _-_, _*_, _≤_, _<_}
+use Prim.Native.Nat.{_-_}
 use native.Mathlib.Omega.{arith}
-use mathlib.Core.Path.{_≡_, refl, sym, ap, ap₂, _∙_}
+use mathlib.Core.Path.{sym, ap, _∙_}
 use borrow.Author.Needs.{needs}
 use Rattle.derivatives.proofs.VectorCurveDerivatives.derivative.Statement.{statement}
 use Rattle.derivatives.proofs.VectorCurveDerivatives.derivative.Tie as tie

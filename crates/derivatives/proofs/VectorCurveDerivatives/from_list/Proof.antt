@@ -5,9 +5,8 @@ use Rattle.derivatives.specs.Vector.{vectorNumbers}
 use native.Mathlib.Nat.{zero-add}
 use borrow.Author.Tests.{not-true, not-false}
 use denote.Ref.{now}
-use Prim.Native.Nat.{ℕ, suc, _+_, _-_, _*_, _≤_, _<_}
-use native.Mathlib.Omega.{arith}
-use mathlib.Core.Path.{_≡_, refl, sym, ap, ap₂, _∙_}
+use Prim.Native.Nat.{_+_, _-_}
+use mathlib.Core.Path.{sym, ap, _∙_}
 use borrow.Author.Needs.{needs}
 use Rattle.derivatives.proofs.VectorCurveDerivatives.from_list.Statement.{statement}
 use Rattle.derivatives.proofs.VectorCurveDerivatives.from_list.Tie as tie

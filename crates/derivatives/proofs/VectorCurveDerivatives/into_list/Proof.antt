@@ -1,14 +1,11 @@
 -- `derivatives::VectorCurveDerivatives::into_list` meets its contract. Assumes nothing.
 use Rattle.derivatives.proofs.VectorAnswers.{into-order, into-length, into-finite, into-is}
-use Rattle.derivatives.specs.Vector.{vectorNumbers, allVectorsFinite}
-use native.Mathlib.Numerals.{add-one}
 use lib.Ieee.{Float}
 use mathlib.Core.List.{List}
 use borrow.Author.Tests.{not-true, not-false}
 use denote.Ref.{now}
-use Prim.Native.Nat.{ℕ, suc, _+_, _-_, _*_, _≤_, _<_}
-use native.Mathlib.Omega.{arith}
-use mathlib.Core.Path.{_≡_, refl, sym, ap, ap₂, _∙_}
+use Prim.Native.Nat.{ℕ, _-_}
+use mathlib.Core.Path.{sym, ap, _∙_}
 use borrow.Author.Needs.{needs}
 use Rattle.derivatives.proofs.VectorCurveDerivatives.into_list.Statement.{statement}
 use Rattle.derivatives.proofs.VectorCurveDerivatives.into_list.Tie as tie

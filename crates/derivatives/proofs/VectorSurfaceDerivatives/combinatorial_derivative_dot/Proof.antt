@@ -1,7 +1,6 @@
 -- `derivatives::VectorSurfaceDerivatives::combinatorial_derivative_dot` meets its contract. Assumes nothing.
 use Rattle.derivatives.proofs.VectorAnswers.{near-at}
 use Rattle.derivatives.proofs.VectorSurfaceAnswers.{two-far-at, two-beyond, two-infinite-at, two-worked-at}
-use Rattle.derivatives.specs.Vector.{vectors}
 use Rattle.derivatives.specs.Real.{real}
 use Rattle.calculus.specs.Kind.{regular}
 use Rattle.calculus.specs.Surface.{productBy}
@@ -10,9 +9,8 @@ use Rattle.vectors.specs.Vectors.{dot}
 use Rattle.ieee.specs.declared.Real.the-variants.{Refused}
 use Rattle.ieee.specs.Answer.{returned}
 use borrow.Author.Needs.{needs}
-use denote.Ref.{now}
-use mathlib.Core.Path.{_≡_, refl, sym, ap, ap₂, _∙_}
-use Prim.Native.Nat.{ℕ, suc, _+_, _-_, _*_, _≤_, _<_}
+use mathlib.Core.Path.{sym, ap, _∙_}
+use Prim.Native.Nat.{_+_, _-_}
 use native.Mathlib.Omega.{arith}
 use Rattle.derivatives.proofs.VectorSurfaceDerivatives.combinatorial_derivative_dot.Statement.{statement}
 use Rattle.derivatives.proofs.VectorSurfaceDerivatives.combinatorial_derivative_dot.Tie as tie

@@ -8,10 +8,8 @@ use Rattle.calculus.specs.Surface.{productBy}
 use Rattle.vectors.specs.Vectors.{dot}
 use borrow.Author.Tests.{not-true, not-false}
 use borrow.Author.Needs.{needs}
-use denote.Ref.{now}
-use mathlib.Core.Path.{_≡_, refl, sym, ap, ap₂, _∙_}
-use Prim.Native.Nat.{ℕ, suc, _+_, _-_, _*_, _≤_, _<_}
-use native.Mathlib.Omega.{arith}
+use mathlib.Core.Path.{sym, _∙_}
+use Prim.Native.Nat.{_-_}
 use Rattle.derivatives.proofs.VectorSurfaceDerivatives.combinatorial_derivatives_dot.Statement.{statement}
 use Rattle.derivatives.proofs.VectorSurfaceDerivatives.combinatorial_derivatives_dot.Tie as tie
 use Rattle.derivatives.proofs.VectorSurfaceDerivatives.combinatorial_derivatives_dot.Reads as reads

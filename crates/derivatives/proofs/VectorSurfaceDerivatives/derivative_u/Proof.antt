@@ -1,10 +1,7 @@
 -- `derivatives::VectorSurfaceDerivatives::derivative_u` meets its contract. Assumes nothing.
 use Rattle.derivatives.proofs.VectorSurfaceAnswers.{by-u}
-use borrow.Author.Needs.{needs}
-use denote.Ref.{now}
-use mathlib.Core.Path.{_≡_, refl, sym, ap, ap₂, _∙_}
-use Prim.Native.Nat.{ℕ, suc, _+_, _-_, _*_, _≤_, _<_}
-use native.Mathlib.Omega.{arith}
+use mathlib.Core.Path.{refl, _∙_}
+use Prim.Native.Nat.{_-_}
 use Rattle.derivatives.proofs.VectorSurfaceDerivatives.derivative_u.Statement.{statement}
 use Rattle.derivatives.proofs.VectorSurfaceDerivatives.derivative_u.Tie as tie
 use Rattle.derivatives.proofs.VectorSurfaceDerivatives.derivative_u.Reads as reads

@@ -3,12 +3,12 @@ use Rattle.derivatives.proofs.Vectors.{none, more, stop}
 use Rattle.derivatives.specs.Vector.{vectorNumbers, allVectorsFinite}
 use Rattle.vectors.specs.Answers.{finiteVector}
 use borrow.Author.Tests.{not-true, not-false}
-use mathlib.Core.Bool.{true, false}
+use mathlib.Core.Bool.{true}
 use denote.Ref.{now}
 use borrow.Author.Needs.{needs}
-use Prim.Native.Nat.{ℕ, suc, _+_, _-_, _*_, _≤_, _<_}
+use Prim.Native.Nat.{_-_, _≤_}
 use native.Mathlib.Omega.{arith}
-use mathlib.Core.Path.{_≡_, refl, sym, ap, ap₂, _∙_}
+use mathlib.Core.Path.{_≡_, sym, ap, _∙_}
 use Rattle.derivatives.proofs.vector_array.all_finite.Statement.{statement}
 use Rattle.derivatives.proofs.vector_array.all_finite.Tie as tie
 use Rattle.derivatives.proofs.vector_array.all_finite.Reads as reads

@@ -2,9 +2,8 @@
 use Rattle.derivatives.specs.Vector.{vectorNumbers, allVectorsFinite}
 use native.Mathlib.Numerals.{add-one}
 use denote.Ref.{now}
-use Prim.Native.Nat.{ℕ, suc, _+_, _-_, _*_, _≤_, _<_}
-use native.Mathlib.Omega.{arith}
-use mathlib.Core.Path.{_≡_, refl, sym, ap, ap₂, _∙_}
+use Prim.Native.Nat.{_-_}
+use mathlib.Core.Path.{ap, _∙_}
 use borrow.Author.Needs.{needs}
 use Rattle.derivatives.proofs.vector_array.curve_finite.Statement.{statement}
 use Rattle.derivatives.proofs.vector_array.curve_finite.Tie as tie

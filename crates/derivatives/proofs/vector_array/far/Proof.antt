@@ -2,10 +2,7 @@
 use Rattle.derivatives.proofs.VectorAnswers.{first-true, first-false}
 use lib.Dec.{ltb}
 use borrow.Author.Tests.{lt-ltb, le-ltb}
-use borrow.Author.Needs.{needs}
-use Prim.Native.Nat.{ℕ, suc, _+_, _-_, _*_, _≤_, _<_}
-use native.Mathlib.Omega.{arith}
-use mathlib.Core.Path.{_≡_, refl, sym, ap, ap₂, _∙_}
+use Prim.Native.Nat.{_-_}
 use Rattle.derivatives.proofs.vector_array.far.Statement.{statement}
 use Rattle.derivatives.proofs.vector_array.far.Tie as tie
 use Rattle.derivatives.proofs.vector_array.far.Reads as reads

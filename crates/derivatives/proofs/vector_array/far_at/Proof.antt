@@ -2,9 +2,8 @@
 use lib.Dec.{ltb}
 use Rattle.derivatives.specs.VectorAnswer.{far}
 use Rattle.derivatives.proofs.VectorAnswers.{first-true, first-false}
-use Prim.Native.Nat.{ℕ, suc, _+_, _-_, _*_, _≤_, _<_}
-use native.Mathlib.Omega.{arith}
-use mathlib.Core.Path.{_≡_, refl, sym, ap, ap₂, _∙_}
+use Prim.Native.Nat.{_-_}
+use mathlib.Core.Path.{sym, _∙_}
 use borrow.Author.Needs.{needs}
 use Rattle.derivatives.proofs.vector_array.far_at.Statement.{statement}
 use Rattle.derivatives.proofs.vector_array.far_at.Tie as tie

@@ -3,10 +3,7 @@ use Rattle.derivatives.proofs.VectorAnswers.{both-true, both-false}
 use lib.Dec.{ltb}
 use Rattle.derivatives.specs.Real.{isZero}
 use borrow.Author.Tests.{lt-ltb, le-ltb}
-use borrow.Author.Needs.{needs}
-use Prim.Native.Nat.{ℕ, suc, _+_, _-_, _*_, _≤_, _<_}
-use native.Mathlib.Omega.{arith}
-use mathlib.Core.Path.{_≡_, refl, sym, ap, ap₂, _∙_}
+use Prim.Native.Nat.{_-_}
 use Rattle.derivatives.proofs.vector_array.norm_divides.Statement.{statement}
 use Rattle.derivatives.proofs.vector_array.norm_divides.Tie as tie
 use Rattle.derivatives.proofs.vector_array.norm_divides.Reads as reads

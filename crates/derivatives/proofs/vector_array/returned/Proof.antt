@@ -2,12 +2,10 @@
 use Rattle.derivatives.proofs.Answers.{yes, no}
 use Rattle.derivatives.specs.VectorFormula.{madeVectors}
 use Rattle.derivatives.specs.VectorAnswer.{refusedVectors}
-use Rattle.derivatives.specs.Vector.{vectorNumbers, allVectorsFinite, finiteVectors}
-use native.Mathlib.Numerals.{add-one}
+use Rattle.derivatives.specs.Vector.{vectorNumbers, finiteVectors}
 use borrow.Author.Tests.{not-true, not-false}
-use Prim.Native.Nat.{ℕ, suc, _+_, _-_, _*_, _≤_, _<_}
-use native.Mathlib.Omega.{arith}
-use mathlib.Core.Path.{_≡_, refl, sym, ap, ap₂, _∙_}
+use Prim.Native.Nat.{_-_}
+use mathlib.Core.Path.{sym, _∙_}
 use borrow.Author.Needs.{needs}
 use Rattle.derivatives.proofs.vector_array.returned.Statement.{statement}
 use Rattle.derivatives.proofs.vector_array.returned.Tie as tie

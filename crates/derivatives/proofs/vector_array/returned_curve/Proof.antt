@@ -3,9 +3,8 @@ use Rattle.derivatives.proofs.Answers.{yes, no}
 use Rattle.derivatives.specs.VectorFormula.{madeCurve}
 use Rattle.derivatives.specs.Answer.{refusedCurve}
 use borrow.Author.Tests.{not-true, not-false}
-use Prim.Native.Nat.{ℕ, suc, _+_, _-_, _*_, _≤_, _<_}
-use native.Mathlib.Omega.{arith}
-use mathlib.Core.Path.{_≡_, refl, sym, ap, ap₂, _∙_}
+use Prim.Native.Nat.{_-_}
+use mathlib.Core.Path.{sym, _∙_}
 use borrow.Author.Needs.{needs}
 use Rattle.derivatives.proofs.vector_array.returned_curve.Statement.{statement}
 use Rattle.derivatives.proofs.vector_array.returned_curve.Tie as tie

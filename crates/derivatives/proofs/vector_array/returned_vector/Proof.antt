@@ -1,9 +1,8 @@
 -- `derivatives::vector_array::returned_vector` meets its contract. Assumes nothing.
 use Rattle.derivatives.proofs.Answers.{yes, no}
 use Rattle.vectors.specs.declared.VectorAnswer.the-variants.{Value, Refused}
-use Prim.Native.Nat.{ℕ, suc, _+_, _-_, _*_, _≤_, _<_}
-use native.Mathlib.Omega.{arith}
-use mathlib.Core.Path.{_≡_, refl, sym, ap, ap₂, _∙_}
+use Prim.Native.Nat.{_-_}
+use mathlib.Core.Path.{sym, _∙_}
 use borrow.Author.Needs.{needs}
 use Rattle.derivatives.proofs.vector_array.returned_vector.Statement.{statement}
 use Rattle.derivatives.proofs.vector_array.returned_vector.Tie as tie

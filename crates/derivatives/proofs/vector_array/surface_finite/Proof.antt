@@ -3,8 +3,8 @@ use Rattle.derivatives.proofs.Vectors.{surface-finite}
 use Rattle.derivatives.proofs.Finite.{count-fits}
 use borrow.Author.Needs.{needs}
 use denote.Ref.{now}
-use mathlib.Core.Path.{_≡_, refl, sym, ap, ap₂, _∙_}
-use Prim.Native.Nat.{ℕ, suc, _+_, _-_, _*_, _≤_, _<_}
+use mathlib.Core.Path.{_∙_}
+use Prim.Native.Nat.{_-_}
 use native.Mathlib.Omega.{arith}
 use Rattle.derivatives.proofs.vector_array.surface_finite.Statement.{statement}
 use Rattle.derivatives.proofs.vector_array.surface_finite.Tie as tie

@@ -8,16 +8,12 @@ use Rattle.partitions.proofs.Lists.{Is}
 use Rattle.partitions.specs.Walk.{stepped, remaining}
 use Rattle.partitions.specs.Parts.{lists}
 use lib.ListN.{length, take, length-take}
-use mathlib.Core.List.{List, _∷_}
-use mathlib.Core.Bool.{true, false}
-use Rattle.derivatives.specs.Answer.{curveNumbers}
-use Rattle.derivatives.specs.Real.{nil, real}
-use Rattle.derivatives.specs.Vector.{origin, vectors, vectorNumbers}
-use Rattle.vectors.specs.Vectors.{multiple}
+use mathlib.Core.Bool.{false}
+use Rattle.derivatives.specs.Vector.{vectors}
 use borrow.Author.Tests.{not-true, not-false}
 use denote.Ref.{now}
-use mathlib.Core.Path.{_≡_, refl, sym, ap, ap₂, _∙_, subst}
-use Prim.Native.Nat.{ℕ, suc, _+_, _-_, _≤_, _<_}
+use mathlib.Core.Path.{_≡_, sym, ap, ap₂, _∙_, subst}
+use Prim.Native.Nat.{_-_}
 use native.Mathlib.Omega.{arith}
 use borrow.Author.Needs.{needs}
 use Rattle.derivatives.proofs.vector_carry.along_lists.Statement.{statement}

@@ -1,8 +1,7 @@
 -- `derivatives::vector_carry::derivatives` meets its contract. The invariant: the entries passed stand in the array. Assumes nothing.
-use Rattle.derivatives.specs.Vector.{origin, vectors, vectorNumbers}
 use denote.Ref.{now}
-use mathlib.Core.Path.{_≡_, refl, sym, ap, ap₂, _∙_, subst}
-use Prim.Native.Nat.{ℕ, suc, _+_, _-_, _≤_, _<_}
+use mathlib.Core.Path.{sym}
+use Prim.Native.Nat.{suc, _-_, _≤_}
 use native.Mathlib.Omega.{arith}
 use borrow.Author.Needs.{needs}
 use Rattle.derivatives.proofs.vector_carry.derivatives.Statement.{statement}

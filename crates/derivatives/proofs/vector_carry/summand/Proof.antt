@@ -5,13 +5,11 @@ use Rattle.calculus.proofs.Walking.{counted-list, list-short}
 use lib.Ieee.{binary64, inFloat}
 use lib.IntN.{pos}
 use lib.Dec.{T}
-use Rattle.derivatives.specs.Real.{nil, real}
-use Rattle.derivatives.specs.Vector.{origin, vectors, vectorNumbers}
+use Rattle.derivatives.specs.Real.{real}
 use Rattle.vectors.specs.Vectors.{multiple}
 use denote.Ref.{now}
-use mathlib.Core.Path.{_≡_, refl, sym, ap, ap₂, _∙_, subst}
-use Prim.Native.Nat.{ℕ, suc, _+_, _-_, _≤_, _<_}
-use native.Mathlib.Omega.{arith}
+use mathlib.Core.Path.{sym, ap, ap₂, _∙_, subst}
+use Prim.Native.Nat.{_-_}
 use borrow.Author.Needs.{needs}
 use Rattle.derivatives.proofs.vector_carry.summand.Statement.{statement}
 use Rattle.derivatives.proofs.vector_carry.summand.Tie as tie

@@ -3,20 +3,16 @@ use Rattle.derivatives.proofs.VectorCarries.{termOf}
 use Rattle.derivatives.proofs.Terms.{one-more, small-square as square-le}
 use Rattle.calculus.proofs.Bits.{entry-at, masks-le, masks-shift}
 use Rattle.calculus.specs.InTurn.{inTurn}
-use lib.ListN.{length, getD}
-use lib.Ieee.{nan}
-use lib.Count.{ones, ones-le}
+use lib.ListN.{length}
+use lib.Count.{ones-le}
 use native.Mathlib.Numerals.{add-one}
 use native.Mathlib.Nat.{le-antisymm}
-use Prim.Native.Nat.{_*_, _/_, _^_}
-use Rattle.calculus.specs.Kind.{regular}
-use Rattle.derivatives.specs.Answer.{curveNumbers}
-use Rattle.derivatives.specs.Real.{nil, real}
+use Prim.Native.Nat.{_^_}
 use Rattle.derivatives.specs.Vector.{origin, vectors, vectorNumbers}
 use Rattle.vectors.specs.Vectors.{multiple}
 use denote.Ref.{now}
 use mathlib.Core.Path.{_≡_, refl, sym, ap, ap₂, _∙_, subst}
-use Prim.Native.Nat.{ℕ, suc, _+_, _-_, _≤_, _<_}
+use Prim.Native.Nat.{_-_, _≤_, _<_}
 use native.Mathlib.Omega.{arith}
 use borrow.Author.Needs.{needs}
 use Rattle.derivatives.proofs.vector_carry.tensor.Statement.{statement}

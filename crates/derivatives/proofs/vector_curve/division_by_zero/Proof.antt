@@ -1,8 +1,7 @@
 -- `derivatives::vector_curve::division_by_zero` meets its contract. Assumes nothing.
 use Rattle.derivatives.specs.VectorFormula.{vectorDivisionByZero}
-use Prim.Native.Nat.{ℕ, suc, _+_, _-_, _*_, _≤_, _<_}
-use native.Mathlib.Omega.{arith}
-use mathlib.Core.Path.{_≡_, refl, sym, ap, ap₂, _∙_}
+use Prim.Native.Nat.{_-_}
+use mathlib.Core.Path.{sym, ap}
 use borrow.Author.Needs.{needs}
 use Rattle.derivatives.proofs.vector_curve.division_by_zero.Statement.{statement}
 use Rattle.derivatives.proofs.vector_curve.division_by_zero.Tie as tie

@@ -7,10 +7,8 @@ use Rattle.derivatives.specs.VectorFormula.{vectorDivisionByZero, byWeig
 use Rattle.derivatives.specs.Vector.{vectorNumbers}
 use Rattle.derivatives.specs.Answer.{curveNumbers}
 use borrow.Author.Tests.{not-true, not-false}
-use denote.Ref.{now}
-use Prim.Native.Nat.{ℕ, suc, _+_, _-_, _*_, _≤_, _<_}
-use native.Mathlib.Omega.{arith}
-use mathlib.Core.Path.{_≡_, refl, sym, ap, ap₂, _∙_}
+use Prim.Native.Nat.{_-_}
+use mathlib.Core.Path.{sym, _∙_}
 use borrow.Author.Needs.{needs}
 use Rattle.derivatives.proofs.vector_curve.on_weighted.Statement.{statement}
 use Rattle.derivatives.proofs.vector_curve.on_weighted.Tie as tie

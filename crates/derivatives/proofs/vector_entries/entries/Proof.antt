@@ -5,9 +5,9 @@ use Rattle.derivatives.specs.Vector.{vectorNumbers}
 use Rattle.derivatives.specs.Answer.{curveNumbers}
 use denote.Ref.{now}
 use borrow.Author.Needs.{needs}
-use Prim.Native.Nat.{ℕ, suc, _+_, _-_, _*_, _≤_, _<_}
+use Prim.Native.Nat.{suc, _-_, _≤_}
 use native.Mathlib.Omega.{arith}
-use mathlib.Core.Path.{_≡_, refl, sym, ap, ap₂, _∙_}
+use mathlib.Core.Path.{sym, _∙_}
 use Rattle.derivatives.proofs.vector_entries.entries.Statement.{statement}
 use Rattle.derivatives.proofs.vector_entries.entries.Tie as tie
 use Rattle.derivatives.proofs.vector_entries.entries.Reads as reads

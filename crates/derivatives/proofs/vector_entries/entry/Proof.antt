@@ -1,12 +1,11 @@
 -- `derivatives::vector_entries::entry` meets its contract. Assumes nothing.
-use Rattle.derivatives.specs.VectorFormula.{vectorFormula, numberFormula}
+use Rattle.derivatives.specs.VectorFormula.{vectorFormula}
 use Rattle.derivatives.specs.Answer.{curveNumbers}
 use Rattle.derivatives.specs.Vector.{vectorNumbers}
 use denote.Ref.{now}
 use Rattle.vectors.specs.Vectors.{sum, difference}
-use Prim.Native.Nat.{ℕ, suc, _+_, _-_, _*_, _≤_, _<_}
-use native.Mathlib.Omega.{arith}
-use mathlib.Core.Path.{_≡_, refl, sym, ap, ap₂, _∙_}
+use Prim.Native.Nat.{_-_}
+use mathlib.Core.Path.{sym, ap, ap₂, _∙_}
 use borrow.Author.Needs.{needs}
 use Rattle.derivatives.proofs.vector_entries.entry.Statement.{statement}
 use Rattle.derivatives.proofs.vector_entries.entry.Tie as tie

@@ -1,15 +1,14 @@
 -- `derivatives::vector_entries::norm_entry` meets its contract. Assumes nothing.
-use Rattle.derivatives.specs.Norm.{normTerm, normEntry}
-use Rattle.derivatives.specs.Real.{nil, real}
+use Rattle.derivatives.specs.Norm.{normEntry}
+use Rattle.derivatives.specs.Real.{real}
 use Rattle.derivatives.specs.Answer.{curveNumbers}
 use Rattle.derivatives.specs.Vector.{vectorNumbers}
 use Rattle.ieee.specs.SquareRoot.{squareRoot}
-use Rattle.calculus.specs.InTurn.{inTurn}
 use denote.Ref.{now}
 use Rattle.vectors.specs.Vectors.{dot, magnitude}
-use Prim.Native.Nat.{ℕ, suc, _+_, _-_, _*_, _≤_, _<_}
+use Prim.Native.Nat.{suc, _-_}
 use native.Mathlib.Omega.{arith}
-use mathlib.Core.Path.{_≡_, refl, sym, ap, ap₂, _∙_}
+use mathlib.Core.Path.{_≡_, sym, ap, _∙_}
 use borrow.Author.Needs.{needs}
 use Rattle.derivatives.proofs.vector_entries.norm_entry.Statement.{statement}
 use Rattle.derivatives.proofs.vector_entries.norm_entry.Tie as tie

@@ -6,9 +6,8 @@ use Rattle.derivatives.specs.Vector.{vectorNumbers}
 use Rattle.calculus.specs.Choose.{choose}
 use native.Mathlib.Numerals.{add-one}
 use denote.Ref.{now}
-use Prim.Native.Nat.{ℕ, suc, _+_, _-_, _*_, _≤_, _<_}
-use native.Mathlib.Omega.{arith}
-use mathlib.Core.Path.{_≡_, refl, sym, ap, ap₂, _∙_}
+use Prim.Native.Nat.{ℕ, suc, _+_, _-_}
+use mathlib.Core.Path.{ap, ap₂, _∙_}
 use borrow.Author.Needs.{needs}
 use Rattle.derivatives.proofs.vector_entries.norm_term.Statement.{statement}
 use Rattle.derivatives.proofs.vector_entries.norm_term.Tie as tie

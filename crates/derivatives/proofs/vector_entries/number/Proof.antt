@@ -1,11 +1,10 @@
 -- `derivatives::vector_entries::number` meets its contract. Assumes nothing.
-use Rattle.derivatives.specs.VectorFormula.{vectorFormula, numberFormula}
+use Rattle.derivatives.specs.VectorFormula.{numberFormula}
 use Rattle.derivatives.specs.Answer.{curveNumbers}
 use Rattle.derivatives.specs.Vector.{vectorNumbers}
 use denote.Ref.{now}
-use Prim.Native.Nat.{ℕ, suc, _+_, _-_, _*_, _≤_, _<_}
-use native.Mathlib.Omega.{arith}
-use mathlib.Core.Path.{_≡_, refl, sym, ap, ap₂, _∙_}
+use Prim.Native.Nat.{_-_}
+use mathlib.Core.Path.{sym, ap, _∙_}
 use borrow.Author.Needs.{needs}
 use Rattle.derivatives.proofs.vector_entries.number.Statement.{statement}
 use Rattle.derivatives.proofs.vector_entries.number.Tie as tie

@@ -7,9 +7,9 @@ use Rattle.calculus.proofs.Filling.{curve-none, curve-more, curve-all}
 use lib.Ieee.{nan}
 use denote.Ref.{now}
 use borrow.Author.Needs.{needs}
-use Prim.Native.Nat.{ℕ, suc, _+_, _-_, _*_, _≤_, _<_}
+use Prim.Native.Nat.{suc, _-_, _≤_}
 use native.Mathlib.Omega.{arith}
-use mathlib.Core.Path.{_≡_, refl, sym, ap, ap₂, _∙_}
+use mathlib.Core.Path.{_≡_, sym, _∙_}
 use Rattle.derivatives.proofs.vector_entries.numbers.Statement.{statement}
 use Rattle.derivatives.proofs.vector_entries.numbers.Tie as tie
 use Rattle.derivatives.proofs.vector_entries.numbers.Reads as reads

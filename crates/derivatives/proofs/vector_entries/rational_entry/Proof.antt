@@ -7,9 +7,9 @@ use Rattle.derivatives.specs.Vector.{vectors, vectorNumbers}
 use Rattle.derivatives.specs.Rational.{rationalTerm}
 use Rattle.vectors.specs.Vectors.{multiple, quotient}
 use borrow.Author.Needs.{needs}
-use Prim.Native.Nat.{ℕ, suc, _+_, _-_, _*_, _≤_, _<_}
+use Prim.Native.Nat.{suc, _+_, _-_, _≤_}
 use native.Mathlib.Omega.{arith}
-use mathlib.Core.Path.{_≡_, refl, sym, ap, ap₂, _∙_}
+use mathlib.Core.Path.{_≡_, ap, ap₂, _∙_}
 use Rattle.derivatives.proofs.vector_entries.rational_entry.Statement.{statement}
 use Rattle.derivatives.proofs.vector_entries.rational_entry.Tie as tie
 use Rattle.derivatives.proofs.vector_entries.rational_entry.Reads as reads

@@ -3,9 +3,8 @@ use Rattle.derivatives.specs.Real.{real}
 use Rattle.vectors.specs.Vectors.{multiple}
 use Rattle.derivatives.specs.Answer.{curveNumbers}
 use denote.Ref.{now}
-use Prim.Native.Nat.{ℕ, suc, _+_, _-_, _*_, _≤_, _<_}
-use native.Mathlib.Omega.{arith}
-use mathlib.Core.Path.{_≡_, refl, sym, ap, ap₂, _∙_}
+use Prim.Native.Nat.{_-_}
+use mathlib.Core.Path.{ap, ap₂, _∙_}
 use borrow.Author.Needs.{needs}
 use Rattle.derivatives.proofs.vector_entries.rational_term.Statement.{statement}
 use Rattle.derivatives.proofs.vector_entries.rational_term.Tie as tie

@@ -2,9 +2,8 @@
 use Rattle.derivatives.proofs.VectorAnswers.{same-array, one-on}
 use Rattle.derivatives.specs.Vector.{vectorNumbers}
 use denote.Ref.{now}
-use Prim.Native.Nat.{ℕ, suc, _+_, _-_, _*_, _≤_, _<_}
-use native.Mathlib.Omega.{arith}
-use mathlib.Core.Path.{_≡_, refl, sym, ap, ap₂, _∙_}
+use Prim.Native.Nat.{suc, _+_, _-_}
+use mathlib.Core.Path.{ap, _∙_}
 use borrow.Author.Needs.{needs}
 use Rattle.derivatives.proofs.vector_entries.shifted.Statement.{statement}
 use Rattle.derivatives.proofs.vector_entries.shifted.Tie as tie

@@ -3,9 +3,9 @@ use Rattle.derivatives.proofs.Vectors.{VectorsFilled, vectors-none, vec
 use Rattle.derivatives.specs.Vector.{vectorNumbers}
 use denote.Ref.{now}
 use borrow.Author.Needs.{needs}
-use Prim.Native.Nat.{ℕ, suc, _+_, _-_, _*_, _≤_, _<_}
+use Prim.Native.Nat.{suc, _+_, _-_, _≤_}
 use native.Mathlib.Omega.{arith}
-use mathlib.Core.Path.{_≡_, refl, sym, ap, ap₂, _∙_}
+use mathlib.Core.Path.{sym}
 use Rattle.derivatives.proofs.vector_entries.taken.Statement.{statement}
 use Rattle.derivatives.proofs.vector_entries.taken.Tie as tie
 use Rattle.derivatives.proofs.vector_entries.taken.Reads as reads

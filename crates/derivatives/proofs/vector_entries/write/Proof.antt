@@ -5,9 +5,9 @@ use Rattle.derivatives.specs.Answer.{curveNumbers}
 use native.Mathlib.Nat.{not-suc-le-zero}
 use denote.Ref.{now}
 use borrow.Author.Needs.{needs}
-use Prim.Native.Nat.{ℕ, suc, _+_, _-_, _*_, _≤_, _<_}
+use Prim.Native.Nat.{suc, _-_, _*_, _≤_}
 use native.Mathlib.Omega.{arith}
-use mathlib.Core.Path.{_≡_, refl, sym, ap, ap₂, _∙_}
+use mathlib.Core.Path.{_≡_, sym, _∙_}
 use Rattle.derivatives.proofs.vector_entries.write.Statement.{statement}
 use Rattle.derivatives.proofs.vector_entries.write.Tie as tie
 use Rattle.derivatives.proofs.vector_entries.write.Reads as reads

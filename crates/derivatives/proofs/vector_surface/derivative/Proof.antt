@@ -1,12 +1,10 @@
 -- `derivatives::vector_surface::derivative` meets its contract. Assumes nothing.
 use Rattle.derivatives.proofs.VectorSurfaceAnswers.{derivative-order, derivative-none, derivative-finite, derivative-is}
 use Rattle.derivatives.specs.VectorSurfaceAnswer.{madeVectorSurface}
-use Rattle.derivatives.specs.Vector.{vectorSurfaceNumbers}
 use borrow.Author.Tests.{not-true, not-false}
 use borrow.Author.Needs.{needs}
-use denote.Ref.{now}
-use mathlib.Core.Path.{_≡_, refl, sym, ap, ap₂, _∙_}
-use Prim.Native.Nat.{ℕ, suc, _+_, _-_, _*_, _≤_, _<_}
+use mathlib.Core.Path.{sym, ap, _∙_}
+use Prim.Native.Nat.{_+_, _-_}
 use native.Mathlib.Omega.{arith}
 use Rattle.derivatives.proofs.vector_surface.derivative.Statement.{statement}
 use Rattle.derivatives.proofs.vector_surface.derivative.Tie as tie

@@ -3,10 +3,8 @@ use Rattle.derivatives.proofs.VectorAnswers.{first-true, first-false}
 use Rattle.derivatives.specs.VectorAnswer.{far}
 use lib.Dec.{ltb}
 use borrow.Author.Needs.{needs}
-use denote.Ref.{now}
-use mathlib.Core.Path.{_≡_, refl, sym, ap, ap₂, _∙_}
-use Prim.Native.Nat.{ℕ, suc, _+_, _-_, _*_, _≤_, _<_}
-use native.Mathlib.Omega.{arith}
+use mathlib.Core.Path.{sym, _∙_}
+use Prim.Native.Nat.{_+_, _-_}
 use Rattle.derivatives.proofs.vector_surface.far_at.Statement.{statement}
 use Rattle.derivatives.proofs.vector_surface.far_at.Tie as tie
 use Rattle.derivatives.proofs.vector_surface.far_at.Reads as reads

@@ -1,9 +1,8 @@
 -- `derivatives::vector_surface::far_sum` meets its contract. Assumes nothing.
 use borrow.Author.Tests.{lt-ltb}
 use borrow.Author.Needs.{needs}
-use denote.Ref.{now}
-use mathlib.Core.Path.{_≡_, refl, sym, ap, ap₂, _∙_}
-use Prim.Native.Nat.{ℕ, suc, _+_, _-_, _*_, _≤_, _<_}
+use mathlib.Core.Path.{refl, sym}
+use Prim.Native.Nat.{_+_, _-_}
 use native.Mathlib.Omega.{arith}
 use Rattle.derivatives.proofs.vector_surface.far_sum.Statement.{statement}
 use Rattle.derivatives.proofs.vector_surface.far_sum.Tie as tie

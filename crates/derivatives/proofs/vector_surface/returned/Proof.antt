@@ -3,11 +3,9 @@ use Rattle.derivatives.proofs.Answers.{yes, no}
 use Rattle.derivatives.specs.VectorSurfaceAnswer.{madeVectorSurface}
 use Rattle.derivatives.specs.VectorSurfaceAnswer.{refusedVectorSurface}
 use Rattle.derivatives.specs.Vector.{vectorSurfaceNumbers, finiteVectorSurface}
-use native.Mathlib.Numerals.{add-one}
 use borrow.Author.Tests.{not-true, not-false}
-use Prim.Native.Nat.{ℕ, suc, _+_, _-_, _*_, _≤_, _<_}
-use native.Mathlib.Omega.{arith}
-use mathlib.Core.Path.{_≡_, refl, sym, ap, ap₂, _∙_}
+use Prim.Native.Nat.{_-_}
+use mathlib.Core.Path.{sym, _∙_}
 use borrow.Author.Needs.{needs}
 use Rattle.derivatives.proofs.vector_surface.returned.Statement.{statement}
 use Rattle.derivatives.proofs.vector_surface.returned.Tie as tie

@@ -4,10 +4,8 @@ use Rattle.derivatives.specs.VectorSurfaceAnswer.{madeSurface}
 use Rattle.derivatives.specs.Answer.{surfaceNumbers, finiteSurface, refusedSurface}
 use borrow.Author.Tests.{not-true, not-false}
 use borrow.Author.Needs.{needs}
-use denote.Ref.{now}
-use mathlib.Core.Path.{_≡_, refl, sym, ap, ap₂, _∙_}
-use Prim.Native.Nat.{ℕ, suc, _+_, _-_, _*_, _≤_, _<_}
-use native.Mathlib.Omega.{arith}
+use mathlib.Core.Path.{sym, _∙_}
+use Prim.Native.Nat.{_-_}
 use Rattle.derivatives.proofs.vector_surface.returned_surface.Statement.{statement}
 use Rattle.derivatives.proofs.vector_surface.returned_surface.Tie as tie
 use Rattle.derivatives.proofs.vector_surface.returned_surface.Reads as reads

@@ -2,11 +2,9 @@
 use Rattle.derivatives.proofs.VectorAnswers.{both-true, both-false}
 use Rattle.derivatives.specs.Vector.{vectorSurfaceNumbers, finiteVectorSurface}
 use Rattle.derivatives.specs.Answer.{surfaceNumbers, finiteSurface}
-use native.Mathlib.Numerals.{add-one}
 use denote.Ref.{now}
-use Prim.Native.Nat.{ℕ, suc, _+_, _-_, _*_, _≤_, _<_}
-use native.Mathlib.Omega.{arith}
-use mathlib.Core.Path.{_≡_, refl, sym, ap, ap₂, _∙_}
+use Prim.Native.Nat.{_-_}
+use mathlib.Core.Path.{sym, _∙_}
 use borrow.Author.Needs.{needs}
 use Rattle.derivatives.proofs.vector_surface.weighted_finite.Statement.{statement}
 use Rattle.derivatives.proofs.vector_surface.weighted_finite.Tie as tie

@@ -2,10 +2,8 @@
 use Rattle.derivatives.proofs.Terms.{small-product}
 use Rattle.derivatives.specs.Real.{real}
 use borrow.Author.Needs.{needs}
-use denote.Ref.{now}
-use mathlib.Core.Path.{_≡_, refl, sym, ap, ap₂, _∙_}
-use Prim.Native.Nat.{ℕ, suc, _+_, _-_, _*_, _≤_, _<_}
-use native.Mathlib.Omega.{arith}
+use mathlib.Core.Path.{ap, ap₂, _∙_}
+use Prim.Native.Nat.{_-_, _*_}
 use Rattle.derivatives.proofs.vector_surface_entries.coefficient.Statement.{statement}
 use Rattle.derivatives.proofs.vector_surface_entries.coefficient.Tie as tie
 use Rattle.derivatives.proofs.vector_surface_entries.coefficient.Reads as reads

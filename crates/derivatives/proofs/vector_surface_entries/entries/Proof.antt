@@ -1,15 +1,12 @@
 -- `derivatives::vector_surface_entries::entries` meets its contract. Assumes nothing.
 use Rattle.derivatives.proofs.VectorSurfaces.{SurfaceProgress, surface-begins, surface-goes-on, surface-turns, surface-ends, surfaceOf, surface-formed}
 use Rattle.calculus.proofs.Graded.{index-231}
-use Rattle.derivatives.specs.Vector.{origin, vectors, vectorNumbers, vectorSurfaceNumbers}
-use Rattle.derivatives.specs.Real.{real}
+use Rattle.derivatives.specs.Vector.{vectorSurfaceNumbers}
 use Rattle.derivatives.specs.Answer.{surfaceNumbers}
-use Rattle.vectors.specs.Vectors.{sum, difference, multiple, quotient, cross}
 use borrow.Author.Needs.{needs}
 use denote.Ref.{now}
-use native.Mathlib.Numerals.{add-one}
-use mathlib.Core.Path.{_≡_, refl, sym, ap, ap₂, _∙_}
-use Prim.Native.Nat.{ℕ, suc, _+_, _-_, _*_, _≤_, _<_}
+use mathlib.Core.Path.{sym, _∙_}
+use Prim.Native.Nat.{suc, _+_, _-_, _*_, _≤_}
 use native.Mathlib.Omega.{arith}
 use Rattle.derivatives.proofs.vector_surface_entries.entries.Statement.{statement}
 use Rattle.derivatives.proofs.vector_surface_entries.entries.Tie as tie

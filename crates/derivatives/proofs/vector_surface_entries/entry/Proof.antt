@@ -1,14 +1,12 @@
 -- `derivatives::vector_surface_entries::entry` meets its contract. Assumes nothing.
-use Rattle.derivatives.specs.Vector.{origin, vectors, vectorNumbers, vectorSurfaceNumbers}
-use Rattle.derivatives.specs.Real.{real}
+use Rattle.derivatives.specs.Vector.{vectorSurfaceNumbers}
 use Rattle.derivatives.specs.Answer.{surfaceNumbers}
-use Rattle.vectors.specs.Vectors.{sum, difference, multiple, quotient, cross}
+use Rattle.vectors.specs.Vectors.{sum, difference}
 use Rattle.derivatives.specs.VectorSurfaceAnswer.{vectorSurfaceFormula}
 use borrow.Author.Needs.{needs}
 use denote.Ref.{now}
-use mathlib.Core.Path.{_≡_, refl, sym, ap, ap₂, _∙_}
-use Prim.Native.Nat.{ℕ, suc, _+_, _-_, _*_, _≤_, _<_}
-use native.Mathlib.Omega.{arith}
+use mathlib.Core.Path.{sym, ap, ap₂, _∙_}
+use Prim.Native.Nat.{_-_}
 use Rattle.derivatives.proofs.vector_surface_entries.entry.Statement.{statement}
 use Rattle.derivatives.proofs.vector_surface_entries.entry.Tie as tie
 use Rattle.derivatives.proofs.vector_surface_entries.entry.Reads as reads

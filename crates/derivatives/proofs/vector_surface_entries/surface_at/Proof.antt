@@ -1,13 +1,10 @@
 -- `derivatives::vector_surface_entries::surface_at` meets its contract. Assumes nothing.
 use Rattle.calculus.proofs.Graded.{index-231}
-use Rattle.derivatives.specs.Vector.{origin, vectors, vectorNumbers, vectorSurfaceNumbers}
-use Rattle.derivatives.specs.Real.{real}
-use Rattle.derivatives.specs.Answer.{surfaceNumbers}
-use Rattle.vectors.specs.Vectors.{sum, difference, multiple, quotient, cross}
+use Rattle.derivatives.specs.Vector.{vectorNumbers}
 use borrow.Author.Needs.{needs}
 use denote.Ref.{now}
-use mathlib.Core.Path.{_≡_, refl, sym, ap, ap₂, _∙_}
-use Prim.Native.Nat.{ℕ, suc, _+_, _-_, _*_, _≤_, _<_}
+use mathlib.Core.Path.{ap, _∙_}
+use Prim.Native.Nat.{_-_}
 use native.Mathlib.Omega.{arith}
 use Rattle.derivatives.proofs.vector_surface_entries.surface_at.Statement.{statement}
 use Rattle.derivatives.proofs.vector_surface_entries.surface_at.Tie as tie

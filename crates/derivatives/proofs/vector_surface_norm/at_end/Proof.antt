@@ -1,0 +1,26 @@
+-- `derivatives::vector_surface_norm::at_end` meets its contract. Assumes nothing.
+use mathlib.Core.Bool.{_||_}
+use borrow.Author.Needs.{needs}
+use mathlib.Core.Path.{ap₂, _∙_}
+use Prim.Native.Nat.{_-_}
+use Rattle.derivatives.proofs.vector_surface_norm.at_end.Statement.{statement}
+use Rattle.derivatives.proofs.vector_surface_norm.at_end.Tie as tie
+use Rattle.derivatives.proofs.vector_surface_norm.at_end.Reads as reads
+use Rattle.derivatives.proofs.vector_surface_norm.at_end.Lts as lts
+use Rattle.derivatives.proofs.vector_surface_norm.both.Reads as both-reads
+use Rattle.derivatives.proofs.vector_surface_norm.either.Reads as either-reads
+
+both-requires : tie.Need-both-requires
+both-requires c κs = search needs
+
+both-requires-2 : tie.Need-both-requires-2
+both-requires-2 c κs = search needs
+
+either-requires : tie.Need-either-requires
+either-requires c κs = search needs
+
+returns : tie.Need-returns
+returns c = c .either .ensures ∙ ap₂ _||_ (c .before .before .both .ensures) (c .before .both2 .ensures)
+
+pub at-end-spec : {M : Type 1} → statement M
+at-end-spec = tie.close (tie.spec both-requires both-requires-2 either-requires returns)
