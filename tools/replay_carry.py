@@ -14,17 +14,9 @@ import random
 from fractions import Fraction
 from math import factorial
 
-LOW, HIGH, LARGEST = -(2**63), 2**63 - 1, 2**64 - 1
+from checked import LOW, HIGH, Refused, formed
 
-
-class Refused(Exception):
-    pass
-
-
-def formed(z):
-    if not LOW <= z <= HIGH:
-        raise Refused(9)
-    return z
+LARGEST = 2**64 - 1
 
 
 def at(i, j):

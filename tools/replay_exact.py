@@ -13,25 +13,7 @@ import random
 from fractions import Fraction
 from math import comb, factorial
 
-LOW, HIGH = -(2**63), 2**63 - 1
-
-
-class Refused(Exception):
-    pass
-
-
-def formed(z):
-    if not LOW <= z <= HIGH:
-        raise Refused(9)
-    return z
-
-
-def divided(x, y):
-    if y == 0:
-        raise Refused(7)
-    if x % y:
-        raise Refused(8)
-    return formed(x // y)
+from checked import LOW, HIGH, Refused, formed, divided
 
 
 def places(n):

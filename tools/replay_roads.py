@@ -16,25 +16,7 @@ second. The last line counts the cases, the answered outcomes of the first road,
 import random
 from math import comb, factorial
 
-LOW, HIGH = -(2**63), 2**63 - 1
-
-
-class Refused(Exception):
-    pass
-
-
-def formed(z):
-    if not LOW <= z <= HIGH:
-        raise Refused(9)
-    return z
-
-
-def over(x, y):
-    if y == 0:
-        raise Refused(7)
-    if x % y != 0:
-        raise Refused(8)
-    return formed(x // y)
+from checked import Refused, divided as over, formed
 
 
 # A jet is an order and a dictionary of entries: by (i,) for a curve, by (i, j) for a surface. The order of work is that of the keys.
