@@ -2,6 +2,10 @@
 // 5 where a float handed in is not finite, 10 where a returned float is not.
 ghost use mathlib.Core.Path.{_≡_};
 ghost use Rattle.rolling_ball_fillet.specs.Answers.{rotationAnswer, finiteContact, finiteCircle, derivativeAnswer};
+use derivatives::CurveDerivatives;
+use derivatives::ParameterCurve;
+use derivatives::VectorCurveDerivatives;
+use derivatives::VectorSurfaceDerivatives;
 use vectors::Matrix3Answer;
 use vectors::Vector2;
 use vectors::Vector3;
@@ -30,6 +34,44 @@ pub struct ContactCircle {
     pub angle: f64,
     pub contact_point0: ContactPoint,
     pub contact_point1: ContactPoint,
+}
+
+// The edge, both surfaces and the radius at one place of the edge, as jets, and the surfaces' unit normals there.
+pub struct RollingBallFilletSurface {
+    pub edge_curve: VectorCurveDerivatives,
+    pub surface0: VectorSurfaceDerivatives,
+    pub surface1: VectorSurfaceDerivatives,
+    pub radius: CurveDerivatives,
+    pub normal0: Vector3,
+    pub normal1: Vector3,
+}
+
+// How the ball's centre, its two contact points and their parameters move along the edge.
+pub struct CenterContactDers {
+    pub center_ders: VectorCurveDerivatives,
+    pub contact0_ders: VectorCurveDerivatives,
+    pub contact1_ders: VectorCurveDerivatives,
+    pub uv0_ders: ParameterCurve,
+    pub uv1_ders: ParameterCurve,
+}
+
+pub struct CenterContactAnswer {
+    pub refusal: u8,
+    pub ders: CenterContactDers,
+}
+
+// How the circle's axis and angle move along the edge, beside its centre and contacts.
+pub struct VderInfo {
+    pub cc_ders: CenterContactDers,
+    pub axis_ders: VectorCurveDerivatives,
+    pub angle_ders: CurveDerivatives,
+}
+
+// With the clamped cosine of the angle.
+pub struct VderInfoAnswer {
+    pub refusal: u8,
+    pub info: VderInfo,
+    pub cosine: f64,
 }
 
 // Rodrigues' rotation, derived x, y and z times by the axis' components and n times by the angle, whose sine and cosine are s and c.
