@@ -1,4 +1,5 @@
 pub mod Given
 pub mod Delivery
 pub mod Lists
+pub mod Values
 pub mod Operations

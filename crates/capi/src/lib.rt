@@ -6,3 +6,5 @@
 mod curves;
 mod deliver;
 mod given;
+mod surfaces;
+mod values;
