@@ -1,0 +1,4 @@
+// Every public operation as a function over numbers and slices, for callers in C and in Rust: a slice goes in as a pointer and a length. A
+// function returns 0 and writes its answer, or returns the number of a refusal and leaves what was lent as it was.
+mod exact_checks;
+mod whole_numbers;
