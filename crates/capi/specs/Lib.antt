@@ -1,1 +1,2 @@
 pub mod ExactChecks
+pub mod ExactJets

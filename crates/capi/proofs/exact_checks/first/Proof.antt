@@ -1,8 +1,8 @@
 -- `capi::exact_checks::first` meets its contract. Assumes nothing.
-use Rattle.whole.specs.History.{orElse}
 use mathlib.Core.Path.{sym, ap}
-use Rattle.capi.proofs.ExactOutcomes.{first-some}
 use Prim.Native.Nat.{ℕ}
+use Rattle.whole.specs.History.{orElse}
+use Rattle.capi.proofs.ExactOutcomes.{first-some}
 use Rattle.capi.proofs.exact_checks.first.Statement.{statement}
 use Rattle.capi.proofs.exact_checks.first.Tie as tie
 

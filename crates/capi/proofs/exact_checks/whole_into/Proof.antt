@@ -1,7 +1,7 @@
 -- `capi::exact_checks::whole_into` meets its contract. Assumes nothing.
-use Rattle.capi.proofs.ExactOutcomes.{not-one, one-value, one-refused}
 use denote.Ref.{now}
 use borrow.Author.Needs.{needs}
+use Rattle.capi.proofs.ExactOutcomes.{not-one, one-value, one-refused}
 use Rattle.capi.proofs.exact_checks.whole_into.Statement.{statement}
 use Rattle.capi.proofs.exact_checks.whole_into.Tie as tie
 

@@ -1,9 +1,9 @@
 -- `capi::whole_numbers::sugamdely_whole_quotient` meets its contract. Assumes nothing.
-use Rattle.capi.proofs.ExactOutcomes.{on-passed}
-use Rattle.whole.specs.Checked.{divided}
 use mathlib.Core.Path.{_∙_}
 use denote.Ref.{now}
 use borrow.Author.Needs.{needs}
+use Rattle.whole.specs.Checked.{divided}
+use Rattle.capi.proofs.ExactOutcomes.{on-passed}
 use Rattle.capi.proofs.whole_numbers.sugamdely_whole_quotient.Statement.{statement}
 use Rattle.capi.proofs.whole_numbers.sugamdely_whole_quotient.Tie as tie
 
