@@ -3,3 +3,5 @@ pub mod Delivery
 pub mod Lists
 pub mod Values
 pub mod Operations
+pub mod ExactChecks
+pub mod ExactJets
