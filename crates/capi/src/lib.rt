@@ -6,3 +6,4 @@
 mod curves;
 mod deliver;
 mod given;
+mod surfaces;
