@@ -2,3 +2,4 @@ pub mod Given
 pub mod Delivery
 pub mod Lists
 pub mod Operations
+pub mod VectorOperations

@@ -7,3 +7,4 @@ mod curves;
 mod deliver;
 mod given;
 mod surfaces;
+mod vector_curves;
