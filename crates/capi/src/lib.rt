@@ -8,3 +8,4 @@ mod deliver;
 mod given;
 mod surfaces;
 mod vector_curves;
+mod vector_surfaces;
