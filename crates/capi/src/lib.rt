@@ -9,6 +9,8 @@ pub mod exact_curves;
 pub mod exact_surfaces;
 pub mod surfaces;
 pub mod values;
+pub mod vector_curves;
+pub mod vector_surfaces;
 pub mod whole_numbers;
 mod deliver;
 mod exact_checks;
