@@ -1,1 +1,4 @@
 pub mod ExactOutcomes
+pub mod Copying
+pub mod Counts
+pub mod Walks

@@ -1,2 +1,3 @@
 pub mod ExactChecks
 pub mod ExactJets
+pub mod PartLists

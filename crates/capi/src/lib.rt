@@ -4,4 +4,5 @@ mod exact_carry;
 mod exact_checks;
 mod exact_curves;
 mod exact_surfaces;
+mod part_lists;
 mod whole_numbers;
