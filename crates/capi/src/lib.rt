@@ -7,6 +7,7 @@ pub mod curves;
 pub mod exact_carry;
 pub mod exact_curves;
 pub mod exact_surfaces;
+pub mod part_lists;
 pub mod surfaces;
 pub mod values;
 pub mod vector_curves;
