@@ -3,4 +3,4 @@ pub mod Figures
 pub mod Filled
 pub mod AxisAngle
 pub mod Parameters
-pub mod Tested
+pub mod Tests
