@@ -1,2 +1,6 @@
 pub mod Orders
 pub mod Figures
+pub mod Entries
+pub mod Parts
+pub mod Tested
+pub mod CenterFigures

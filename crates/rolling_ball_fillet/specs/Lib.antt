@@ -1,3 +1,5 @@
 pub mod Rotation
 pub mod Circle
 pub mod Answers
+pub mod SurfaceInfo
+pub mod Center

@@ -2,6 +2,7 @@
 // 5 where a float handed in is not finite, 10 where a returned float is not.
 ghost use mathlib.Core.Path.{_≡_};
 ghost use Rattle.rolling_ball_fillet.specs.Answers.{rotationAnswer, finiteContact, finiteCircle, derivativeAnswer};
+ghost use Rattle.rolling_ball_fillet.specs.Center.{centerContactAnswer};
 use derivatives::CurveDerivatives;
 use derivatives::ParameterCurve;
 use derivatives::VectorCurveDerivatives;
@@ -12,8 +13,12 @@ use vectors::Vector3;
 use vectors::VectorAnswer;
 
 mod answers;
+mod arrays;
 mod circle;
+mod contacts;
+mod given;
 mod rotation;
+mod surface_info;
 
 // The sine and the cosine of an angle.
 pub struct Pair {
@@ -136,5 +141,25 @@ impl ContactCircle {
             return answers::vector_from(inputs, circle::derivative(self, m, s, c));
         }
         VectorAnswer::Refused(1)
+    }
+}
+
+impl RollingBallFilletSurface {
+    // How the centre, the contact points and their parameters move along the edge, up to the order n.
+    pub fn sub_center_contacts_ders(self, cc: ContactCircle, n: usize) -> CenterContactAnswer
+        ensures { λ r. ⌜ r ≡ centerContactAnswer self cc n ⌝ }
+    {
+        if given::beyond(self, n) {
+            return contacts::refused(1);
+        }
+        let k = n + 1;
+        if given::short(self, k) {
+            return contacts::refused(2);
+        }
+        if given::finite_given(self, cc, k) {
+            let a = contacts::center_contacts(self, cc, n);
+            return given::returned(a, n);
+        }
+        contacts::refused(5)
     }
 }
