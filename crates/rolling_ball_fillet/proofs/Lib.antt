@@ -1,5 +1,9 @@
 pub mod Orders
 pub mod Figures
+pub mod Entries
+pub mod Parts
+pub mod Tested
+pub mod CenterFigures
 pub mod Filled
 pub mod AxisAngle
 pub mod Parameters

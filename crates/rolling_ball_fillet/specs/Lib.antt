@@ -1,6 +1,8 @@
 pub mod Rotation
 pub mod Circle
 pub mod Answers
+pub mod SurfaceInfo
+pub mod Center
 pub mod Jets
 pub mod AxisAngle
 pub mod Partials
