@@ -2,3 +2,5 @@ pub mod ExactOutcomes
 pub mod Copying
 pub mod Counts
 pub mod Walks
+pub mod RecipeLists
+pub mod RecipeChecks

@@ -1,3 +1,4 @@
 pub mod ExactChecks
 pub mod ExactJets
 pub mod PartLists
+pub mod Recipes
