@@ -270,3 +270,87 @@ pub fn same_sizes(a: &[usize], b: &[usize]) -> bool {
     }
     true
 }
+
+// The list at i; where there is none, the empty list.
+pub fn float_list<'a>(l: &'a [f64], ends: &[usize; 12], i: usize) -> &'a [f64] {
+    if 10 < i {
+        return &l[0..0];
+    }
+    let from = ends[i];
+    let to = ends[i + 1];
+    floats_part(l, from, to)
+}
+
+pub fn whole_list<'a>(l: &'a [i64], ends: &[usize; 12], i: usize) -> &'a [i64] {
+    if 10 < i {
+        return &l[0..0];
+    }
+    let from = ends[i];
+    let to = ends[i + 1];
+    wholes_part(l, from, to)
+}
+
+pub fn size_list<'a>(l: &'a [usize], ends: &[usize; 12], i: usize) -> &'a [usize] {
+    if 10 < i {
+        return &l[0..0];
+    }
+    let from = ends[i];
+    let to = ends[i + 1];
+    sizes_part(l, from, to)
+}
+
+// The member at i; 0 where there is none.
+pub fn float_at(l: &[f64], i: usize) -> f64 {
+    if i < l.len() {
+        return l[i];
+    }
+    0.0
+}
+
+pub fn whole_at(l: &[i64], i: usize) -> i64 {
+    if i < l.len() {
+        return l[i];
+    }
+    0
+}
+
+pub fn size_at(l: &[usize], i: usize) -> usize {
+    if i < l.len() {
+        return l[i];
+    }
+    0
+}
+
+pub fn words_part(l: &[u64], from: usize, to: usize) -> &[u64] {
+    if to <= l.len() {
+        if from <= to {
+            return &l[from..to];
+        }
+    }
+    &l[0..0]
+}
+
+pub fn first_words(l: &mut [u64], n: usize) -> &mut [u64] {
+    if n <= l.len() {
+        return &mut l[0..n];
+    }
+    &mut l[0..0]
+}
+
+pub fn same_words(a: &[u64], b: &[usize]) -> bool {
+    if a.len() != b.len() {
+        return false;
+    }
+    let mut i = 0;
+    while i < a.len() {
+        if i < b.len() {
+            let x = a[i];
+            let y = b[i];
+            if x != (y as u64) {
+                return false;
+            }
+        }
+        i += 1;
+    }
+    true
+}
