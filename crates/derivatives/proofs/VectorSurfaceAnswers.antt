@@ -3,7 +3,7 @@ use mathlib.Core.Path.{_≡_, sym, ap, ap₂, _∙_, fun-ext}
 use mathlib.Core.Bool.{Bool, true, false, cond, _&&_, _||_}
 use lib.Dec.{ltb}
 use lib.ListN.{length}
-use Rattle.calculus.specs.Order.{listPlace}
+use Rattle.calculus.specs.Order.{surfaceEntries, listPlace}
 use mathlib.Core.List.{List}
 use Prim.Native.Nat.{ℕ, suc, _+_, _*_, _-_, _≤_, _<_, min}
 use native.Mathlib.Nat.{add-zero}
@@ -24,11 +24,11 @@ use Rattle.derivatives.specs.declared.VectorSurfaceDerivatives.{VectorSu
 use Rattle.derivatives.specs.declared.VectorSurfaceAnswer.{VectorSurfaceAnswer}
 use Rattle.derivatives.specs.Answer.{curveNumbers, surfaceNumbers, allFinite, finiteList, finiteSurface, refusedSurface, returnedSurface}
 use Rattle.derivatives.specs.Real.{nil, real}
-use Rattle.derivatives.specs.Vector.{vectorNumbers, vectorSurfaceNumbers, vectorSurfaceArray, allVectorsFinite, finiteVectorSurface}
+use Rattle.derivatives.specs.Vector.{vectorNumbers, flat, vectorSurfaceNumbers, vectorSurfaceArray, allVectorsFinite, finiteVectorSurface}
 use Rattle.derivatives.specs.VectorAnswer.{far}
-use Rattle.derivatives.specs.VectorSurfaceAnswer.{refusedVectorSurface, madeVectorSurface, madeSurface, answeredVectorSurface, returnedVectorSurface, vectorSurfaceDot, vectorSurfaceDerivative, vectorSurfaceFromList, onVectorSurfaces, onWeightedSurface, onVectorSurfacesAt, onWeightedSurfaceAt}
+use Rattle.derivatives.specs.VectorSurfaceAnswer.{refusedVectorSurface, madeVectorSurface, madeSurface, answeredVectorSurface, returnedVectorSurface, vectorSurfaceDot, vectorSurfaceDerivative, vectorSurfaceFromList, vectorSurfaceIntoList, onVectorSurfaces, onWeightedSurface, onVectorSurfacesAt, onWeightedSurfaceAt}
 use Rattle.derivatives.proofs.Finite.{count-is, surface-finite as float-surface-finite}
-use Rattle.derivatives.proofs.Answers.{filled-finite as float-filled-finite}
+use Rattle.derivatives.proofs.Answers.{pair, filled-finite as float-filled-finite}
 use Rattle.derivatives.proofs.Vectors.{surface-finite, filled-finite}
 
 -- ---- what has been computed
@@ -174,3 +174,19 @@ module _ (n : ℕ) (l : List Float) where
     pub list-is : length l ≡ 3 * k → finiteList l ≡ true →
         answeredVectorSurface n (λ i j. vectorNumbers l (listPlace n i j)) ≡ vectorSurfaceFromList n l
     list-is e p = rw (le-ltb 20 n h, eq-eqb (length l) (3 * triangle (suc n)) (e ∙ ap (_*_ 3) c), p)
+
+-- ---- into a list
+module _ (a : VectorSurfaceDerivatives) (out : List Float) where
+  pub into-order : 20 < a .order → pair 1 out ≡ vectorSurfaceIntoList a out
+  into-order h = rw (lt-ltb 20 (a .order) h)
+
+  module _ (h : a .order ≤ 20) {k : ℕ} (c : k ≡ triangle (suc (a .order))) where
+    pub into-length : ¬ (length out ≡ 3 * k) → pair 2 out ≡ vectorSurfaceIntoList a out
+    into-length e = rw (le-ltb 20 (a .order) h, ne-eqb (length out) (3 * triangle (suc (a .order))) (λ q. e (q ∙ ap (_*_ 3) (sym c))))
+
+    pub into-finite : length out ≡ 3 * k → finiteVectorSurface (vectorSurfaceNumbers (a .entries)) (a .order) ≡ false → pair 5 out ≡ vectorSurfaceIntoList a out
+    into-finite e p = rw (le-ltb 20 (a .order) h, eq-eqb (length out) (3 * triangle (suc (a .order))) (e ∙ ap (_*_ 3) c), p)
+
+    pub into-is : length out ≡ 3 * k → finiteVectorSurface (vectorSurfaceNumbers (a .entries)) (a .order) ≡ true →
+        pair 0 (flat (surfaceEntries (vectorSurfaceNumbers (a .entries)) (a .order))) ≡ vectorSurfaceIntoList a out
+    into-is e p = rw (le-ltb 20 (a .order) h, eq-eqb (length out) (3 * triangle (suc (a .order))) (e ∙ ap (_*_ 3) c), p)

@@ -1,10 +1,10 @@
 -- A loop that forms the entries of a surface of vectors, i rising, then j, and stores each; and what a formula reads of them.
 -- Assumes nothing.
 use mathlib.Core.Path.{_≡_, refl, sym, ap, ap₂, _∙_, subst}
-use mathlib.Core.List.{List}
-use Prim.Native.Nat.{ℕ, _+_, _*_, _≤_, _<_}
+use mathlib.Core.List.{List, [], _∷_}
+use Prim.Native.Nat.{ℕ, suc, _+_, _*_, _≤_, _<_}
 use native.Mathlib.Omega.{arith}
-use lib.ListN.{set, replicate}
+use lib.ListN.{length, set, replicate}
 use lib.Ieee.{Float}
 use Rattle.vectors.specs.declared.Vector3.{Vector3}
 use Rattle.vectors.specs.Vectors.{quotient}
@@ -14,6 +14,7 @@ use Rattle.calculus.proofs.Related.{sameModule}
 use Rattle.calculus.proofs.Graded.{room-231}
 use Rattle.calculus.proofs.SurfaceFilling.{SurfaceStored, surface-none, surface-more, surface-next, surface-all, surface-earlier}
 use Rattle.calculus.proofs.Left.{Inside}
+use Rattle.calculus.proofs.Writing.{Writing, writing-goes-on}
 use Rattle.derivatives.specs.declared.vector_entries.VectorFormula.{VectorFormula}
 use Rattle.derivatives.specs.declared.vector_entries.VectorFormula.the-variants as vector
 use Rattle.derivatives.specs.Real.{nil}
@@ -88,3 +89,25 @@ surface-formed f a b w {N} l {r} {m} {n} s h =
     surface-reads f a b w (beforeEntry origin (vectorSurfaceFormula f a b w) m n) (vectorSurfaceNumbers r) N m n h
     (λ i j e. surface-earlier 231 nowhere origin N (room-231 N l) (λ (x : Vector3). x) (vectorSurfaceFormula f a b w) (s .holds) i j e
     ∙ sym (ap (λ (x : List Float). vectorSurfaceNumbers x i j) (s .is) ∙ flat-at (s .list) (index i j)))
+
+-- ---- a loop that writes vectors in turn, x, y and z of each
+pub flat-length : (l : List Vector3) → length (flat l) ≡ 3 * length l
+unfolding flat
+flat-length [] = refl
+flat-length (a ∷ l) = let e = flat-length l in omega arith
+
+module _ (all : List Float) {out : List Float} {v : Vector3} {left more : List Vector3} {l : ℕ} (w : Writing all out (flat left) l) (e : left ≡ v ∷ more) where
+  pub three-in-list : l + 2 < length out
+  three-in-list =
+      let n : length left ≡ suc (length more) = ap length e in
+      omega (arith, w .room, flat-length left)
+
+  pub three-more : Writing all (put out l v) (flat more) (l + 3)
+  unfolding flat
+  three-more =
+      let p : l + 1 + 1 ≡ l + 2 = omega arith in
+      let q : l + 2 + 1 ≡ l + 3 = omega arith in
+      subst (λ (x : ℕ). Writing all (put out l v) (flat more) x) q
+      (writing-goes-on all
+      (subst (λ (x : ℕ). Writing all (set (set out l (v .x)) (l + 1) (v .y)) (v .z ∷ flat more) x) p
+      (writing-goes-on all (writing-goes-on all w (ap flat e)) refl)) refl)

@@ -10,3 +10,4 @@ pub mod VectorFormula
 pub mod VectorComposite
 pub mod VectorSurfaceAnswer
 pub mod VectorSurfaceNorm
+pub mod Lists

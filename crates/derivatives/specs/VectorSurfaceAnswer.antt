@@ -13,7 +13,7 @@ use Rattle.vectors.specs.Vectors.{multiple, quotient, dot, cross}
 use Rattle.calculus.specs.Kind.{regular}
 use Rattle.calculus.specs.Rising.{risingRows}
 use Rattle.calculus.specs.Graded.{triangle}
-use Rattle.calculus.specs.Order.{listPlace}
+use Rattle.calculus.specs.Order.{surfaceEntries, listPlace}
 use Rattle.calculus.specs.Surface
 use Rattle.derivatives.specs.declared.SurfaceDerivatives.{SurfaceDerivatives}
 use Rattle.derivatives.specs.declared.SurfaceAnswer.{SurfaceAnswer}
@@ -24,7 +24,7 @@ use Rattle.derivatives.specs.declared.vector_entries.VectorFormula.the-v
 use Rattle.derivatives.specs.Real.{nil, real, isZero}
 use Rattle.derivatives.specs.Rational.{surfaceRational, surfaceRationalEntry}
 use Rattle.derivatives.specs.Answer.{surfaceNumbers, finiteList, finiteSurface, refusedSurface, returnedSurface}
-use Rattle.derivatives.specs.Vector.{origin, vectors, vectorNumbers, vectorSurfaceNumbers, vectorSurfaceArray, finiteVectorSurface}
+use Rattle.derivatives.specs.Vector.{origin, vectors, vectorNumbers, flat, vectorSurfaceNumbers, vectorSurfaceArray, finiteVectorSurface}
 use Rattle.derivatives.specs.VectorAnswer.{tested, far}
 use Rattle.derivatives.specs.VectorFormula.{vectorDivisionByZero}
 
@@ -115,8 +115,14 @@ vectorSurfaceDerivative op a =
     let x = vectorSurfaceNumbers (a .entries) in
     tested refusedVectorSurface (ltb 20 (a .order)) (eqb (a .order) 0) (finiteVectorSurface x (a .order)) (answeredVectorSurface (a .order - 1) (op x))
 
--- ---- from a list: x, y and z of each entry, the entries in the order of work
+-- ---- from a list: x, y and z of each entry, the entries in the order of work; and into one: the refusal's number, and what the list holds then
 abbrev pub vectorSurfaceFromList : ℕ → List Float → VectorSurfaceAnswer
 vectorSurfaceFromList n l =
     tested refusedVectorSurface (ltb 20 n) (not (eqb (length l) (3 * triangle (suc n)))) (finiteList l)
     (answeredVectorSurface n (λ i j. vectorNumbers l (listPlace n i j)))
+
+abbrev pub vectorSurfaceIntoList : VectorSurfaceDerivatives → List Float → ℕ × List Float
+vectorSurfaceIntoList a out =
+    let x = vectorSurfaceNumbers (a .entries) in
+    tested (λ (c : ℕ). (c, out)) (ltb 20 (a .order)) (not (eqb (length out) (3 * triangle (suc (a .order))))) (finiteVectorSurface x (a .order))
+    (0, flat (surfaceEntries x (a .order)))

@@ -156,7 +156,7 @@ fn on_two(f: CurveFormula, a: CurveDerivatives, b: CurveDerivatives) -> CurveAns
 }
 
 // The entries of a list, which has one for each order.
-fn read(list: &[f64], n: usize) -> CurveAnswer
+pub fn read(list: &[f64], n: usize) -> CurveAnswer
     requires { ⌜ (n ≤ 20) × (length (now list) ≡ suc n) ⌝ }
     ensures { λ r. ⌜ r ≡ answeredCurve n (curveNumbers (now (list .entry))) ⌝ }
 {

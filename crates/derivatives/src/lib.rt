@@ -13,6 +13,7 @@ use ieee::Real;
 mod carry;
 mod composite;
 mod curve;
+pub mod lists;
 mod parameter;
 pub mod raw;
 mod surface;

@@ -11,7 +11,7 @@ use crate::ParameterAnswer;
 use crate::ParameterCurve;
 
 // Every other number of a list, from the one at `from` on.
-fn read(list: &[f64], n: usize, from: usize) -> [f64; 21]
+pub fn read(list: &[f64], n: usize, from: usize) -> [f64; 21]
     requires { ⌜ (n ≤ 20) × (from ≤ 1) × (length (now list) ≡ 2 * suc n) ⌝ }
     ensures { λ r. ⌜ r ≡ curveArray nil (λ m. getD (now (list .entry)) (2 * m + from) nan) n ⌝ }
 {

@@ -276,7 +276,7 @@ pub fn count(n: usize) -> usize
 }
 
 // The entries of a list: i rising, then j.
-fn read(list: &[f64], n: usize) -> SurfaceAnswer
+pub fn read(list: &[f64], n: usize) -> SurfaceAnswer
     requires { ⌜ (n ≤ 20) × (length (now list) ≡ triangle (suc n)) ⌝ }
     ensures { λ r. ⌜ r ≡ answeredSurface n (λ i j. getD (now (list .entry)) (listPlace n i j) nan) ⌝ }
 {

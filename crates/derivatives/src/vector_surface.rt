@@ -1,8 +1,10 @@
 // Jets of surfaces of vectors.
 ghost use mathlib.Core.Path.{_≡_};
+ghost use mathlib.Core.List.{List};
 ghost use mathlib.Core.Bool.{cond, _&&_, _||_};
 ghost use lib.Dec.{ltb};
-ghost use Prim.Native.Nat.{_+_, _≤_};
+ghost use Prim.Native.Nat.{ℕ, _+_, _≤_};
+ghost use lib.Ieee.{Float};
 ghost use Rattle.vectors.specs.Vectors.{multiple, dot, cross};
 ghost use Rattle.ieee.specs.Answer.{returned as returnedReal};
 ghost use Rattle.ieee.specs.declared.Real.the-variants.{Refused as RealRefused};
@@ -15,7 +17,7 @@ ghost use Rattle.calculus.specs.Surface.{derivativeU, derivativeV, sum as sums,
 ghost use Rattle.derivatives.specs.Answer.{surfaceNumbers, finiteSurface, refusedSurface};
 ghost use Rattle.derivatives.specs.Vector.{vectors, vectorSurfaceNumbers, finiteVectorSurface};
 ghost use Rattle.derivatives.specs.VectorSurfaceNorm.{vectorSurfaceAbsolute};
-ghost use Rattle.derivatives.specs.VectorSurfaceAnswer.{refusedVectorSurface, madeVectorSurface, madeSurface as made, vectorSurfaceDot, vectorSurfaceDerivative, vectorSurfaceFromList, onVectorSurfaces, onWeightedSurface, onVectorSurfacesAt, onWeightedSurfaceAt, bySurfaceVectors, bySurfaceWeights, vectorSurfaceQuotient, bySurfaceVectorEntries, bySurfaceWeightedEntries};
+ghost use Rattle.derivatives.specs.VectorSurfaceAnswer.{refusedVectorSurface, madeVectorSurface, madeSurface as made, vectorSurfaceDot, vectorSurfaceDerivative, vectorSurfaceFromList, vectorSurfaceIntoList, onVectorSurfaces, onWeightedSurface, onVectorSurfacesAt, onWeightedSurfaceAt, bySurfaceVectors, bySurfaceWeights, vectorSurfaceQuotient, bySurfaceVectorEntries, bySurfaceWeightedEntries};
 use crate::SurfaceAnswer;
 use crate::SurfaceDerivatives;
 use crate::VectorSurfaceAnswer;
@@ -28,7 +30,7 @@ use crate::vector_surface_norm;
 use ieee::Real;
 use vectors::VectorAnswer;
 
-fn refused(c: u8) -> VectorSurfaceAnswer
+pub fn refused(c: u8) -> VectorSurfaceAnswer
     ensures { λ r. ⌜ r ≡ refusedVectorSurface c ⌝ }
 {
     let z = [0.0f64; 693];
@@ -217,6 +219,25 @@ impl VectorSurfaceDerivatives {
             refusal: 0,
             jet: VectorSurfaceDerivatives { order, entries: r },
         }
+    }
+
+    pub fn into_list(self, out: &mut [f64]) -> u8
+        ensures { λ r. ⌜ _≡_ {A = ℕ × List Float} (r, now (out .exit)) (vectorSurfaceIntoList self (now (out .entry))) ⌝ }
+    {
+        let n = self.order;
+        if 20 < n {
+            return 1;
+        }
+        let k = crate::surface::count(n);
+        if out.len() != 3 * k {
+            return 2;
+        }
+        let a = self.entries;
+        if !vector_array::surface_finite(&a, n) {
+            return 5;
+        }
+        vector_surface_entries::write(&a, n, out);
+        0
     }
 
     pub fn derivative_u(self) -> VectorSurfaceAnswer

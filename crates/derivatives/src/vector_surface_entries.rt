@@ -3,7 +3,7 @@ ghost use mathlib.Core.Path.{_≡_};
 ghost use Prim.Native.Nat.{suc, _+_, _*_, _≤_};
 ghost use lib.ListN.{length};
 ghost use Rattle.calculus.specs.Graded.{triangle};
-ghost use Rattle.calculus.specs.Order.{listPlace};
+ghost use Rattle.calculus.specs.Order.{surfaceEntries, listPlace};
 ghost use Rattle.vectors.specs.Vectors.{multiple, quotient, dot, cross};
 ghost use Rattle.calculus.specs.Kind.{regular};
 ghost use Rattle.calculus.specs.InTurn.{inTurn};
@@ -14,7 +14,7 @@ ghost use Rattle.calculus.specs.Surface.{leibniz, productBy};
 ghost use Rattle.derivatives.specs.Real.{nil, real};
 ghost use Rattle.derivatives.specs.Rational.{surfaceRationalTerm, surfaceRationalEntry};
 ghost use Rattle.derivatives.specs.Answer.{surfaceNumbers};
-ghost use Rattle.derivatives.specs.Vector.{origin, vectors, vectorNumbers, vectorSurfaceNumbers, vectorSurfaceArray};
+ghost use Rattle.derivatives.specs.Vector.{origin, vectors, vectorNumbers, flat, vectorSurfaceNumbers, vectorSurfaceArray};
 ghost use Rattle.derivatives.specs.VectorSurfaceAnswer.{vectorSurfaceFormula};
 use crate::vector_array::vector_at;
 use crate::vector_entries::VectorFormula;
@@ -421,4 +421,25 @@ pub fn read(list: &[f64], n: usize) -> [f64; 693]
         }
     }
     r
+}
+
+pub fn write(a: &[f64; 693], n: usize, out: &mut [f64])
+    requires { ⌜ (n ≤ 20) × (length (now out) ≡ 3 * triangle (suc n)) ⌝ }
+    ensures { λ _. ⌜ now (out .exit) ≡ flat (surfaceEntries (vectorSurfaceNumbers (now (a .entry))) n) ⌝ }
+{
+    let mut i = 0;
+    let mut j = 0;
+    let mut l = 0;
+    while i <= n {
+        let e = surface_at(a, i, j);
+        out[l] = e.x;
+        out[l + 1] = e.y;
+        out[l + 2] = e.z;
+        l += 3;
+        j += 1;
+        if n < i + j {
+            i += 1;
+            j = 0;
+        }
+    }
 }

@@ -1,0 +1,44 @@
+-- `capi::deliver::vector` meets its contract. Assumes nothing.
+use mathlib.Core.Path.{refl, sym, ap, _∙_}
+use mathlib.Core.List.{List, [], _∷_}
+use lib.Ieee.{Float}
+use denote.Ref.{now}
+use Rattle.calculus.proofs.Writing.{writing-begins, writing-goes-on, writing-ends}
+use Rattle.vectors.specs.declared.VectorAnswer.{VectorAnswer}
+use Rattle.capi.specs.Delivery.{deliverVector}
+use Rattle.capi.proofs.Admission.{pair}
+use borrow.Author.Needs.{needs}
+use Rattle.capi.proofs.deliver.vector.Statement.{statement}
+use Rattle.capi.proofs.deliver.vector.Tie as tie
+
+enum-known-a : tie.Need-enum-known-a
+enum-known-a c = search needs
+
+slice-write-out : tie.Need-slice-write-out
+slice-write-out c = search needs
+
+slice-write-out-2 : tie.Need-slice-write-out-2
+slice-write-out-2 c = search needs
+
+slice-write-out-3 : tie.Need-slice-write-out-3
+slice-write-out-3 c = search needs
+
+enum-known-a-2 : tie.Need-enum-known-a-2
+enum-known-a-2 c = search needs
+
+same-length : tie.Need-same-length
+same-length c = search needs
+
+returns : tie.Need-returns
+unfolding deliverVector
+returns c = let s = c .before .before .before .args in
+    let v = c .before .a .given .0 .0 in
+    let all : List Float = v .x ∷ v .y ∷ v .z ∷ [] in
+    ap (pair 0) (writing-ends all (writing-goes-on all (writing-goes-on all (writing-goes-on all (writing-begins all (now (s .out)) refl (c .before .before .before .pre)) refl) refl) refl) refl) ∙ sym (ap (λ (r : VectorAnswer). deliverVector r (now (s .out))) (c .before .a .given .1))
+
+returns-2 : tie.Need-returns-2
+unfolding deliverVector
+returns-2 c = sym (ap (λ (r : VectorAnswer). deliverVector r (now (c .before .before .before .args .out))) (c .before .a2 .given .1))
+
+pub vector-spec : {M : Type 1} → statement M
+vector-spec = tie.close (tie.spec enum-known-a slice-write-out slice-write-out-2 slice-write-out-3 enum-known-a-2 same-length returns returns-2)

@@ -1,0 +1,37 @@
+-- The tests of what a caller hands over, before any work: 0 where it is fit, 1 for an order above 20, 2 for a list whose count of floats is not
+-- the one that is due. Assumes nothing.
+use mathlib.Core.Bool.{cond}
+use Prim.Native.Nat.{ℕ, suc, _*_, min}
+use lib.Dec.{ltb, eqb}
+use Rattle.calculus.specs.Graded.{triangle}
+
+-- the first refusal of two, in document 01's order: 1 before 2
+unfoldable pub first : ℕ → ℕ → ℕ
+first a b = cond (eqb a 0) b (cond (eqb b 0) a (min a b))
+
+-- an order
+abbrev pub orderGiven : ℕ → ℕ
+orderGiven n = cond (ltb 20 n) 1 0
+
+-- a list of l floats, where so many are due
+abbrev pub floatsGiven : ℕ → ℕ → ℕ
+floatsGiven due l = cond (eqb l due) 0 2
+
+-- a list of l floats as a jet of the order n, which has so many
+abbrev pub listGiven : (ℕ → ℕ) → ℕ → ℕ → ℕ
+listGiven count n l = cond (ltb 20 n) 1 (floatsGiven (count n) l)
+
+abbrev pub curveGiven : ℕ → ℕ → ℕ
+curveGiven = listGiven (λ n. suc n)
+
+abbrev pub surfaceGiven : ℕ → ℕ → ℕ
+surfaceGiven = listGiven (λ n. triangle (suc n))
+
+abbrev pub parameterGiven : ℕ → ℕ → ℕ
+parameterGiven = listGiven (λ n. 2 * suc n)
+
+abbrev pub vectorCurveGiven : ℕ → ℕ → ℕ
+vectorCurveGiven = listGiven (λ n. 3 * suc n)
+
+abbrev pub vectorSurfaceGiven : ℕ → ℕ → ℕ
+vectorSurfaceGiven = listGiven (λ n. 3 * triangle (suc n))

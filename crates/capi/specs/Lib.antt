@@ -1,0 +1,4 @@
+pub mod Given
+pub mod Delivery
+pub mod Lists
+pub mod Operations

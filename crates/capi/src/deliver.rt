@@ -1,0 +1,85 @@
+// An answer goes into the list lent, or its refusal number is handed on.
+ghost use mathlib.Core.Path.{_≡_};
+ghost use mathlib.Core.List.{List};
+ghost use Prim.Native.Nat.{ℕ};
+ghost use lib.ListN.{length};
+ghost use lib.Ieee.{Float};
+ghost use Rattle.capi.specs.Delivery.{deliverCurve, deliverSurface, deliverVectorCurve, deliverVectorSurface, deliverFloat, deliverVector};
+use derivatives::CurveAnswer;
+use derivatives::SurfaceAnswer;
+use derivatives::VectorCurveAnswer;
+use derivatives::VectorSurfaceAnswer;
+use ieee::Real;
+use vectors::VectorAnswer;
+
+pub fn curve(a: CurveAnswer, out: &mut [f64]) -> u8
+    ensures { λ r. ⌜ _≡_ {A = ℕ × List Float} (r, now (out .exit)) (deliverCurve a (now (out .entry))) ⌝ }
+{
+    let c = a.refusal;
+    if c != 0 {
+        return c;
+    }
+    let jet = a.jet;
+    jet.into_list(out)
+}
+
+pub fn surface(a: SurfaceAnswer, out: &mut [f64]) -> u8
+    ensures { λ r. ⌜ _≡_ {A = ℕ × List Float} (r, now (out .exit)) (deliverSurface a (now (out .entry))) ⌝ }
+{
+    let c = a.refusal;
+    if c != 0 {
+        return c;
+    }
+    let jet = a.jet;
+    jet.into_list(out)
+}
+
+pub fn vector_curve(a: VectorCurveAnswer, out: &mut [f64]) -> u8
+    ensures { λ r. ⌜ _≡_ {A = ℕ × List Float} (r, now (out .exit)) (deliverVectorCurve a (now (out .entry))) ⌝ }
+{
+    let c = a.refusal;
+    if c != 0 {
+        return c;
+    }
+    let jet = a.jet;
+    jet.into_list(out)
+}
+
+pub fn vector_surface(a: VectorSurfaceAnswer, out: &mut [f64]) -> u8
+    ensures { λ r. ⌜ _≡_ {A = ℕ × List Float} (r, now (out .exit)) (deliverVectorSurface a (now (out .entry))) ⌝ }
+{
+    let c = a.refusal;
+    if c != 0 {
+        return c;
+    }
+    let jet = a.jet;
+    jet.into_list(out)
+}
+
+pub fn float(a: Real, out: &mut [f64]) -> u8
+    requires { ⌜ length (now out) ≡ 1 ⌝ }
+    ensures { λ r. ⌜ _≡_ {A = ℕ × List Float} (r, now (out .exit)) (deliverFloat a (now (out .entry))) ⌝ }
+{
+    match a {
+        Real::Value(x) => {
+            out[0] = x;
+            0
+        }
+        Real::Refused(c) => c,
+    }
+}
+
+pub fn vector(a: VectorAnswer, out: &mut [f64]) -> u8
+    requires { ⌜ length (now out) ≡ 3 ⌝ }
+    ensures { λ r. ⌜ _≡_ {A = ℕ × List Float} (r, now (out .exit)) (deliverVector a (now (out .entry))) ⌝ }
+{
+    match a {
+        VectorAnswer::Value(v) => {
+            out[0] = v.x;
+            out[1] = v.y;
+            out[2] = v.z;
+            0
+        }
+        VectorAnswer::Refused(c) => c,
+    }
+}

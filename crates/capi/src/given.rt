@@ -1,0 +1,111 @@
+// The tests of what a caller hands over, before any work: 0 where it is fit, 1 for an order above 20, 2 for a list of another length.
+ghost use mathlib.Core.Path.{_≡_};
+ghost use Prim.Native.Nat.{suc, _+_, _-_, _≤_, min};
+ghost use Rattle.calculus.specs.Graded.{triangle};
+ghost use Rattle.capi.specs.Given.{first as firstOf, orderGiven, floatsGiven, curveGiven, surfaceGiven, parameterGiven, vectorCurveGiven, vectorSurfaceGiven};
+
+pub fn smaller(m: usize, n: usize) -> usize
+    ensures { λ r. ⌜ r ≡ min m n ⌝ }
+{
+    if m < n { m } else { n }
+}
+
+pub fn lower(n: usize) -> usize
+    ensures { λ r. ⌜ r ≡ n - 1 ⌝ }
+{
+    if n == 0 { 0 } else { n - 1 }
+}
+
+// The first of two refusals, 1 before 2.
+pub fn first(a: u8, b: u8) -> u8
+    ensures { λ r. ⌜ r ≡ firstOf a b ⌝ }
+{
+    if a == 0 {
+        return b;
+    }
+    if b == 0 {
+        return a;
+    }
+    if a < b { a } else { b }
+}
+
+pub fn order(n: usize) -> u8
+    ensures { λ r. ⌜ r ≡ orderGiven n ⌝ }
+{
+    if 20 < n { 1 } else { 0 }
+}
+
+pub fn order_sum(m: usize, n: usize) -> u8
+    ensures { λ r. ⌜ r ≡ orderGiven (m + n) ⌝ }
+{
+    if 20 < m {
+        return 1;
+    }
+    if 20 < n {
+        return 1;
+    }
+    order(m + n)
+}
+
+// A list of l floats, where `due` are due.
+pub fn floats(due: usize, l: usize) -> u8
+    ensures { λ r. ⌜ r ≡ floatsGiven due l ⌝ }
+{
+    if l == due { 0 } else { 2 }
+}
+
+// How many entries a surface of the order n has.
+fn entries(n: usize) -> usize
+    requires { ⌜ n ≤ 20 ⌝ }
+    ensures { λ r. ⌜ r ≡ triangle (suc n) ⌝ }
+{
+    (n + 1) * (n + 2) / 2
+}
+
+// A list of l floats as a jet of the order n.
+pub fn curve(n: usize, l: usize) -> u8
+    ensures { λ r. ⌜ r ≡ curveGiven n l ⌝ }
+{
+    if 20 < n {
+        return 1;
+    }
+    floats(n + 1, l)
+}
+
+pub fn surface(n: usize, l: usize) -> u8
+    ensures { λ r. ⌜ r ≡ surfaceGiven n l ⌝ }
+{
+    if 20 < n {
+        return 1;
+    }
+    let k = entries(n);
+    floats(k, l)
+}
+
+pub fn parameter(n: usize, l: usize) -> u8
+    ensures { λ r. ⌜ r ≡ parameterGiven n l ⌝ }
+{
+    if 20 < n {
+        return 1;
+    }
+    floats(2 * (n + 1), l)
+}
+
+pub fn vector_curve(n: usize, l: usize) -> u8
+    ensures { λ r. ⌜ r ≡ vectorCurveGiven n l ⌝ }
+{
+    if 20 < n {
+        return 1;
+    }
+    floats(3 * (n + 1), l)
+}
+
+pub fn vector_surface(n: usize, l: usize) -> u8
+    ensures { λ r. ⌜ r ≡ vectorSurfaceGiven n l ⌝ }
+{
+    if 20 < n {
+        return 1;
+    }
+    let k = entries(n);
+    floats(3 * k, l)
+}

@@ -1,0 +1,68 @@
+-- `derivatives::lists::parameter` meets its contract. Assumes nothing.
+use Rattle.derivatives.specs.declared.ParameterCurve.{ParameterCurve}
+use Rattle.derivatives.specs.Real.{nil}
+use Rattle.calculus.specs.Array.{curveArray}
+use mathlib.Core.List.{List}
+use lib.Ieee.{Float, nan}
+use Prim.Native.Nat.{ℕ, suc, _*_}
+use native.Mathlib.Nat.{add-zero}
+use native.Mathlib.Numerals.{add-one}
+use borrow.Author.Tests.{lt-ltb, le-ltb, eq-eqb, ne-eqb}
+use denote.Ref.{now}
+use lib.ListN.{length, getD}
+use mathlib.Core.Path.{_≡_, sym, ap, ap₂, _∙_, fun-ext}
+use borrow.Author.Needs.{needs}
+use Rattle.derivatives.proofs.lists.parameter.Statement.{statement}
+use Rattle.derivatives.proofs.lists.parameter.Tie as tie
+use Rattle.derivatives.proofs.lists.parameter.Reads as reads
+use Rattle.derivatives.proofs.lists.parameter.Lts as lts
+use Rattle.derivatives.proofs.lists.zero_parameter.Reads as zero-parameter-reads
+use Rattle.derivatives.proofs.parameter.read.Reads as read-reads
+
+abbrev made : ℕ → List Float → List Float → ParameterCurve
+made n u v = record { order = n; u = u; v = v }
+
+zero-parameter-requires : tie.Need-zero-parameter-requires
+zero-parameter-requires c κs = search needs
+
+returns : tie.Need-returns
+returns c = let s = c .before .before .before .args in
+    c .zero-parameter .ensures ∙ rw (lt-ltb 20 (s .order) (c .before .if1 .taken))
+
+add-if2 : tie.Need-add-if2
+add-if2 c = search needs
+
+mul-if2 : tie.Need-mul-if2
+mul-if2 c = search needs
+
+zero-parameter-requires-2 : tie.Need-zero-parameter-requires-2
+zero-parameter-requires-2 c κs = search needs
+
+returns-2 : tie.Need-returns-2
+returns-2 c = let s = c .before .before .before .before .args in
+    c .zero-parameter2 .ensures ∙ rw (le-ltb 20 (s .order) (c .before .before .if1 .left), ne-eqb (length (now (s .list))) (2 * suc (s .order)) (λ q. c .before .if2 .taken (q ∙ sym (ap (_*_ 2) (add-one (s .order))))))
+
+read-requires : tie.Need-read-requires
+read-requires c κs = search needs
+
+read-requires-2 : tie.Need-read-requires-2
+read-requires-2 c κs = search needs
+
+returns-3 : tie.Need-returns-3
+returns-3 c = let s = c .before .before .before .before .before .args in
+    ap₂ (made (s .order)) (c .before .read .ensures ∙ ap (λ (f : ℕ → Float). curveArray nil f (s .order)) (fun-ext (λ m. ap (λ (k : ℕ). getD (now (s .list)) k nan) (add-zero (2 * m))))) (c .read2 .ensures)
+    ∙ rw (le-ltb 20 (s .order) (c .before .before .before .if1 .left), eq-eqb (length (now (s .list))) (2 * suc (s .order)) (c .before .before .if2 .left ∙ ap (_*_ 2) (add-one (s .order))))
+
+pub parameter-spec : {M : Type 1} → statement M
+parameter-spec =
+    tie.close
+    (tie.spec
+    zero-parameter-requires
+    returns
+    add-if2
+    mul-if2
+    zero-parameter-requires-2
+    returns-2
+    read-requires
+    read-requires-2
+    returns-3)
