@@ -2,3 +2,5 @@ pub mod Given
 pub mod Delivery
 pub mod Lists
 pub mod Operations
+pub mod ExactChecks
+pub mod ExactJets
