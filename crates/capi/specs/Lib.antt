@@ -1,6 +1,7 @@
 pub mod Given
 pub mod Delivery
 pub mod Lists
+pub mod Values
 pub mod Operations
 pub mod ExactChecks
 pub mod ExactJets

@@ -8,6 +8,7 @@ pub mod exact_carry;
 pub mod exact_curves;
 pub mod exact_surfaces;
 pub mod surfaces;
+pub mod values;
 pub mod whole_numbers;
 mod deliver;
 mod exact_checks;

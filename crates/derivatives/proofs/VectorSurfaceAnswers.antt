@@ -116,15 +116,17 @@ module _ (op : (ℕ → ℕ → Vector3) → ℕ → ℕ → Vector3) (a : Vecto
     derivative-is e p = rw (le-ltb 20 (a .order) h, ne-eqb (a .order) 0 e, p)
 
 -- once by u, and once by v
+pub u-entries : (s : ℕ → ℕ → Vector3) → (λ i j. s (i + 1) (j + 0)) ≡ derivativeU s
+u-entries s = fun-ext (λ i. fun-ext (λ j. ap₂ (λ (x y : ℕ). s x y) (add-one i) (add-zero j)))
+
+pub v-entries : (s : ℕ → ℕ → Vector3) → (λ i j. s (i + 0) (j + 1)) ≡ derivativeV s
+v-entries s = fun-ext (λ i. fun-ext (λ j. ap₂ (λ (x y : ℕ). s x y) (add-zero i) (add-one j)))
+
 pub by-u : (a : VectorSurfaceDerivatives) → vectorSurfaceDerivative (λ s i j. s (i + 1) (j + 0)) a ≡ vectorSurfaceDerivative derivativeU a
-by-u a =
-    ap (λ (op : (ℕ → ℕ → Vector3) → ℕ → ℕ → Vector3). vectorSurfaceDerivative op a)
-    (fun-ext (λ s. fun-ext (λ i. fun-ext (λ j. ap₂ (λ (x y : ℕ). s x y) (add-one i) (add-zero j)))))
+by-u a = ap (λ (op : (ℕ → ℕ → Vector3) → ℕ → ℕ → Vector3). vectorSurfaceDerivative op a) (fun-ext u-entries)
 
 pub by-v : (a : VectorSurfaceDerivatives) → vectorSurfaceDerivative (λ s i j. s (i + 0) (j + 1)) a ≡ vectorSurfaceDerivative derivativeV a
-by-v a =
-    ap (λ (op : (ℕ → ℕ → Vector3) → ℕ → ℕ → Vector3). vectorSurfaceDerivative op a)
-    (fun-ext (λ s. fun-ext (λ i. fun-ext (λ j. ap₂ (λ (x y : ℕ). s x y) (add-zero i) (add-one j)))))
+by-v a = ap (λ (op : (ℕ → ℕ → Vector3) → ℕ → ℕ → Vector3). vectorSurfaceDerivative op a) (fun-ext v-entries)
 
 -- ---- one entry
 module _ {R : Type 0} (refused : ℕ → R) (op : (ℕ → ℕ → Vector3) → (ℕ → ℕ → Vector3) → ℕ → ℕ → R) (a : VectorSurfaceDerivatives) (b : VectorSurfaceDerivatives) (m k : ℕ) where

@@ -176,7 +176,7 @@ pub fn read(list: &[f64], n: usize) -> CurveAnswer
 }
 
 // The entries of the orders 1 to n + 1.
-fn shifted(a: &[f64; 21], n: usize) -> CurveAnswer
+pub fn shifted(a: &[f64; 21], n: usize) -> CurveAnswer
     requires { ⌜ n < 20 ⌝ }
     ensures { λ r. ⌜ r ≡ answeredCurve n (derivativeOf (curveNumbers (now (a .entry)))) ⌝ }
 {

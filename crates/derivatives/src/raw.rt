@@ -1,23 +1,26 @@
 // The formulas on arrays, without refusals: NaN and infinities pass through, as a function that forms many jets on its way needs it. At an
 // order above 20, for which an array has no entries, the answer is zero.
 ghost use mathlib.Core.Path.{_≡_};
-ghost use mathlib.Core.Bool.{cond};
+ghost use mathlib.Core.Bool.{false, cond};
 ghost use lib.Dec.{ltb};
 ghost use lib.ListN.{replicate};
 ghost use Rattle.vectors.specs.Vectors.{multiple, quotient, dot as dotOf, cross as crossOf};
 ghost use Rattle.calculus.specs.Kind.{regular};
 ghost use Rattle.calculus.specs.Array.{curveArray};
 ghost use Rattle.calculus.specs.Curve.{productBy, product as productOf, difference as differences, derivative as derivativeOf};
+ghost use Rattle.calculus.specs.Surface.{derivativeU, derivativeV};
 ghost use Rattle.calculus.specs.Carry.{compositeDerivative};
 ghost use Rattle.derivatives.specs.Real.{nil, real};
 ghost use Rattle.derivatives.specs.Rational.{rational as rationalOf};
-ghost use Rattle.derivatives.specs.Answer.{curveNumbers};
-ghost use Rattle.derivatives.specs.Vector.{origin, vectors, vectorNumbers, vectorSurfaceNumbers, vectorArray};
+ghost use Rattle.derivatives.specs.Answer.{curveNumbers, finiteCurve};
+ghost use Rattle.derivatives.specs.Vector.{origin, vectors, vectorNumbers, vectorSurfaceNumbers, vectorArray, vectorSurfaceArray, finiteVectors, finiteVectorSurface};
 ghost use Rattle.derivatives.specs.VectorAnswer.{vectorNorm};
+use crate::vector_array;
 use crate::vector_carry;
 use crate::vector_entries;
 use crate::vector_entries::NumberFormula;
 use crate::vector_entries::VectorFormula;
+use crate::vector_surface_entries;
 use vectors::Vector3;
 
 fn zero() -> Vector3
@@ -119,4 +122,61 @@ pub fn composite(entries: &[f64; 693], u: &[f64; 21], v: &[f64; 21], m: usize) -
         return zero();
     }
     vector_carry::derivative(entries, u, v, m)
+}
+
+// Those of the derivatives by u and by v of a surface, and of the derivative of a curve of floats: zeros from the order 20 on.
+pub fn derivative_u(a: &[f64; 693], n: usize) -> [f64; 693]
+    ensures { λ r. ⌜ r ≡ cond (ltb 19 n) (replicate 693 nil) (vectorSurfaceArray (derivativeU (vectorSurfaceNumbers (now (a .entry)))) n) ⌝ }
+{
+    if 19 < n {
+        return [0.0f64; 693];
+    }
+    vector_surface_entries::shifted(a, n, 1, 0)
+}
+
+pub fn derivative_v(a: &[f64; 693], n: usize) -> [f64; 693]
+    ensures { λ r. ⌜ r ≡ cond (ltb 19 n) (replicate 693 nil) (vectorSurfaceArray (derivativeV (vectorSurfaceNumbers (now (a .entry)))) n) ⌝ }
+{
+    if 19 < n {
+        return [0.0f64; 693];
+    }
+    vector_surface_entries::shifted(a, n, 0, 1)
+}
+
+pub fn number_derivative(a: &[f64; 21], n: usize) -> [f64; 21]
+    ensures { λ r. ⌜ r ≡ cond (ltb 19 n) (replicate 21 nil) (curveArray nil (derivativeOf (curveNumbers (now (a .entry)))) n) ⌝ }
+{
+    if 19 < n {
+        return [0.0f64; 21];
+    }
+    let made = crate::curve::shifted(a, n);
+    made.jet.entries
+}
+
+// Whether the entries up to the order n are finite, of a curve of floats, of a curve and of a surface of vectors.
+pub fn finite_numbers(a: &[f64; 21], n: usize) -> bool
+    ensures { λ r. ⌜ r ≡ cond (ltb 20 n) false (finiteCurve (curveNumbers (now (a .entry))) n) ⌝ }
+{
+    if 20 < n {
+        return false;
+    }
+    crate::finite_curve(a, n)
+}
+
+pub fn finite_vectors(a: &[f64; 63], n: usize) -> bool
+    ensures { λ r. ⌜ r ≡ cond (ltb 20 n) false (finiteVectors (vectorNumbers (now (a .entry))) n) ⌝ }
+{
+    if 20 < n {
+        return false;
+    }
+    vector_array::curve_finite(a, n)
+}
+
+pub fn finite_surface(a: &[f64; 693], n: usize) -> bool
+    ensures { λ r. ⌜ r ≡ cond (ltb 20 n) false (finiteVectorSurface (vectorSurfaceNumbers (now (a .entry))) n) ⌝ }
+{
+    if 20 < n {
+        return false;
+    }
+    vector_array::surface_finite(a, n)
 }

@@ -2,6 +2,8 @@
 // 5 where a float handed in is not finite, 10 where a returned float is not.
 ghost use mathlib.Core.Path.{_≡_};
 ghost use Rattle.rolling_ball_fillet.specs.Answers.{rotationAnswer, finiteContact, finiteCircle, derivativeAnswer};
+ghost use Rattle.rolling_ball_fillet.specs.Partials.{derivativeV, derivativeUV, derivativeVV};
+ghost use Rattle.rolling_ball_fillet.specs.PartialAnswer.{vderInfoAnswer, partialAnswer};
 use derivatives::CurveDerivatives;
 use derivatives::ParameterCurve;
 use derivatives::VectorCurveDerivatives;
@@ -12,7 +14,11 @@ use vectors::Vector3;
 use vectors::VectorAnswer;
 
 mod answers;
+mod axis_angle;
 mod circle;
+mod info;
+mod jets;
+mod partials;
 mod rotation;
 
 // The sine and the cosine of an angle.
@@ -136,5 +142,70 @@ impl ContactCircle {
             return answers::vector_from(inputs, circle::derivative(self, m, s, c));
         }
         VectorAnswer::Refused(1)
+    }
+}
+
+impl CenterContactDers {
+    // The axis and the angle up to the centre's order, from the radius' derivatives and the angle itself.
+    pub fn vder_info(self, rders: CurveDerivatives, angle: f64) -> VderInfoAnswer
+        ensures { λ r. ⌜ r ≡ vderInfoAnswer self rders angle ⌝ }
+    {
+        let center = self.center_ders;
+        let n = center.order;
+        if info::beyond(self, rders, n) {
+            return axis_angle::refused(1);
+        }
+        let k = n + 1;
+        if info::short(self, rders, k) {
+            return axis_angle::refused(2);
+        }
+        if info::finite_given(self, rders, angle, n) {
+            let r = rders.entries;
+            let a = axis_angle::vder_info(self, &r, angle, n);
+            return info::returned(a, n);
+        }
+        axis_angle::refused(5)
+    }
+}
+
+// The fillet's partial derivatives at the share u of the arc; s and c are the sine and cosine of angle·u.
+impl VderInfo {
+    pub fn derivative_v(self, u: f64, s: f64, c: f64) -> VectorAnswer
+        ensures { λ r. ⌜ r ≡ partialAnswer derivativeV 1 self u s c ⌝ }
+    {
+        if info::far_info(self) {
+            return VectorAnswer::Refused(1);
+        }
+        if info::short_info(self, 1) {
+            return VectorAnswer::Refused(2);
+        }
+        let inputs = info::finite_inputs(self, 1, u, s, c);
+        answers::vector_from(inputs, partials::derivative_v(self, u, s, c))
+    }
+
+    pub fn derivative_uv(self, u: f64, s: f64, c: f64) -> VectorAnswer
+        ensures { λ r. ⌜ r ≡ partialAnswer derivativeUV 1 self u s c ⌝ }
+    {
+        if info::far_info(self) {
+            return VectorAnswer::Refused(1);
+        }
+        if info::short_info(self, 1) {
+            return VectorAnswer::Refused(2);
+        }
+        let inputs = info::finite_inputs(self, 1, u, s, c);
+        answers::vector_from(inputs, partials::derivative_uv(self, u, s, c))
+    }
+
+    pub fn derivative_vv(self, u: f64, s: f64, c: f64) -> VectorAnswer
+        ensures { λ r. ⌜ r ≡ partialAnswer derivativeVV 2 self u s c ⌝ }
+    {
+        if info::far_info(self) {
+            return VectorAnswer::Refused(1);
+        }
+        if info::short_info(self, 2) {
+            return VectorAnswer::Refused(2);
+        }
+        let inputs = info::finite_inputs(self, 2, u, s, c);
+        answers::vector_from(inputs, partials::derivative_vv(self, u, s, c))
     }
 }

@@ -1,0 +1,75 @@
+-- An array that is filled up to an order, read again: up to that order it holds the entries, and other entries that agree so far fill it the same
+-- way. Assumes nothing.
+use mathlib.Core.Path.{_≡_, refl, ap, _∙_, fun-ext}
+use mathlib.Core.Bool.{Bool, true, false, cond}
+use mathlib.Core.List.{List}
+use Prim.Native.Nat.{ℕ, suc, _≤_, _<_}
+use native.Mathlib.Omega.{arith}
+use borrow.Author.Tests.{lt-ltb, ltb-true}
+use lib.Dec.{ltb}
+use lib.Ieee.{Float, nan}
+use Rattle.calculus.specs.Array.{listed, filled}
+use Rattle.calculus.proofs.Filling.{filled-at}
+use Rattle.calculus.proofs.UpTo.{CurvesAgree}
+use Rattle.vectors.specs.declared.Vector3.{Vector3}
+use Rattle.derivatives.specs.Real.{nil}
+use Rattle.derivatives.specs.Answer.{curveNumbers}
+use Rattle.derivatives.specs.Vector.{origin, vectorNumbers, vectorArray, flat}
+use Rattle.derivatives.specs.declared.CurveDerivatives.{CurveDerivatives}
+use Rattle.derivatives.specs.declared.ParameterCurve.{ParameterCurve}
+use Rattle.derivatives.specs.declared.VectorCurveDerivatives.{VectorCurveDerivatives}
+use Rattle.derivatives.proofs.Vectors.{nowhere, flat-at}
+use Rattle.rolling_ball_fillet.specs.PartialAnswer.{noNumbers}
+use Rattle.rolling_ball_fillet.specs.declared.CenterContactDers.{CenterContactDers}
+use Rattle.rolling_ball_fillet.specs.declared.VderInfoAnswer.{VderInfoAnswer}
+
+pub filled-upto : {X : Type 0} (w : ℕ) (blank : X) (f g : ℕ → X) (n : ℕ) → ((k : ℕ) → k < n → f k ≡ g k) → filled w blank f n ≡ filled w blank g n
+filled-upto {X} w blank f g n h = ap (λ (x : ℕ → X). listed x 0 w) (fun-ext (λ k. go k (ltb k n) refl))
+  where
+    go : (k : ℕ) (t : Bool) → ltb k n ≡ t → cond t (f k) blank ≡ cond t (g k) blank
+    go k true e = h k (ltb-true k n e)
+    go k false e = refl
+
+pub vectors-upto : (f g : ℕ → Vector3) (n : ℕ) → CurvesAgree n f g → vectorArray f n ≡ vectorArray g n
+vectors-upto f g n h = ap flat (filled-upto 21 origin f g (suc n) (λ k l. h k (omega arith)))
+
+-- what is read
+pub numbers-held : (f : ℕ → Float) (n : ℕ) → n ≤ 21 → {r : List Float} → r ≡ filled 21 nil f n → (k : ℕ) → k < n → curveNumbers r k ≡ f k
+numbers-held f n l e k h =
+    ap (λ (x : List Float). curveNumbers x k) e ∙ filled-at 21 nan nil f n k (omega arith) ∙ ap (λ (b : Bool). cond b (f k) nil) (lt-ltb k n h)
+
+pub numbers-agree : (f : ℕ → Float) (n : ℕ) → n ≤ 20 → {r : List Float} → r ≡ filled 21 nil f (suc n) → CurvesAgree n (curveNumbers r) f
+numbers-agree f n l e k h = numbers-held f (suc n) (omega arith) e k (omega arith)
+
+pub vectors-agree : (f : ℕ → Vector3) (n : ℕ) → n ≤ 20 → {r : List Float} → r ≡ vectorArray f n → CurvesAgree n (vectorNumbers r) f
+vectors-agree f n l e k h =
+    ap (λ (x : List Float). vectorNumbers x k) e ∙ flat-at (filled 21 origin f (suc n)) k ∙ filled-at 21 nowhere origin f (suc n) k (omega arith)
+    ∙ ap (λ (b : Bool). cond b (f k) origin) (lt-ltb k (suc n) (omega arith))
+
+-- ---- records of jets whose parts are the same
+abbrev pub vectorJet : ℕ → List Float → VectorCurveDerivatives
+vectorJet n a = record { order = n; entries = a }
+
+abbrev pub numberJet : ℕ → List Float → CurveDerivatives
+numberJet n a = record { order = n; entries = a }
+
+abbrev pub parameterJet : ℕ → List Float → List Float → ParameterCurve
+parameterJet n u v = record { order = n; u = u; v = v }
+
+abbrev ders : VectorCurveDerivatives → VectorCurveDerivatives → VectorCurveDerivatives → ParameterCurve → ParameterCurve → CenterContactDers
+ders a b c u v = record { «center_ders» = a; «contact0_ders» = b; «contact1_ders» = c; «uv0_ders» = u; «uv1_ders» = v }
+
+pub same-ders : {a a' b b' c c' : VectorCurveDerivatives} {u u' v v' : ParameterCurve} → a ≡ a' → b ≡ b' → c ≡ c' → u ≡ u' → v ≡ v' → ders a b c u v ≡ ders a' b' c' u' v'
+same-ders e f g h k = λ i. ders (e i) (f i) (g i) (h i) (k i)
+
+abbrev refusedWith : ℕ → CenterContactDers → VectorCurveDerivatives → VderInfoAnswer
+refusedWith n d a = record { refusal = n; info = record { «cc_ders» = d; «axis_ders» = a; «angle_ders» = noNumbers }; cosine = nil }
+
+pub same-refused : (n : ℕ) {d d' : CenterContactDers} {a a' : VectorCurveDerivatives} → d ≡ d' → a ≡ a' → refusedWith n d a ≡ refusedWith n d' a'
+same-refused n e f = λ i. refusedWith n (e i) (f i)
+
+abbrev infoWith : ℕ → CenterContactDers → List Float → List Float → Float → VderInfoAnswer
+infoWith n d a b x = record { refusal = 0; info = record { «cc_ders» = d; «axis_ders» = vectorJet n a; «angle_ders» = numberJet n b }; cosine = x }
+
+pub same-info : (n : ℕ) {d d' : CenterContactDers} {a a' b b' : List Float} {x x' : Float} → d ≡ d' → a ≡ a' → b ≡ b' → x ≡ x' → infoWith n d a b x ≡ infoWith n d' a' b' x'
+same-info n e f g h = λ i. infoWith n (e i) (f i) (g i) (h i)

@@ -1,0 +1,44 @@
+-- `finite_given` meets its contract. Assumes nothing.
+use Rattle.vectors.proofs.Picked.{both}
+use native.Mathlib.Numerals.{add-one}
+use Rattle.rolling_ball_fillet.specs.Jets.{finiteNumbers}
+use borrow.Author.Needs.{needs}
+use mathlib.Core.Path.{ap, _∙_}
+use Rattle.rolling_ball_fillet.proofs.info.finite_given.Statement.{statement}
+use Rattle.rolling_ball_fillet.proofs.info.finite_given.Tie as tie
+
+finite-ders-requires : tie.Need-finite-ders-requires
+finite-ders-requires c κs = search needs
+
+add-finite-numbers : tie.Need-add-finite-numbers
+add-finite-numbers c = search needs
+
+finite-numbers-requires : tie.Need-finite-numbers-requires
+finite-numbers-requires c κs = search needs
+
+both-requires : tie.Need-both-requires
+both-requires c κs = search needs
+
+is-finite-requires : tie.Need-is-finite-requires
+is-finite-requires c κs = search needs
+
+both-requires-2 : tie.Need-both-requires-2
+both-requires-2 c κs = search needs
+
+returns : tie.Need-returns
+returns c =
+    let s = c .before .before .before .before .before .args in
+    let jets = c .before .before .both .ensures ∙ both (c .before .before .before .before .finite-ders .ensures) (c .before .before .before .finite-numbers .ensures ∙ ap (finiteNumbers (s .r)) (add-one (s .n))) in
+    c .both2 .ensures ∙ both jets (c .before .is-finite .ensures)
+
+pub finite-given-spec : {M : Type 1} → statement M
+finite-given-spec =
+    tie.close
+    (tie.spec
+    finite-ders-requires
+    add-finite-numbers
+    finite-numbers-requires
+    both-requires
+    is-finite-requires
+    both-requires-2
+    returns)

@@ -1,0 +1,68 @@
+-- `numbers_finite` meets its contract. Assumes nothing.
+use Rattle.derivatives.proofs.Finite.{none, more, stop}
+use Rattle.derivatives.specs.Answer.{curveNumbers, allFinite}
+use borrow.Author.Tests.{not-true, not-false}
+use mathlib.Core.Bool.{true}
+use borrow.Author.Needs.{needs}
+use denote.Ref.{now}
+use native.Mathlib.Omega.{arith}
+use Prim.Native.Nat.{suc, _-_, _≤_}
+use mathlib.Core.Path.{_≡_, sym, ap, _∙_}
+use Rattle.rolling_ball_fillet.proofs.jets.numbers_finite.Statement.{statement}
+use Rattle.rolling_ball_fillet.proofs.jets.numbers_finite.Tie as tie
+
+abbrev Inv-loop : tie.InvT-loop
+Inv-loop a n i₀ i = (allFinite (curveNumbers a) i ≡ true) × (i ≤ suc n)
+
+abbrev μ-loop : tie.MeasureT-loop
+μ-loop a n i₀ i = suc n - i
+
+loop-holds : tie.Need-loop-holds Inv-loop μ-loop
+loop-holds c = (none _, omega arith)
+
+mul-x : tie.Need-mul-x Inv-loop μ-loop
+mul-x c = search needs
+
+element-copy-out-x : tie.Need-element-copy-out-x Inv-loop μ-loop
+element-copy-out-x c = search needs
+
+is-finite-requires : tie.Need-is-finite-requires Inv-loop μ-loop
+is-finite-requires c κs = search needs
+
+returns : tie.Need-returns Inv-loop μ-loop
+returns c =
+    let s = c .before .before .before .before .before .args in
+    stop (curveNumbers (now (s .a))) (suc (s .n)) (omega arith) (sym (c .before .is-finite .ensures) ∙ not-true _ (c .if1 .taken))
+
+add-i : tie.Need-add-i Inv-loop μ-loop
+add-i c = search needs
+
+loop-less : tie.Need-loop-less Inv-loop μ-loop
+loop-less c = search needs
+
+loop-again : tie.Need-loop-again Inv-loop μ-loop
+loop-again c =
+    let s = c .before .before .before .before .before .args in
+    (more (curveNumbers (now (s .a))) (c .before .before .before .before .loop .i) (c .before .before .before .before .loop .inv .0) (sym (c .before .is-finite .ensures) ∙ not-false _ (c .if1 .left)), omega arith)
+
+returns-2 : tie.Need-returns-2 Inv-loop μ-loop
+returns-2 c =
+    let s = c .before .before .args in
+    let e : (c .before .loop .i) ≡ suc (s .n) = omega arith in
+    sym (c .before .loop .inv .0) ∙ ap (allFinite (curveNumbers (now (s .a)))) e
+
+pub numbers-finite-spec : {M : Type 1} → statement M
+numbers-finite-spec =
+    tie.close
+    (tie.spec
+    Inv-loop
+    μ-loop
+    loop-holds
+    mul-x
+    element-copy-out-x
+    is-finite-requires
+    returns
+    add-i
+    loop-less
+    loop-again
+    returns-2)

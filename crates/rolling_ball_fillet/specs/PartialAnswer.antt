@@ -1,0 +1,73 @@
+-- What the functions on axis, angle and partials return: document 01's refusal number, or the values. Checked as 1, 2, 5, then 7, then 10.
+-- Assumes nothing.
+use Prim.Native.Nat.{ℕ, suc}
+use mathlib.Core.Bool.{Bool, cond, _&&_, _||_}
+use lib.Dec.{ltb, eqb}
+use lib.ListN.{replicate}
+use lib.Ieee.{Float}
+use lib.Ieee.Scale.{finite}
+use Rattle.vectors.specs.declared.Vector3.{Vector3}
+use Rattle.vectors.specs.declared.VectorAnswer.{VectorAnswer}
+use Rattle.vectors.specs.declared.VectorAnswer.the-variants.{Refused}
+use Rattle.vectors.specs.Answers.{returnedVector}
+use Rattle.derivatives.specs.Real.{nil}
+use Rattle.derivatives.specs.Answer.{curveNumbers}
+use Rattle.derivatives.specs.VectorAnswer.{tested}
+use Rattle.derivatives.specs.declared.CurveDerivatives.{CurveDerivatives}
+use Rattle.derivatives.specs.declared.ParameterCurve.{ParameterCurve}
+use Rattle.derivatives.specs.declared.VectorCurveDerivatives.{VectorCurveDerivatives}
+use Rattle.rolling_ball_fillet.specs.Jets.{farContacts, shortContacts, finiteJet, finiteNumbers, finiteDers}
+use Rattle.rolling_ball_fillet.specs.AxisAngle.{arm0, arm1, lengths, divisionByZero, infoOf, cosine}
+use Rattle.rolling_ball_fillet.specs.declared.CenterContactDers.{CenterContactDers}
+use Rattle.rolling_ball_fillet.specs.declared.VderInfo.{VderInfo}
+use Rattle.rolling_ball_fillet.specs.declared.VderInfoAnswer.{VderInfoAnswer}
+
+-- ---- axis and angle
+abbrev pub noVectors : VectorCurveDerivatives
+noVectors = record { order = 0; entries = replicate 63 nil }
+
+abbrev pub noNumbers : CurveDerivatives
+noNumbers = record { order = 0; entries = replicate 21 nil }
+
+abbrev pub noParameter : ParameterCurve
+noParameter = record { order = 0; u = replicate 21 nil; v = replicate 21 nil }
+
+abbrev pub noDers : CenterContactDers
+noDers = record { «center_ders» = noVectors; «contact0_ders» = noVectors; «contact1_ders» = noVectors; «uv0_ders» = noParameter; «uv1_ders» = noParameter }
+
+abbrev pub refusedInfo : ℕ → VderInfoAnswer
+refusedInfo c = record { refusal = c; info = record { «cc_ders» = noDers; «axis_ders» = noVectors; «angle_ders» = noNumbers }; cosine = nil }
+
+abbrev pub infoAnswer : CenterContactDers → (r : ℕ → Float) → Float → ℕ → VderInfoAnswer
+infoAnswer d r angle n = record { refusal = 0; info = infoOf d r angle n; cosine = cosine (arm0 d 0) (arm1 d 0) (r 0) }
+
+-- without tests of what is finite
+abbrev pub vderInfo : CenterContactDers → (r : ℕ → Float) → Float → ℕ → VderInfoAnswer
+vderInfo d r angle n = cond (divisionByZero (lengths (arm0 d) (arm1 d) 0) (r 0)) (refusedInfo 7) (infoAnswer d r angle n)
+
+-- the entries up to the order n, those of the contacts and parameters up to n + 1
+abbrev pub finiteInfo : VderInfo → ℕ → Bool
+finiteInfo i n = finiteDers (i .«cc_ders») n && finiteJet (i .«axis_ders») n && finiteNumbers (i .«angle_ders») n
+
+-- 10 where what is answered is not finite; a refusal stays as it is
+abbrev pub returnedInfo : VderInfoAnswer → ℕ → VderInfoAnswer
+returnedInfo a n = cond (eqb (a .refusal) 0) (cond (finiteInfo (a .info) n && finite (a .cosine)) a (refusedInfo 10)) a
+
+abbrev pub vderInfoAnswer : CenterContactDers → CurveDerivatives → Float → VderInfoAnswer
+vderInfoAnswer d r angle =
+    let n = d .«center_ders» .order in
+    tested refusedInfo (ltb 19 n || farContacts d || ltb 20 (r .order)) (shortContacts d (suc n) || ltb (r .order) (suc n))
+    (finiteDers d n && finiteNumbers r (suc n) && finite angle)
+    (returnedInfo (vderInfo d (curveNumbers (r .entries)) angle n) n)
+
+-- ---- partials, worked at the order k
+abbrev pub farInfo : VderInfo → Bool
+farInfo i = ltb 20 (i .«cc_ders» .«center_ders» .order) || farContacts (i .«cc_ders») || ltb 20 (i .«axis_ders» .order) || ltb 20 (i .«angle_ders» .order)
+
+abbrev pub shortInfo : VderInfo → ℕ → Bool
+shortInfo i k =
+    ltb (i .«cc_ders» .«center_ders» .order) k || shortContacts (i .«cc_ders») (suc k) || ltb (i .«axis_ders» .order) k || ltb (i .«angle_ders» .order) k
+
+abbrev pub partialAnswer : (VderInfo → (u s c : Float) → Vector3) → ℕ → VderInfo → (u s c : Float) → VectorAnswer
+partialAnswer partial k i u s c =
+    tested Refused (farInfo i) (shortInfo i k) (finiteInfo i k && finite u && finite s && finite c) (returnedVector (partial i u s c))

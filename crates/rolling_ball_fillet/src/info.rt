@@ -1,0 +1,97 @@
+// The tests on axis and angle before they are worked out and before they are used, and on what is returned.
+ghost use mathlib.Core.Path.{_≡_};
+ghost use mathlib.Core.Bool.{_&&_, _||_};
+ghost use Prim.Native.Nat.{suc, _<_};
+ghost use lib.Dec.{ltb};
+ghost use lib.Ieee.Scale.{finite};
+ghost use Rattle.rolling_ball_fillet.specs.Jets.{farContacts, shortContacts, finiteNumbers, finiteDers};
+ghost use Rattle.rolling_ball_fillet.specs.PartialAnswer.{returnedInfo, finiteInfo, farInfo, shortInfo};
+use crate::CenterContactDers;
+use crate::VderInfo;
+use crate::VderInfoAnswer;
+use crate::answers::both;
+use crate::axis_angle;
+use crate::jets;
+use derivatives::CurveDerivatives;
+
+// Of the centre and contacts, worked at the order n, and the radius.
+pub fn beyond(d: CenterContactDers, r: CurveDerivatives, n: usize) -> bool
+    ensures { λ x. ⌜ x ≡ (ltb 19 n || farContacts d || ltb 20 (r .order)) ⌝ }
+{
+    let contacts = jets::either(19 < n, jets::far_contacts(d));
+    jets::either(contacts, 20 < r.order)
+}
+
+pub fn short(d: CenterContactDers, r: CurveDerivatives, k: usize) -> bool
+    ensures { λ x. ⌜ x ≡ (shortContacts d k || ltb (r .order) k) ⌝ }
+{
+    jets::either(jets::short_contacts(d, k), r.order < k)
+}
+
+pub fn finite_given(d: CenterContactDers, r: CurveDerivatives, angle: f64, n: usize) -> bool
+    requires { ⌜ n < 20 ⌝ }
+    ensures { λ x. ⌜ x ≡ (finiteDers d n && finiteNumbers r (suc n) && finite angle) ⌝ }
+{
+    let jets = both(jets::finite_ders(d, n), jets::finite_numbers(r, n + 1));
+    both(jets, ieee::is_finite(angle))
+}
+
+// Of the centre, contacts, axis and angle, worked at the order k.
+pub fn far_info(i: VderInfo) -> bool
+    ensures { λ r. ⌜ r ≡ farInfo i ⌝ }
+{
+    let d = i.cc_ders;
+    let center = d.center_ders;
+    let a = i.axis_ders;
+    let t = i.angle_ders;
+    let contacts = jets::either(20 < center.order, jets::far_contacts(d));
+    let axis = jets::either(contacts, 20 < a.order);
+    jets::either(axis, 20 < t.order)
+}
+
+pub fn short_info(i: VderInfo, k: usize) -> bool
+    requires { ⌜ k < 20 ⌝ }
+    ensures { λ r. ⌜ r ≡ shortInfo i k ⌝ }
+{
+    let d = i.cc_ders;
+    let center = d.center_ders;
+    let a = i.axis_ders;
+    let t = i.angle_ders;
+    let contacts = jets::either(center.order < k, jets::short_contacts(d, k + 1));
+    let axis = jets::either(contacts, a.order < k);
+    jets::either(axis, t.order < k)
+}
+
+fn finite_info(i: VderInfo, n: usize) -> bool
+    requires { ⌜ n < 20 ⌝ }
+    ensures { λ r. ⌜ r ≡ finiteInfo i n ⌝ }
+{
+    let axis = both(
+        jets::finite_ders(i.cc_ders, n),
+        jets::finite_jet(i.axis_ders, n),
+    );
+    both(axis, jets::finite_numbers(i.angle_ders, n))
+}
+
+pub fn finite_inputs(i: VderInfo, k: usize, u: f64, s: f64, c: f64) -> bool
+    requires { ⌜ k < 20 ⌝ }
+    ensures { λ r. ⌜ r ≡ (finiteInfo i k && finite u && finite s && finite c) ⌝ }
+{
+    let share = both(finite_info(i, k), ieee::is_finite(u));
+    let sine = both(share, ieee::is_finite(s));
+    both(sine, ieee::is_finite(c))
+}
+
+// What has been worked out: 10 where it is not finite. A refusal stays as it is.
+pub fn returned(a: VderInfoAnswer, n: usize) -> VderInfoAnswer
+    requires { ⌜ n < 20 ⌝ }
+    ensures { λ r. ⌜ r ≡ returnedInfo a n ⌝ }
+{
+    if a.refusal != 0 {
+        return a;
+    }
+    if both(finite_info(a.info, n), ieee::is_finite(a.cosine)) {
+        return a;
+    }
+    axis_angle::refused(10)
+}

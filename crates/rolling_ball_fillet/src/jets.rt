@@ -1,0 +1,219 @@
+// The jets of the centre and contacts: single entries, cut jets, and the tests on orders and entries. Each `requires` is met by the callers.
+ghost use mathlib.Core.Path.{_≡_};
+ghost use mathlib.Core.Bool.{_||_};
+ghost use Prim.Native.Nat.{suc, _≤_, _<_};
+ghost use Rattle.calculus.specs.Array.{curveArray};
+ghost use Rattle.derivatives.specs.Real.{nil};
+ghost use Rattle.derivatives.specs.Answer.{curveNumbers, finiteCurve};
+ghost use Rattle.derivatives.specs.Vector.{vectorNumbers, vectorArray, finiteVectors};
+ghost use Rattle.rolling_ball_fillet.specs.Jets.{cutVectors, cutParameter, cutDers, farContacts, shortContacts, finiteJet, finiteNumbers, finiteParameter, finiteDers};
+use crate::CenterContactDers;
+use crate::answers::both;
+use derivatives::CurveDerivatives;
+use derivatives::ParameterCurve;
+use derivatives::VectorCurveDerivatives;
+use vectors::Vector3;
+
+pub fn either(p: bool, q: bool) -> bool
+    ensures { λ r. ⌜ r ≡ (p || q) ⌝ }
+{
+    if p { true } else { q }
+}
+
+// The entry of the order k.
+pub fn vector_at(a: &[f64; 63], k: usize) -> Vector3
+    requires { ⌜ k ≤ 20 ⌝ }
+    ensures { λ r. ⌜ r ≡ vectorNumbers (now (a .entry)) k ⌝ }
+{
+    let i = 3 * k;
+    Vector3 {
+        x: a[i],
+        y: a[i + 1],
+        z: a[i + 2],
+    }
+}
+
+pub fn vector_of(a: VectorCurveDerivatives, k: usize) -> Vector3
+    requires { ⌜ k ≤ 20 ⌝ }
+    ensures { λ r. ⌜ r ≡ vectorNumbers (a .entries) k ⌝ }
+{
+    let x = a.entries;
+    vector_at(&x, k)
+}
+
+pub fn number_of(a: CurveDerivatives, k: usize) -> f64
+    requires { ⌜ k ≤ 20 ⌝ }
+    ensures { λ r. ⌜ r ≡ curveNumbers (a .entries) k ⌝ }
+{
+    let x = a.entries;
+    x[k]
+}
+
+// The entries up to the order n, and zeros past them.
+fn cut_entries(a: &[f64; 63], n: usize) -> [f64; 63]
+    requires { ⌜ n ≤ 20 ⌝ }
+    ensures { λ r. ⌜ r ≡ vectorArray (vectorNumbers (now (a .entry))) n ⌝ }
+{
+    let mut r = [0.0f64; 63];
+    let mut m = 0;
+    while m <= n {
+        let e = vector_at(a, m);
+        let i = 3 * m;
+        r[i] = e.x;
+        r[i + 1] = e.y;
+        r[i + 2] = e.z;
+        m += 1;
+    }
+    r
+}
+
+fn cut_numbers(a: &[f64; 21], n: usize) -> [f64; 21]
+    requires { ⌜ n ≤ 20 ⌝ }
+    ensures { λ r. ⌜ r ≡ curveArray nil (curveNumbers (now (a .entry))) n ⌝ }
+{
+    let mut r = [0.0f64; 21];
+    let mut m = 0;
+    while m <= n {
+        r[m] = a[m];
+        m += 1;
+    }
+    r
+}
+
+pub fn cut_vectors(a: VectorCurveDerivatives, n: usize) -> VectorCurveDerivatives
+    requires { ⌜ n ≤ 20 ⌝ }
+    ensures { λ r. ⌜ r ≡ cutVectors a n ⌝ }
+{
+    let x = a.entries;
+    let y = cut_entries(&x, n);
+    VectorCurveDerivatives {
+        order: n,
+        entries: y,
+    }
+}
+
+pub fn cut_parameter(a: ParameterCurve, n: usize) -> ParameterCurve
+    requires { ⌜ n ≤ 20 ⌝ }
+    ensures { λ r. ⌜ r ≡ cutParameter a n ⌝ }
+{
+    let u = a.u;
+    let v = a.v;
+    let x = cut_numbers(&u, n);
+    let y = cut_numbers(&v, n);
+    ParameterCurve {
+        order: n,
+        u: x,
+        v: y,
+    }
+}
+
+pub fn cut_ders(d: CenterContactDers, n: usize) -> CenterContactDers
+    requires { ⌜ n < 20 ⌝ }
+    ensures { λ r. ⌜ r ≡ cutDers d n ⌝ }
+{
+    let k = n + 1;
+    let center = cut_vectors(d.center_ders, n);
+    let contact0 = cut_vectors(d.contact0_ders, k);
+    let contact1 = cut_vectors(d.contact1_ders, k);
+    let uv0 = cut_parameter(d.uv0_ders, k);
+    let uv1 = cut_parameter(d.uv1_ders, k);
+    CenterContactDers {
+        center_ders: center,
+        contact0_ders: contact0,
+        contact1_ders: contact1,
+        uv0_ders: uv0,
+        uv1_ders: uv1,
+    }
+}
+
+// Whether an order of the contacts or their parameters is above 20, or below n.
+pub fn far_contacts(d: CenterContactDers) -> bool
+    ensures { λ r. ⌜ r ≡ farContacts d ⌝ }
+{
+    let a = d.contact0_ders;
+    let b = d.contact1_ders;
+    let u = d.uv0_ders;
+    let v = d.uv1_ders;
+    let ab = either(20 < a.order, 20 < b.order);
+    let abu = either(ab, 20 < u.order);
+    either(abu, 20 < v.order)
+}
+
+pub fn short_contacts(d: CenterContactDers, n: usize) -> bool
+    ensures { λ r. ⌜ r ≡ shortContacts d n ⌝ }
+{
+    let a = d.contact0_ders;
+    let b = d.contact1_ders;
+    let u = d.uv0_ders;
+    let v = d.uv1_ders;
+    let ab = either(a.order < n, b.order < n);
+    let abu = either(ab, u.order < n);
+    either(abu, v.order < n)
+}
+
+// Whether the entries up to the order n are finite.
+fn entries_finite(a: &[f64; 63], n: usize) -> bool
+    requires { ⌜ n ≤ 20 ⌝ }
+    ensures { λ r. ⌜ r ≡ finiteVectors (vectorNumbers (now (a .entry))) n ⌝ }
+{
+    let mut i = 0;
+    while i <= n {
+        let v = vector_at(a, i);
+        if !v.is_finite() {
+            return false;
+        }
+        i += 1;
+    }
+    true
+}
+
+fn numbers_finite(a: &[f64; 21], n: usize) -> bool
+    requires { ⌜ n ≤ 20 ⌝ }
+    ensures { λ r. ⌜ r ≡ finiteCurve (curveNumbers (now (a .entry))) n ⌝ }
+{
+    let mut i = 0;
+    while i <= n {
+        let x = a[i];
+        if !ieee::is_finite(x) {
+            return false;
+        }
+        i += 1;
+    }
+    true
+}
+
+pub fn finite_jet(a: VectorCurveDerivatives, n: usize) -> bool
+    requires { ⌜ n ≤ 20 ⌝ }
+    ensures { λ r. ⌜ r ≡ finiteJet a n ⌝ }
+{
+    let x = a.entries;
+    entries_finite(&x, n)
+}
+
+pub fn finite_numbers(a: CurveDerivatives, n: usize) -> bool
+    requires { ⌜ n ≤ 20 ⌝ }
+    ensures { λ r. ⌜ r ≡ finiteNumbers a n ⌝ }
+{
+    let x = a.entries;
+    numbers_finite(&x, n)
+}
+
+fn finite_parameter(a: ParameterCurve, n: usize) -> bool
+    requires { ⌜ n ≤ 20 ⌝ }
+    ensures { λ r. ⌜ r ≡ finiteParameter a n ⌝ }
+{
+    let u = a.u;
+    let v = a.v;
+    both(numbers_finite(&u, n), numbers_finite(&v, n))
+}
+
+pub fn finite_ders(d: CenterContactDers, n: usize) -> bool
+    requires { ⌜ n < 20 ⌝ }
+    ensures { λ r. ⌜ r ≡ finiteDers d n ⌝ }
+{
+    let k = n + 1;
+    let first = both(finite_jet(d.center_ders, n), finite_jet(d.contact0_ders, k));
+    let points = both(first, finite_jet(d.contact1_ders, k));
+    let foot = both(points, finite_parameter(d.uv0_ders, k));
+    both(foot, finite_parameter(d.uv1_ders, k))
+}
