@@ -5,3 +5,4 @@ pub mod Values
 pub mod Operations
 pub mod ExactChecks
 pub mod ExactJets
+pub mod PartLists
