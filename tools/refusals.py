@@ -55,17 +55,28 @@ def answered(call, what):
     write(call, [what], 0)
 
 
-def matrix(call, faults, what=''):
-    """The case without a fault, each fault, and each two."""
+def some(faults):
+    """Of each number the first fault, one of the middle and the last."""
+    groups = [[f for f in faults if f.number == number] for number in CHECKED]
+    places = [sorted({0, len(group) // 2, len(group) - 1}) for group in groups if group]
+    return [group[place] for group, at in zip([g for g in groups if g], places) for place in at]
+
+
+def first_checked(few):
+    return min((f.number for f in few), key=CHECKED.index)
+
+
+def matrix(call, faults, what='', pairs=None, met=first_checked, skip=lambda few: False):
+    """The case without a fault, each fault, and each two of all or of some."""
     write(call, ['answered' + what], 0)
-    for few in itertools.chain(itertools.combinations(faults, 1), itertools.combinations(faults, 2)):
-        if len({f.number for f in few}) < len(few) or len({f.touches for f in few}) < len(few):
+    for few in itertools.chain(itertools.combinations(faults, 1), itertools.combinations(faults if pairs is None else pairs, 2)):
+        if len({f.number for f in few}) < len(few) or len({f.touches for f in few}) < len(few) or skip(few):
             continue
         changed = copy.deepcopy(call)
         # what is wrong with values first, then orders, then counts
         for f in sorted(few, key=lambda f: (f.number == 2, CHECKED.index(f.number) <= 4, -CHECKED.index(f.number))):
             f.change(changed, len(few) == 1)
-        write(changed, few, min((f.number for f in few), key=CHECKED.index))
+        write(changed, few, met(few))
 
 
 def order_fault(place, at, where, kind=None, width=1, bad=21):
@@ -331,7 +342,19 @@ def recipes(name):
               Fault(8, '', 'steps', first_divides(5, 2)), Fault(9, '', 'values', large)]
     if roads:
         faults += [order_fault(0, 1, 'c', 'curve', 2), order_fault(1, None, 'n'), count_fault(1, 'c')]
-    matrix(call(2, whole_sample), faults)
+
+    def skip(few):
+        """Without an input no entries are due. Whether five inputs are carried before they are refused is not said."""
+        places = [str(f) for f in few]
+        return '4 no input' in places and any(f.number == 2 for f in few) or (
+            name == 'carry_then_build' and '9' in places and ('4 five inputs' in places or '4 13 steps' in places))
+
+    def met(few):
+        """The second road carries the inputs before it works the recipe."""
+        if name == 'carry_then_build' and {f.number for f in few} == {4, 9} and not any(f.where == 'no input' for f in few):
+            return 9
+        return first_checked(few)
+    matrix(call(2, whole_sample), faults, met=met, skip=skip)
     for order in (0, 1, 20):
         answered(call(order, lambda n: [1] + [0] * (n - 1)), 'order %d' % order)
 
@@ -446,13 +469,14 @@ def fillet(name):
         unserved = [Fault(11, '(%d,%d)' % (m, n), 'order m', pair(m, n)) for m, n in [(2, 1), (1, 2), (0, 3)]]
         # which order is needed is not said of a pair that is not served
         small = [f for f in faults if 'needed' not in f.where and f.where != 'n']
-        matrix(stored(name, 0, lambda o: o[:2] == [0, 1]), small + unserved)
-        matrix(stored(name, 0, lambda o: o[:2] == [0, 2]), [f for f in faults if 'needed' in f.where or f.number in (1, 5)], ' (0,2)')
-        matrix(stored(name, 0, lambda o: o[:2] == [1, 1]), [f for f in faults if 'needed' in f.where or f.number in (1, 5)], ' (1,1)')
+        matrix(stored(name, 0, lambda o: o[:2] == [0, 1]), small + unserved, ' (0,1)', some(small + unserved))
+        for n, m in ((2, 0), (1, 1)):
+            few = [f for f in faults if 'needed' in f.where or f.number in (1, 5)]
+            matrix(stored(name, 0, lambda o: o[:2] == [m, n]), few, ' (%d,%d)' % (m, n), some(few))
         for m in (0, 1, 20):
             answered(stored(name, 0, lambda o: o[:2] == [m, 0]), 'order %d' % m)
     else:
-        matrix(stored(name, 0, lambda o: name != 'sub_center_contacts_ders' or o[0] == 1), faults)
+        matrix(stored(name, 0, lambda o: name != 'sub_center_contacts_ders' or o[0] == 1), faults, '', some(faults))
     served = {'sub_center_contacts_ders': (6, 7, 10), 'sub_der_mn': (6, 7, 10), 'vder_info': (7, 10), 'rot_der_n': (10,), 'from_axis_angle': (10,)}
     for number in served.get(name, (10,) if name.startswith('derivative') else ()):
         base = stored(name, number, (lambda o: o[1] > 0) if name == 'sub_der_mn' else (lambda o: True))

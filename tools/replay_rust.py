@@ -4,9 +4,13 @@
 Run in the repository's root:  python3 tools/replay_rust.py   (writes crates/replay_rust/stdin and crates/replay_rust/stdout)
 
 Each operation whose answers are stored is its name, in 47 bytes and a line end, the number of its cases, and these (tools/cases.py has the
-form of a case). A line of the output has the name, how many cases there are and how many differ: none.
+form of a case). A line of the output has the name, how many cases there are and how many differ: none. The stored part lists are walked: each
+list is a case of walk_next, whose walk then holds the next list, or says that it has ended.
 """
+import os
+
 import cases
+from cases import WHOLE_FILL
 
 # What a stored line gives (compare/README.md): a jet is its order and its list.
 JET, SIZE, LIST = 'jet', 'size', 'list'
@@ -55,35 +59,72 @@ def read(items, words):
     return sizes, lists
 
 
-def stored(name):
-    with open('data/rust_answers/%s.txt' % name) as lines:
-        for line in lines:
-            if line.startswith('#'):
-                continue
-            given, answered = line.split(' = ')
-            refusal, *rest = answered.split()
-            sizes, lists = read(shape(name), given.split())
-            lengths = cases.due(name, sizes)
-            if refusal == '0':
-                lent = read(answer(name), rest)[1]
-                if [len(l) for l in lent] != lengths:
-                    raise ValueError(name, lengths)
-            else:
-                lent = [[cases.FILL] * min(length, 900 // len(lengths)) for length in lengths]
-            yield cases.line(name, int(refusal), [sizes], lists, lent)
+def lines(name):
+    with open('data/rust_answers/%s.txt' % name) as found:
+        for line in found:
+            if not line.startswith('#'):
+                given, answered = line.split(' = ')
+                yield given.split(), answered.split()
+
+
+def floats(name):
+    for given, (refusal, *rest) in lines(name):
+        sizes, lists = read(shape(name), given)
+        lengths = cases.due(name, sizes)
+        if refusal == '0':
+            lent = read(answer(name), rest)[1]
+            if [len(l) for l in lent] != lengths:
+                raise ValueError(name, lengths)
+        else:
+            lent = [[cases.FILL] * min(length, 900 // len(lengths)) for length in lengths]
+        yield cases.line(name, int(refusal), [sizes], lists, lent)
+
+
+def multiplicities(name):
+    for given, (refusal, *rest) in lines(name):
+        yield cases.line(name, int(refusal), [list(map(int, given[1:]))], [], [list(map(int, rest)) or [WHOLE_FILL]])
+
+
+def walk(order, length, ended, parts):
+    return [order, length, ended] + parts + [0] * (20 - len(parts))
+
+
+def part_lists():
+    """Of each order and len the refusal and the lists."""
+    for (order, length), (refusal, *rest) in lines('part_lists'):
+        words = map(int, rest)
+        count = next(words, 0)
+        lists = [[next(words) for _ in range(next(words))][1:] for _ in range(count)]
+        yield int(order), int(length), int(refusal), lists
+
+
+def starts(name):
+    blank = [WHOLE_FILL] * 23
+    for order, length, refusal, lists in part_lists():
+        yield cases.line(name, refusal, [[order, length]], [blank], [walk(order, length, 0, lists[0]) if lists else blank, []])
+
+
+def steps(name):
+    for order, length, refusal, lists in part_lists():
+        if len(lists) > 20:
+            continue
+        for place, parts in enumerate(lists):
+            last = place == len(lists) - 1
+            moved = walk(order, length, 1, parts) if last else walk(order, length, 0, lists[place + 1])
+            yield cases.line(name, 0, [[]], [walk(order, length, 0, parts)], [moved, parts + [0] * (20 - length)])
+        if lists:
+            yield cases.line(name, 0, [[]], [walk(order, length, 1, lists[-1])], [walk(order, length, 1, lists[-1]), [0] * 20])
 
 
 def main():
+    others = {'multiplicity': multiplicities, 'walk_start': starts, 'walk_next': steps}
     with open('crates/replay_rust/stdin', 'w') as given, open('crates/replay_rust/stdout', 'w') as wanted:
         for name in cases.SERVED:
-            if name not in cases.FLOATS:
+            if name not in others and not os.path.exists('data/rust_answers/%s.txt' % name):
                 continue
-            try:
-                lines = list(stored(name))
-            except FileNotFoundError:
-                continue
-            given.write(name.ljust(47) + '\n' + cases.size(len(lines)) + '\n' + ''.join(lines))
-            wanted.write('%s%d cases, 0 differ\n' % (name.ljust(47), len(lines)))
+            found = list(others.get(name, floats)(name))
+            given.write(name.ljust(47) + '\n' + cases.size(len(found)) + '\n' + ''.join(found))
+            wanted.write('%s%d cases, 0 differ\n' % (name.ljust(47), len(found)))
 
 
 if __name__ == '__main__':

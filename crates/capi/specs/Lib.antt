@@ -6,3 +6,4 @@ pub mod Operations
 pub mod ExactChecks
 pub mod ExactJets
 pub mod PartLists
+pub mod VectorOperations

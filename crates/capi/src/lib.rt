@@ -13,4 +13,6 @@ mod given;
 pub mod part_lists;
 pub mod surfaces;
 pub mod values;
+pub mod vector_curves;
+pub mod vector_surfaces;
 pub mod whole_numbers;
