@@ -1,5 +1,6 @@
 pub mod Admission
 pub mod ExactOutcomes
+pub mod Delivered
 pub mod Copying
 pub mod Counts
 pub mod Walks

@@ -5,5 +5,5 @@ pub mod Values
 pub mod Operations
 pub mod ExactChecks
 pub mod ExactJets
-pub mod PartLists
 pub mod VectorOperations
+pub mod PartLists
