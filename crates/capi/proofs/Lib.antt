@@ -4,3 +4,5 @@ pub mod Delivered
 pub mod Copying
 pub mod Counts
 pub mod Walks
+pub mod RecipeLists
+pub mod RecipeChecks

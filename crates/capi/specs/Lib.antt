@@ -7,3 +7,4 @@ pub mod ExactChecks
 pub mod ExactJets
 pub mod VectorOperations
 pub mod PartLists
+pub mod Recipes
