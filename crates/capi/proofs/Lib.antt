@@ -1,1 +1,5 @@
 pub mod Admission
+pub mod ExactOutcomes
+pub mod Copying
+pub mod Counts
+pub mod Walks

@@ -8,6 +8,8 @@ use Rattle.ieee.specs.declared.Real.{Real}
 use Rattle.ieee.specs.declared.Real.the-variants as real
 use Rattle.vectors.specs.declared.VectorAnswer.{VectorAnswer}
 use Rattle.vectors.specs.declared.VectorAnswer.the-variants as vector
+use Rattle.vectors.specs.declared.Matrix2Answer.{Matrix2Answer}
+use Rattle.vectors.specs.declared.Matrix3Answer.{Matrix3Answer}
 use Rattle.derivatives.specs.declared.CurveAnswer.{CurveAnswer}
 use Rattle.derivatives.specs.declared.SurfaceAnswer.{SurfaceAnswer}
 use Rattle.derivatives.specs.declared.VectorCurveAnswer.{VectorCurveAnswer}
@@ -41,3 +43,16 @@ deliverFloat (real.Refused c) out = (c, out)
 unfoldable pub deliverVector : VectorAnswer → List Float → ℕ × List Float
 deliverVector (vector.Value v) out = (0, v .x ∷ v .y ∷ v .z ∷ [])
 deliverVector (vector.Refused c) out = (c, out)
+
+-- ---- a matrix (a b; c d) into a list of four, and one of three columns into a list of nine
+unfoldable pub deliverMatrix2 : Matrix2Answer → List Float → ℕ × List Float
+deliverMatrix2 a out =
+    let m = a .matrix in
+    admitted (a .refusal) out (0, m .a ∷ m .b ∷ m .c ∷ m .d ∷ [])
+
+unfoldable pub deliverMatrix3 : Matrix3Answer → List Float → ℕ × List Float
+deliverMatrix3 a out =
+    let x = a .matrix .c0 in
+    let y = a .matrix .c1 in
+    let z = a .matrix .c2 in
+    admitted (a .refusal) out (0, x .x ∷ x .y ∷ x .z ∷ y .x ∷ y .y ∷ y .z ∷ z .x ∷ z .y ∷ z .z ∷ [])

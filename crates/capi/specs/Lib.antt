@@ -1,4 +1,8 @@
 pub mod Given
 pub mod Delivery
 pub mod Lists
+pub mod Values
 pub mod Operations
+pub mod ExactChecks
+pub mod ExactJets
+pub mod PartLists

@@ -4,12 +4,14 @@ ghost use mathlib.Core.List.{List};
 ghost use Prim.Native.Nat.{ℕ};
 ghost use lib.ListN.{length};
 ghost use lib.Ieee.{Float};
-ghost use Rattle.capi.specs.Delivery.{deliverCurve, deliverSurface, deliverVectorCurve, deliverVectorSurface, deliverFloat, deliverVector};
+ghost use Rattle.capi.specs.Delivery.{deliverCurve, deliverSurface, deliverVectorCurve, deliverVectorSurface, deliverFloat, deliverVector, deliverMatrix2, deliverMatrix3};
 use derivatives::CurveAnswer;
 use derivatives::SurfaceAnswer;
 use derivatives::VectorCurveAnswer;
 use derivatives::VectorSurfaceAnswer;
 use ieee::Real;
+use vectors::Matrix2Answer;
+use vectors::Matrix3Answer;
 use vectors::VectorAnswer;
 
 pub fn curve(a: CurveAnswer, out: &mut [f64]) -> u8
@@ -82,4 +84,44 @@ pub fn vector(a: VectorAnswer, out: &mut [f64]) -> u8
         }
         VectorAnswer::Refused(c) => c,
     }
+}
+
+pub fn matrix2(a: Matrix2Answer, out: &mut [f64]) -> u8
+    requires { ⌜ length (now out) ≡ 4 ⌝ }
+    ensures { λ r. ⌜ _≡_ {A = ℕ × List Float} (r, now (out .exit)) (deliverMatrix2 a (now (out .entry))) ⌝ }
+{
+    let c = a.refusal;
+    if c != 0 {
+        return c;
+    }
+    let m = a.matrix;
+    out[0] = m.a;
+    out[1] = m.b;
+    out[2] = m.c;
+    out[3] = m.d;
+    0
+}
+
+pub fn matrix3(a: Matrix3Answer, out: &mut [f64]) -> u8
+    requires { ⌜ length (now out) ≡ 9 ⌝ }
+    ensures { λ r. ⌜ _≡_ {A = ℕ × List Float} (r, now (out .exit)) (deliverMatrix3 a (now (out .entry))) ⌝ }
+{
+    let c = a.refusal;
+    if c != 0 {
+        return c;
+    }
+    let m = a.matrix;
+    let c0 = m.c0;
+    let c1 = m.c1;
+    let c2 = m.c2;
+    out[0] = c0.x;
+    out[1] = c0.y;
+    out[2] = c0.z;
+    out[3] = c1.x;
+    out[4] = c1.y;
+    out[5] = c1.z;
+    out[6] = c2.x;
+    out[7] = c2.y;
+    out[8] = c2.z;
+    0
 }

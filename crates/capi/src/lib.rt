@@ -3,6 +3,14 @@
 // A curve is a list of its entries by order; a surface of its entries [i][j] by i, then j; a vector is three floats; a curve in the parameters
 // of a surface is u0 v0 u1 v1 .. . A jet goes in as its order, then its list. A list lent for an answer has just the length that is due.
 
-mod curves;
+pub mod curves;
 mod deliver;
+pub mod exact_carry;
+mod exact_checks;
+pub mod exact_curves;
+pub mod exact_surfaces;
 mod given;
+pub mod part_lists;
+pub mod surfaces;
+pub mod values;
+pub mod whole_numbers;

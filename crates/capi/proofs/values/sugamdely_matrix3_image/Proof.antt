@@ -1,0 +1,42 @@
+-- `capi::values::sugamdely_matrix3_image` meets its contract. Assumes nothing.
+use mathlib.Core.Path.{sym, _∙_}
+use denote.Ref.{now}
+use lib.ListN.{length}
+use mathlib.Core.Bool.{_&&_}
+use Rattle.vectors.specs.Matrices.{image3}
+use Rattle.vectors.specs.Answers.{finiteVector, finiteMatrix3, vectorFrom}
+use Rattle.capi.specs.Lists.{toVector}
+use Rattle.capi.specs.Values.{aVector, aMatrix3}
+use Rattle.capi.proofs.Admission.{two-refused, two-worked, one-fits, rest-fits, floats-fit}
+use borrow.Author.Needs.{needs}
+use Rattle.capi.proofs.values.sugamdely_matrix3_image.Statement.{statement}
+use Rattle.capi.proofs.values.sugamdely_matrix3_image.Tie as tie
+
+given-two-requires : tie.Need-given-two-requires
+given-two-requires c κs = search needs
+
+returns : tie.Need-returns
+returns c = let s = c .before .before .before .before .before .args in
+    two-refused aMatrix3 aVector toVector (λ x y. vectorFrom (finiteMatrix3 x && finiteVector y) (image3 x y)) 0 (now (s .a)) 0 (now (s .b)) (now (s .out)) (c .before .given-two .ensures) (c .if1 .taken)
+
+matrix3-requires : tie.Need-matrix3-requires
+matrix3-requires c κs = floats-fit 9 (length (now (c .before .before .before .before .before .args .a))) (one-fits _ _ (sym (c .before .given-two .ensures) ∙ c .if1 .left))
+
+vector-requires : tie.Need-vector-requires
+vector-requires c κs = floats-fit 3 (length (now (c .before .before .before .before .before .before .args .b))) (one-fits _ _ (rest-fits _ _ (sym (c .before .before .given-two .ensures) ∙ c .before .if1 .left)))
+
+matrix3-image-requires : tie.Need-matrix3-image-requires
+matrix3-image-requires c κs = search needs
+
+vector-requires-2 : tie.Need-vector-requires-2
+vector-requires-2 c κs = floats-fit 3 (length (now (c .before .before .before .before .before .before .before .before .before .args .out))) (rest-fits _ _ (rest-fits _ _ (sym (c .before .before .before .before .before .given-two .ensures) ∙ c .before .before .before .before .if1 .left)))
+
+same-length : tie.Need-same-length
+same-length c = search needs
+
+returns-2 : tie.Need-returns-2
+returns-2 c = let s = c .before .before .before .before .before .before .before .before .before .before .before .before .args in
+    two-worked aMatrix3 aVector toVector (λ x y. vectorFrom (finiteMatrix3 x && finiteVector y) (image3 x y)) 0 (now (s .a)) 0 (now (s .b)) (now (s .out)) (c .before .before .before .before .before .before .before .before .given-two .ensures) (c .before .before .before .before .before .before .before .if1 .left) (c .before .before .before .before .before .before .matrix3 .ensures) (c .before .before .before .before .before .vector .ensures) (c .before .before .before .before .matrix3-image .ensures) (c .before .before .vector2 .ensures)
+
+pub sugamdely-matrix3-image-spec : {M : Type 1} → statement M
+sugamdely-matrix3-image-spec = tie.close (tie.spec given-two-requires returns matrix3-requires vector-requires matrix3-image-requires vector-requires-2 same-length returns-2)
