@@ -8,3 +8,5 @@ pub mod Filled
 pub mod AxisAngle
 pub mod Parameters
 pub mod Tests
+pub mod Decisions
+pub mod PartialFigures

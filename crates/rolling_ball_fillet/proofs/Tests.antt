@@ -23,9 +23,23 @@ module _ {A : Type 0} (refused : ℕ → A) (r : A) (far unfit finite : Bool) wh
     pub is-worked : unfit ≡ false → finite ≡ true → r ≡ tested refused far unfit finite r
     is-worked f g = sym (λ i. tested refused (e i) (f i) (g i) r)
 
-or-left : (p q : Bool) → (p || q) ≡ false → p ≡ false
+-- a test that is passed, and then one that is, or is not
+module _ {A : Type 0} {p q : Bool} (x y z : A) (e : p ≡ false) where
+  pub passed : q ≡ true → y ≡ cond p x (cond q y z)
+  passed f = sym (λ i. cond (e i) x (cond (f i) y z))
+
+  pub stopped : q ≡ false → z ≡ cond p x (cond q y z)
+  stopped f = sym (λ i. cond (e i) x (cond (f i) y z))
+
+-- ---- neither of two tests
+pub or-left : (p q : Bool) → (p || q) ≡ false → p ≡ false
 or-left true q e = e
 or-left false q e = refl
+
+pub or-right : (p q : Bool) → (p || q) ≡ false → q ≡ false
+or-right true true e = e
+or-right true false e = refl
+or-right false q e = e
 
 pub order-below : (k n : ℕ) (p q : Bool) → (ltb k n || p || q) ≡ false → n ≤ k
 order-below k n p q e = ltb-false k n (or-left (ltb k n) p (or-left (ltb k n || p) q e))

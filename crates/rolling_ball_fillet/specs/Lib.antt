@@ -7,3 +7,4 @@ pub mod Jets
 pub mod AxisAngle
 pub mod Partials
 pub mod PartialAnswer
+pub mod SubDer

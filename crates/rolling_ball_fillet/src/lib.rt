@@ -5,6 +5,7 @@ ghost use Rattle.rolling_ball_fillet.specs.Answers.{rotationAnswer, fini
 ghost use Rattle.rolling_ball_fillet.specs.Center.{centerContactAnswer};
 ghost use Rattle.rolling_ball_fillet.specs.Partials.{derivativeV, derivativeUV, derivativeVV};
 ghost use Rattle.rolling_ball_fillet.specs.PartialAnswer.{vderInfoAnswer, partialAnswer};
+ghost use Rattle.rolling_ball_fillet.specs.SubDer.{subDerMn};
 use derivatives::CurveDerivatives;
 use derivatives::ParameterCurve;
 use derivatives::VectorCurveDerivatives;
@@ -24,6 +25,7 @@ mod info;
 mod jets;
 mod partials;
 mod rotation;
+mod sub_der;
 mod surface_info;
 
 // The sine and the cosine of an angle.
@@ -232,5 +234,25 @@ impl RollingBallFilletSurface {
             return given::returned(a, n);
         }
         contacts::refused(5)
+    }
+
+    // The fillet's partial derivative, m times by u and n times by v, at the share u of the arc; s and c are the sine and cosine of angle·u.
+    pub fn sub_der_mn(
+        self,
+        m: usize,
+        n: usize,
+        u: f64,
+        cc: ContactCircle,
+        angle: f64,
+        s: f64,
+        c: f64,
+    ) -> VectorAnswer
+        ensures { λ r. ⌜ r ≡ subDerMn self m n u cc angle s c ⌝ }
+    {
+        if sub_der::far_pair(self, m, n) {
+            return VectorAnswer::Refused(1);
+        }
+        let d = sub_der::decide(m, n);
+        sub_der::by_decision(d, m, self, cc, angle, u, s, c)
     }
 }
