@@ -472,7 +472,7 @@ fn a_wrong_answer_is_found() {
     assert_eq!(crate::runs::stored(&operation, "# a note\n3 2 1 1 = 0 6\n", &operation.rust), (1, vec![]));
     assert_eq!(crate::runs::stored(&operation, "3 2 1 1 = 0 7\n3 2 1 = 0 6\n", &operation.rust).1.len(), 2);
     let mute = |_: &[crate::cases::Item]| crate::cases::Answer { refusal: 200, items: vec![] };
-    assert_eq!(crate::runs::random(&operation, Random::new(1), 10, &mute).len(), 10);
+    assert_eq!(crate::runs::random(&operation, Random::new(1), 10, &mute).wrong.len(), 10);
 }
 
 /// An answer depends on its case alone: nothing is left over from the calls before.
@@ -486,7 +486,7 @@ fn answers_follow_from_the_case() {
             (before.rust)(&other);
             (operation.rust)(case)
         };
-        assert!(crate::runs::random(operation, Random::new(5), 40, &side).is_empty(), "{}", operation.name);
+        assert!(crate::runs::random(operation, Random::new(5), 40, &side).wrong.is_empty(), "{}", operation.name);
     }
 }
 
@@ -495,6 +495,6 @@ fn answers_follow_from_the_case() {
 #[ignore = "long"]
 fn long_runs_are_settled() {
     for operation in crate::cases::operations() {
-        assert!(crate::runs::random(&operation, Random::far(9), 1_000, &operation.rust).is_empty(), "{}", operation.name);
+        assert!(crate::runs::random(&operation, Random::far(9), 1_000, &operation.rust).wrong.is_empty(), "{}", operation.name);
     }
 }
