@@ -181,7 +181,10 @@ fn whole(call: fn(i64, i64, &mut [i64]) -> u8) -> Work {
     })
 }
 
-fn recipe(form: Form, call: fn(&[usize], &[i64], &[usize], &mut [i64]) -> u8) -> Work {
+type Build = fn(&[usize], &[i64], &[usize], &mut [i64]) -> u8;
+type Road = fn(&[usize], &[i64], &[usize], usize, &[i64], usize, &mut [i64]) -> u8;
+
+fn recipe(form: Form, call: Build) -> Work {
     Box::new(move |items| {
         let mut reader = Reader::new(items);
         let (orders, entries, steps) = (reader.wholes(), reader.signed(), reader.wholes());
@@ -196,7 +199,7 @@ fn roads() -> Work {
         let mut reader = Reader::new(items);
         let (orders, entries, steps) = (reader.wholes(), reader.signed(), reader.wholes());
         let ((n, c), order) = (reader.given_exact(), reader.whole());
-        let road = |call: fn(&[usize], &[i64], &[usize], usize, &[i64], usize, &mut [i64]) -> u8| {
+        let road = |call: Road| {
             called([bounded(order) + 1], |[out]| call(&orders, &entries, &steps, n, &c, order, out)).map(|[out]| out)
         };
         let (first, second) = (road(ffi::build_then_carry), road(ffi::carry_then_build));

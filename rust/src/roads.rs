@@ -87,7 +87,7 @@ impl Lists {
     }
 
     /// The result has the smallest order.
-    fn build<J: Jet<Number = i64>>(&self, call: fn(&[usize], &[i64], &[usize], &mut [i64]) -> u8) -> Result<J, Refusal> {
+    fn build<J: Jet<Number = i64>>(&self, call: Build) -> Result<J, Refusal> {
         let mut out = J::blank(self.orders.iter().copied().min().unwrap_or(0));
         answered(call(&self.orders, &self.entries, &self.steps, out.list_mut()))?;
         Ok(out)
@@ -100,6 +100,7 @@ impl Lists {
     }
 }
 
+type Build = fn(&[usize], &[i64], &[usize], &mut [i64]) -> u8;
 type Carry = fn(&[usize], &[i64], &[usize], usize, &[i64], usize, &mut [i64]) -> u8;
 
 impl CurveRecipe {

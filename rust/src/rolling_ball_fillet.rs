@@ -1,4 +1,43 @@
 //! The fillet that a rolling ball leaves between two surfaces. Sines and cosines, and the angle at the place in question, come from the caller.
+//!
+//! A ball in the corner of the planes z = 0 and y = 0, at a place of the edge along x where its radius is 1 and grows as fast as x:
+//!
+//! ```
+//! use std::f64::consts::FRAC_PI_2;
+//! use sugamdely::derivatives::{CurveDerivatives, SurfaceDerivatives};
+//! use sugamdely::rolling_ball_fillet::{ContactCircle, ContactPoint, RollingBallFilletSurface};
+//! use sugamdely::Refusal;
+//!
+//! let (x, y, z, none) = ([1.0, 0.0, 0.0], [0.0, 1.0, 0.0], [0.0, 0.0, 1.0], [0.0; 3]);
+//! let fillet = RollingBallFilletSurface {
+//!     edge_curve: CurveDerivatives::new(&[none, x, none])?,
+//!     surface0: SurfaceDerivatives::new(2, &[y, y, none, x, none, none])?,
+//!     surface1: SurfaceDerivatives::new(2, &[z, x, none, z, none, none])?,
+//!     radius: CurveDerivatives::new(&[1.0, 1.0, 0.0])?,
+//!     normal0: z,
+//!     normal1: y,
+//! };
+//! let circle = ContactCircle {
+//!     center: [0.0, 1.0, 1.0],
+//!     axis: [-1.0, 0.0, 0.0],
+//!     angle: FRAC_PI_2,
+//!     contact_point0: ContactPoint { point: y, uv: [0.0, 1.0] },
+//!     contact_point1: ContactPoint { point: z, uv: [1.0, 0.0] },
+//! };
+//!
+//! let ders = fillet.sub_center_contacts_ders(&circle, 1)?;
+//! assert_eq!(ders.center_ders.entries(), [[0.0, 1.0, 1.0], [1.0, 1.0, 1.0]]);
+//! assert_eq!(ders.contact0_ders.entries(), [[0.0, 1.0, 0.0], [1.0, 1.0, 0.0], none]);
+//!
+//! let (info, cosine) = ders.vder_info(&fillet.radius, FRAC_PI_2)?;
+//! assert_eq!(cosine, 0.0);
+//! assert_eq!(info.angle_ders.entries(), [FRAC_PI_2, 0.0]);
+//! // At the beginning of the arc the fillet moves with its contact point 0.
+//! assert_eq!(info.derivative_v(0.0, 0.0, 1.0)?, [1.0, 1.0, 0.0]);
+//! assert_eq!(fillet.sub_der_mn(&circle, 0, 1, FRAC_PI_2, 0.0, 0.0, 1.0)?, [1.0, 1.0, 0.0]);
+//! assert_eq!(fillet.sub_der_mn(&circle, 2, 1, FRAC_PI_2, 0.0, 0.0, 1.0), Err(Refusal::PairNotServed));
+//! # Ok::<(), Refusal>(())
+//! ```
 
 use crate::derivatives::{CurveDerivatives, Jet, ParameterCurve, SurfaceDerivatives};
 use crate::refusal::answered;
@@ -111,32 +150,6 @@ impl RollingBallFilletSurface {
     }
 
     /// The jets of the centre and the contacts from those of edge, radius and surfaces, of order n + 1 or more; `n` up to 19.
-    ///
-    /// ```
-    /// use sugamdely::derivatives::{CurveDerivatives, SurfaceDerivatives};
-    /// use sugamdely::rolling_ball_fillet::{ContactCircle, ContactPoint, RollingBallFilletSurface};
-    ///
-    /// // A ball of radius 1 in the corner of the planes z = 0 and y = 0, which the edge along x leaves.
-    /// let fillet = RollingBallFilletSurface {
-    ///     edge_curve: CurveDerivatives::new(&[[0.0; 3], [1.0, 0.0, 0.0]])?,
-    ///     surface0: SurfaceDerivatives::new(1, &[[0.0, 1.0, 0.0], [0.0, 1.0, 0.0], [1.0, 0.0, 0.0]])?,
-    ///     surface1: SurfaceDerivatives::new(1, &[[0.0, 0.0, 1.0], [1.0, 0.0, 0.0], [0.0, 0.0, 1.0]])?,
-    ///     radius: CurveDerivatives::new(&[1.0, 0.0])?,
-    ///     normal0: [0.0, 0.0, 1.0],
-    ///     normal1: [0.0, 1.0, 0.0],
-    /// };
-    /// let circle = ContactCircle {
-    ///     center: [0.0, 1.0, 1.0],
-    ///     axis: [-1.0, 0.0, 0.0],
-    ///     angle: std::f64::consts::FRAC_PI_2,
-    ///     contact_point0: ContactPoint { point: [0.0, 1.0, 0.0], uv: [0.0, 1.0] },
-    ///     contact_point1: ContactPoint { point: [0.0, 0.0, 1.0], uv: [1.0, 0.0] },
-    /// };
-    /// let ders = fillet.sub_center_contacts_ders(&circle, 0)?;
-    /// assert_eq!(ders.center_ders.entries(), [[0.0, 1.0, 1.0]]);
-    /// assert_eq!(ders.contact0_ders.entries(), [[0.0, 1.0, 0.0], [0.0, 0.0, 0.0]]);
-    /// # Ok::<(), sugamdely::Refusal>(())
-    /// ```
     pub fn sub_center_contacts_ders(&self, circle: &ContactCircle, n: usize) -> Result<CenterContactDers, Refusal> {
         let above = n.saturating_add(1);
         let mut ders = CenterContactDers {
