@@ -78,13 +78,13 @@ fn check(dir: &Path) -> io::Result<()> {
 
 /// Random cases of a cheap operation, where no count is given.
 #[cfg(ours)]
-const DEFAULT_COUNT: usize = 3000;
+const DEFAULT_COUNT: usize = 5000;
 
 /// How much dearer than a cheap one a case of an operation is.
 #[cfg(ours)]
 fn cost(name: &str) -> usize {
     match name {
-        _ if name.ends_with("composite_derivatives") => 4,
+        "sub_center_contacts_ders" | "vder_info" => 4,
         _ => 1,
     }
 }
