@@ -78,7 +78,7 @@ fn check(dir: &Path) -> io::Result<()> {
 
 /// Random cases of a cheap operation, where no count is given.
 #[cfg(ours)]
-const DEFAULT_COUNT: usize = 5000;
+const DEFAULT_COUNT: usize = 20_000;
 
 /// How much dearer than a cheap one a case of an operation is.
 #[cfg(ours)]

@@ -188,8 +188,9 @@ fn recipe(form: Form, call: Build) -> Work {
     Box::new(move |items| {
         let mut reader = Reader::new(items);
         let (orders, entries, steps) = (reader.wholes(), reader.signed(), reader.wholes());
-        let due = orders.iter().min().map_or(0, |order| form.length(bounded(*order)));
-        listed(due, |out| call(&orders, &entries, &steps, out))
+        // Without a jet nothing is due, and an output of any length is refused alike.
+        let Some(order) = orders.iter().min() else { return Answer::refused(call(&orders, &entries, &steps, &mut [])) };
+        listed(form.length(bounded(*order)), |out| call(&orders, &entries, &steps, out))
     })
 }
 
