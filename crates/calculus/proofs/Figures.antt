@@ -1,17 +1,14 @@
--- Document 01's figures that the definitions alone give, at the integers. Assumes nothing.
+-- Small figures that the definitions alone give, at the integers. Document 01's own are in the crate `figures`. Assumes nothing.
 use mathlib.Core.Path.{_≡_, refl}
 use mathlib.Core.List.{List, [], _∷_}
 use Prim.Native.Nat.{ℕ}
 use lib.IntN.{ℤ, pos}
 use lib.ListN.{getD}
-use Rattle.partitions.specs.Parts.{total, fact, parts, divide, runsFrom, runs, multiplicity}
-use Rattle.calculus.specs.Kind.{regular, plain}
-use Rattle.calculus.specs.InTurn.{inTurn, inRows, alongList}
+use Rattle.calculus.specs.Kind.{plain}
+use Rattle.calculus.specs.InTurn.{inTurn, inRows}
 use Rattle.calculus.specs.Rising.{before}
 use Rattle.calculus.specs.Choose.{choose}
-use Rattle.calculus.specs.Curve
 use Rattle.calculus.specs.Surface
-use Rattle.calculus.specs.Carry.{digits, factors, throughLen, ones, compositeDerivatives}
 use Rattle.calculus.specs.Graded.{place, graded}
 use Rattle.calculus.specs.Array.{listed, curveArray}
 
@@ -22,32 +19,13 @@ curve l i = getD l i (pos 0)
 abbrev surface : List (List ℤ) → ℕ → ℕ → ℤ
 surface l i j = getD (getD l i []) j (pos 0)
 
--- (1, 2, 3) times (4, 5, 6), and that over (1, 2, 3)
+-- the curve (1, 2, 3)
 abbrev one-two-three : ℕ → ℤ
 one-two-three = curve (pos 1 ∷ pos 2 ∷ pos 3 ∷ [])
 
-times-three : listed (Curve.product plain one-two-three (curve (pos 4 ∷ pos 5 ∷ pos 6 ∷ []))) 0 3 ≡ pos 4 ∷ pos 13 ∷ pos 38 ∷ []
-unfolding listed inTurn choose
-times-three = refl
-
-over-three : listed (Curve.quotient plain (curve (pos 4 ∷ pos 13 ∷ pos 38 ∷ [])) one-two-three) 0 3 ≡ pos 4 ∷ pos 5 ∷ pos 6 ∷ []
-unfolding listed inTurn before choose
-over-three = refl
-
--- the surface, along u' = 1, u'' = 2, v' = 2, v'' = 1
+-- a surface
 abbrev given : ℕ → ℕ → ℤ
 given = surface ((pos 5 ∷ pos 3 ∷ pos 6 ∷ []) ∷ (pos 2 ∷ pos 4 ∷ []) ∷ (pos 1 ∷ []) ∷ [])
-
-abbrev carried : (ℕ → ℕ → ℤ) → List ℤ
-carried s = listed (compositeDerivatives (regular plain) (curve (pos 0 ∷ pos 1 ∷ pos 2 ∷ [])) (curve (pos 0 ∷ pos 2 ∷ pos 1 ∷ [])) s) 0 3
-
-carried-surface : carried given ≡ pos 5 ∷ pos 8 ∷ pos 48 ∷ []
-unfolding listed throughLen alongList inTurn factors digits ones multiplicity divide runs runsFrom total fact parts
-carried-surface = refl
-
-carried-square : carried (Surface.product plain given given) ≡ pos 25 ∷ pos 80 ∷ pos 608 ∷ []
-unfolding listed throughLen alongList inTurn inRows choose factors digits ones multiplicity divide runs runsFrom total fact parts
-carried-square = refl
 
 -- a surface's quotient: the square over the surface, up to order 2
 abbrev square-root : ℕ → ℕ → ℤ

@@ -13,7 +13,6 @@ pub mod Vectors
 pub mod VectorAnswers
 pub mod VectorCurves
 pub mod VectorCarries
-pub mod VectorFigures
 pub mod VectorSurfaces
 pub mod VectorSurfaceAnswers
 pub mod VectorSurfaceNorms

@@ -4,9 +4,7 @@ pub mod Progress
 pub mod Earlier
 pub mod Same
 pub mod Judged
-pub mod Figures
 pub mod Pairs
 pub mod Masks
 pub mod Orders
 pub mod CarryJudged
-pub mod CarryFigures

@@ -19,6 +19,7 @@ use Rattle.exact.specs.declared.CurveAnswer.{CurveAnswer}
 use Rattle.exact.specs.declared.SurfaceAnswer.{SurfaceAnswer}
 use Rattle.calculus.specs.Order.{curveEntries, surfaceEntries}
 use Rattle.exact.specs.Answer.{valueOf, refusedCurve, refusedSurface, answeredCurve, answeredSurface, unlessRefused, curveAnswer, surfaceAnswer}
+use Rattle.calculus.proofs.Left as order
 use Rattle.exact.proofs.Work as work
 
 abbrev curve : ℕ → List ℤ → CurveAnswer
@@ -38,13 +39,13 @@ module _ (f : ℕ → Whole) where
 
     pub record CurveProgress (m : ℕ) (r : List ℤ) : Type 0 where
       pub stored : CurveFilled m r
-      pub left : unlessRefused refusedCurve (work.curveLeft f n m) (answeredCurve n (λ k. valueOf (f k))) ≡ curveAnswer f n
+      pub left : unlessRefused refusedCurve (order.curveLeft f n m) (answeredCurve n (λ k. valueOf (f k))) ≡ curveAnswer f n
       pub upto : m ≤ suc n
 
     pub curve-begins : CurveProgress 0 (replicate 21 (pos 0))
     curve-begins = record {
       stored = curve-none 21 (pos 0) (pos 0) (λ k v. f k ≡ Value v);
-      left = ap (λ (l : List Whole). unlessRefused refusedCurve l answer) (sym (work.curve-start f n));
+      left = ap (λ (l : List Whole). unlessRefused refusedCurve l answer) (sym (order.curve-start f n));
       upto = omega arith;
     }
 
@@ -53,18 +54,18 @@ module _ (f : ℕ → Whole) where
       pub curve-goes-on : {v : ℤ} → n ≤ 20 → m ≤ n → SFits w64 v → f m ≡ Value v → CurveProgress (m + 1) (set r m (toZ w64 (ofZ w64 v)))
       curve-goes-on {v} b l fv e = record {
         stored = curve-more 21 (pos 0) (pos 0) (λ k v. f k ≡ Value v) (toZ w64 (ofZ w64 v)) (p .stored) (omega arith) (e ∙ ap Value (sym (toZ-ofZ fv)));
-        left = work.pass refusedCurve answer e (work.curve-next f n m l) ∙ p .left;
+        left = work.pass refusedCurve answer e (order.curve-next f n m l) ∙ p .left;
         upto = omega arith;
       }
 
       pub curve-stops : {c : ℕ} → m ≤ n → f m ≡ Refused c → refusedCurve c ≡ curveAnswer f n
-      curve-stops l e = work.stop refusedCurve answer e (work.curve-next f n m l) ∙ p .left
+      curve-stops l e = work.stop refusedCurve answer e (order.curve-next f n m l) ∙ p .left
 
       pub curve-ends : n < m → curve n r ≡ curveAnswer f n
       curve-ends l =
           let e : m ≡ suc n = omega (arith, p .upto) in
           ap (curve n) (curve-all 21 (pos 0) (pos 0) (λ k v. f k ≡ Value v) (λ k. valueOf (f k)) (λ k v q. sym (ap valueOf q)) (suc n) (p .stored) e)
-          ∙ work.none-left refusedCurve answer (work.curve-end f n l) ∙ p .left
+          ∙ work.none-left refusedCurve answer (order.curve-end f n l) ∙ p .left
 
 -- a jet of numbers is answered
 pub curve-of-numbers : (a : ℕ → ℤ) (n : ℕ) → curveAnswer (λ m. Value (a m)) n ≡ answeredCurve n a
@@ -86,13 +87,13 @@ module _ (f : ℕ → ℕ → Whole) {n : ℕ} (b : n ≤ 20) where
 
   pub record SurfaceProgress (i j : ℕ) (r : List ℤ) : Type 0 where
     pub stored : SurfaceFilled i j r
-    pub left : unlessRefused refusedSurface (work.surfaceLeft f n i j) (answeredSurface n (λ x y. valueOf (f x y))) ≡ surfaceAnswer f n
-    pub inside : work.Inside n i j
+    pub left : unlessRefused refusedSurface (order.surfaceLeft f n i j) (answeredSurface n (λ x y. valueOf (f x y))) ≡ surfaceAnswer f n
+    pub inside : order.Inside n i j
 
   pub surface-begins : SurfaceProgress 0 0 (replicate 231 (pos 0))
   surface-begins = record {
     stored = surface-none 231 (pos 0) (pos 0) n (room b) (λ i j v. f i j ≡ Value v);
-    left = ap (λ (l : List Whole). unlessRefused refusedSurface l answers) (sym (work.surface-start f n));
+    left = ap (λ (l : List Whole). unlessRefused refusedSurface l answers) (sym (order.surface-start f n));
     inside = (omega arith, λ h. omega arith);
   }
 
@@ -103,8 +104,8 @@ module _ (f : ℕ → ℕ → Whole) {n : ℕ} (b : n ≤ 20) where
           surface-more 231 (pos 0) (pos 0) n (room b) (λ i j v. f i j ≡ Value v) (toZ w64 (ofZ w64 v)) (p .stored) (p .inside .1 h)
           (e ∙ ap Value (sym (toZ-ofZ fv)))
 
-      passed : unlessRefused refusedSurface (work.surfaceLeft f n i (j + 1)) answers ≡ surfaceAnswer f n
-      passed = work.pass refusedSurface answers e (work.surface-next f n i j (p .inside .1 h)) ∙ p .left
+      passed : unlessRefused refusedSurface (order.surfaceLeft f n i (j + 1)) answers ≡ surfaceAnswer f n
+      passed = work.pass refusedSurface answers e (order.surface-next f n i j (p .inside .1 h)) ∙ p .left
 
       pub surface-goes-on : i + (j + 1) ≤ n → SurfaceProgress i (j + 1) (set r (index i j) (toZ w64 (ofZ w64 v)))
       surface-goes-on l = record { stored = kept; left = passed; inside = (omega arith, λ k. l) }
@@ -112,19 +113,19 @@ module _ (f : ℕ → ℕ → Whole) {n : ℕ} (b : n ≤ 20) where
       pub surface-turns : n < i + (j + 1) → SurfaceProgress (i + 1) 0 (set r (index i j) (toZ w64 (ofZ w64 v)))
       surface-turns l = record {
         stored = surface-next 231 (pos 0) (pos 0) n (room b) (λ i j v. f i j ≡ Value v) kept l;
-        left = ap (λ (k : List Whole). unlessRefused refusedSurface k answers) (sym (work.surface-row f n i (j + 1) l)) ∙ passed;
+        left = ap (λ (k : List Whole). unlessRefused refusedSurface k answers) (sym (order.surface-row f n i (j + 1) l)) ∙ passed;
         inside = (omega arith, λ k. omega arith);
       }
 
     pub surface-stops : {c : ℕ} → i ≤ n → f i j ≡ Refused c → refusedSurface c ≡ surfaceAnswer f n
-    surface-stops h e = work.stop refusedSurface answers e (work.surface-next f n i j (p .inside .1 h)) ∙ p .left
+    surface-stops h e = work.stop refusedSurface answers e (order.surface-next f n i j (p .inside .1 h)) ∙ p .left
 
     pub surface-ends : n < i → surface n r ≡ surfaceAnswer f n
     surface-ends l =
         let e : j ≡ 0 = omega (arith, p .inside .0) in
         ap (surface n) (surface-all 231 (pos 0) (pos 0) n (room b) (λ i j v. f i j ≡ Value v) (λ i j. valueOf (f i j)) (λ i j v q. sym (ap valueOf q)) {m = i}
         (subst (λ (x : ℕ). SurfaceFilled i x r) e (p .stored)) l)
-        ∙ work.none-left refusedSurface answers (ap (work.surfaceLeft f n i) e ∙ work.surface-end f n l) ∙ p .left
+        ∙ work.none-left refusedSurface answers (ap (order.surfaceLeft f n i) e ∙ order.surface-end f n l) ∙ p .left
 
 pub surface-of-numbers : (s : ℕ → ℕ → ℤ) (n : ℕ) → surfaceAnswer (λ i j. Value (s i j)) n ≡ answeredSurface n s
 surface-of-numbers s n =

@@ -48,7 +48,8 @@ pub struct ParameterAnswer {
     pub jet: ParameterCurve,
 }
 
-fn refused_curve(c: u8) -> CurveAnswer
+// A refusal's number, beside the zero jet of order 0.
+pub fn refused_curve(c: u8) -> CurveAnswer
     ensures { λ r. ⌜ r ≡ refusedCurve c ⌝ }
 {
     let z = [0i64; 21];
@@ -61,7 +62,7 @@ fn refused_curve(c: u8) -> CurveAnswer
     }
 }
 
-fn refused_surface(c: u8) -> SurfaceAnswer
+pub fn refused_surface(c: u8) -> SurfaceAnswer
     ensures { λ r. ⌜ r ≡ refusedSurface c ⌝ }
 {
     let z = [0i64; 231];

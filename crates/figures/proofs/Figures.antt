@@ -9,6 +9,7 @@ use Rattle.partitions.specs.Parts.{total, fact, parts, lists, divide, runsFrom,
 use Rattle.partitions.specs.Count.{counted, falls, totalCount}
 use Rattle.partitions.specs.Walk.{started}
 use Rattle.partitions.specs.declared.Count.the-variants.{Value}
+use Rattle.whole.specs.declared.Whole.the-variants as whole
 use Rattle.whole.specs.Checked.{formed, divided}
 use Rattle.calculus.specs.InTurn.{inTurn, inRows, alongList}
 use Rattle.calculus.specs.Rising.{before}
@@ -25,7 +26,7 @@ use Rattle.exact.specs.declared.ParameterCurve.{ParameterCurve}
 use Rattle.exact.specs.declared.CurveAnswer.{CurveAnswer}
 use Rattle.exact.specs.Kinds.{checked}
 use Rattle.exact.specs.Answer.{refusedCurve, unlessRefused, onCurves, onSurfaces}
-use Rattle.exact.specs.Composite.{alongCurve}
+use Rattle.exact.specs.Composite.{alongCurveAt, alongCurve}
 use Rattle.ieee.specs.SquareRoot.{squareRoot}
 use Rattle.vectors.specs.Vectors.{vector}
 use Rattle.vectors.specs.Matrices.{columns}
@@ -109,6 +110,11 @@ curve = record { order = 2; u = pos 0 ∷ pos 1 ∷ pos 2 ∷ replicate 18 (pos 
 pub carried-48 : alongCurve given curve 2 ≡ answered 2 (pos 5 ∷ pos 8 ∷ pos 48 ∷ [])
 unfolding unlessRefused formed listed index throughLen alongList inTurn factors digits ones multiplicity divide runs runsFrom total fact parts
 carried-48 = refl
+
+-- one order at a time, and zero at order 0
+pub carried-at : alongCurveAt given curve 0 ∷ alongCurveAt given curve 1 ∷ alongCurveAt given curve 2 ∷ [] ≡ whole.Value (pos 0) ∷ whole.Value (pos 8) ∷ whole.Value (pos 48) ∷ []
+unfolding formed index throughLen alongList inTurn factors digits ones multiplicity divide runs runsFrom total fact parts
+carried-at = refl
 
 -- that surface times itself, and this carried: (25, 80, 608)
 abbrev squared : SurfaceDerivatives

@@ -14,7 +14,6 @@ pub mod Exact
 pub mod Triangle
 pub mod Below
 pub mod Stirling
-pub mod Figures
 pub mod Counted
 pub mod Pad
 pub mod Stepping

@@ -1,10 +1,6 @@
 // Recipes, which build a jet from given ones step by step (document 01's term), and the two ways to bring a recipe of surfaces and a curve
 // in their parameters together (document 01's two roads).
-ghost use mathlib.Core.Path.{_≡_};
-ghost use Rattle.exact.specs.Answer.{refusedCurve, refusedSurface};
-use exact::CurveAnswer;
 use exact::CurveDerivatives;
-use exact::SurfaceAnswer;
 use exact::SurfaceDerivatives;
 
 mod checks;
@@ -41,30 +37,4 @@ pub struct CurveRecipe {
     pub curves: [CurveDerivatives; 4],
     pub steps: usize,
     pub program: [Step; 12],
-}
-
-fn refused_curve(c: u8) -> CurveAnswer
-    ensures { λ r. ⌜ r ≡ refusedCurve c ⌝ }
-{
-    let z = [0i64; 21];
-    CurveAnswer {
-        refusal: c,
-        jet: CurveDerivatives {
-            order: 0,
-            entries: z,
-        },
-    }
-}
-
-fn refused_surface(c: u8) -> SurfaceAnswer
-    ensures { λ r. ⌜ r ≡ refusedSurface c ⌝ }
-{
-    let z = [0i64; 231];
-    SurfaceAnswer {
-        refusal: c,
-        jet: SurfaceDerivatives {
-            order: 0,
-            entries: z,
-        },
-    }
 }

@@ -30,7 +30,7 @@ fn carry_each(
     requires { ⌜ count ≤ 4 ⌝ }
     ensures { λ r. ⌜ (r .refusal ≡ firstRefusal (map (λ s. alongCurve s curve order) (take count jets))) × (r .refusal ≡ 0 → take count (r .curves) ≡ map (λ s. alongCurve s curve order .jet) (take count jets)) × (length jets ≡ 4) × (length (r .curves) ≡ 4) ⌝ }
 {
-    let none = crate::refused_curve(0);
+    let none = exact::refused_curve(0);
     let blank = none.jet;
     let mut curves = [blank; 4];
     let mut i = 0;
@@ -59,7 +59,7 @@ impl SurfaceRecipe {
         let answer = self.build();
         let number = answer.refusal;
         if number != 0 {
-            return crate::refused_curve(number);
+            return exact::refused_curve(number);
         }
         let jet = answer.jet;
         jet.composite_derivatives(curve, order)
@@ -77,7 +77,7 @@ impl SurfaceRecipe {
         let carried = carry_each(jets, count, curve, order);
         let number = carried.refusal;
         if number != 0 {
-            return crate::refused_curve(number);
+            return exact::refused_curve(number);
         }
         let curves = carried.curves;
         let recipe = CurveRecipe {

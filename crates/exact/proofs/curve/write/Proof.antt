@@ -11,7 +11,7 @@ use mir.Val.{SFits}
 use mir.Facts.{toZ-ofZ}
 use Rattle.calculus.specs.Order.{curveEntries}
 use Rattle.exact.specs.Answer.{curveNumbers}
-use Rattle.exact.proofs.Work.{curveLeft, curve-start, curve-next, curve-end}
+use Rattle.calculus.proofs.Left.{curveLeft, curve-start, curve-next, curve-end}
 use Rattle.calculus.proofs.Writing.{Writing, writing-begins, in-list, writing-goes-on, writing-ends, listed-length}
 use Rattle.exact.proofs.curve.write.Statement.{statement}
 use Rattle.exact.proofs.curve.write.Tie as tie

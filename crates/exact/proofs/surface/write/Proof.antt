@@ -12,7 +12,7 @@ use mir.Facts.{toZ-ofZ}
 use Rattle.calculus.proofs.Graded.{index-231}
 use Rattle.calculus.specs.Order.{surfaceEntries}
 use Rattle.exact.specs.Answer.{surfaceNumbers}
-use Rattle.exact.proofs.Work.{Inside, surfaceLeft, surface-start, surface-next, surface-row, surface-end}
+use Rattle.calculus.proofs.Left.{Inside, surfaceLeft, surface-start, surface-next, surface-row, surface-end}
 use Rattle.exact.proofs.Progress.{room}
 use Rattle.calculus.proofs.Writing.{Writing, writing-begins, in-list, writing-goes-on, writing-turns, writing-ends, rows-length}
 use Rattle.exact.proofs.surface.write.Statement.{statement}
