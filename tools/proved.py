@@ -14,13 +14,13 @@ import sys
 ROOT = pathlib.Path(__file__).resolve().parent.parent
 PAGE = ROOT / "docs" / "PROVED.md"
 BEGIN, END = "<!-- public functions -->", "<!-- end -->"
-PROGRAMS = ("parts", "replay_")
+TEST_TOOLS = "replay_"
 
 
 def libraries():
-    """The crates that other crates or C callers can call."""
+    """The crates that a caller can use; those that only the replays stand on are no part of it."""
     names = [line.split(":")[0] for line in (ROOT / "crates.txt").read_text().splitlines() if line and not line.startswith("#")]
-    return [n for n in names if (ROOT / "crates" / n / "src" / "lib.rt").exists()]
+    return [n for n in names if (ROOT / "crates" / n / "src" / "lib.rt").exists() and not n.startswith(TEST_TOOLS)]
 
 
 def imported(text):
@@ -63,13 +63,16 @@ def public(crate):
     root = (source / "lib.rt").read_text()
     open_modules = set(re.findall(r"^pub mod (\w+);", root, re.M))
     passed_on = set(re.findall(r"^pub use (\w+::\w+);", root, re.M))
+    open_types = set()
+    for module in ["lib", *sorted(open_modules)]:
+        open_types |= set(re.findall(r"^pub (?:struct|enum) (\w+)", (source / f"{module}.rt").read_text(), re.M))
     for file in sorted(source.rglob("*.rt")):
         module = file.relative_to(source).with_suffix("").as_posix()
         text = file.read_text()
         names = imported(text)
         for owner, name, head in functions(text):
             exported = 'extern "C"' in head
-            if not (owner or exported or module == "lib" or module in open_modules or f"{module}::{name}" in passed_on):
+            if not (owner in open_types or exported or module == "lib" or module in open_modules or f"{module}::{name}" in passed_on):
                 continue
             ensures = "".join(re.findall(r"ensures \{(.*?)⌝ \}", head, re.S))
             cited = []

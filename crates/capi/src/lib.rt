@@ -5,9 +5,12 @@
 
 pub mod curve_recipes;
 pub mod curves;
+mod deliver;
 pub mod exact_carry;
+mod exact_checks;
 pub mod exact_curves;
 pub mod exact_surfaces;
+mod given;
 pub mod part_lists;
 pub mod recipes;
 pub mod surfaces;
@@ -15,6 +18,3 @@ pub mod values;
 pub mod vector_curves;
 pub mod vector_surfaces;
 pub mod whole_numbers;
-mod deliver;
-mod exact_checks;
-mod given;
