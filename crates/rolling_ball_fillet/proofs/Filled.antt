@@ -18,7 +18,7 @@ use Rattle.derivatives.specs.Vector.{origin, vectorNumbers, vectorArray, flat}
 use Rattle.derivatives.specs.declared.CurveDerivatives.{CurveDerivatives}
 use Rattle.derivatives.specs.declared.ParameterCurve.{ParameterCurve}
 use Rattle.derivatives.specs.declared.VectorCurveDerivatives.{VectorCurveDerivatives}
-use Rattle.derivatives.proofs.Vectors.{nowhere, flat-at}
+use Rattle.rolling_ball_fillet.proofs.Entries.{vectors-at, numbers-at}
 use Rattle.rolling_ball_fillet.specs.PartialAnswer.{noNumbers}
 use Rattle.rolling_ball_fillet.specs.declared.CenterContactDers.{CenterContactDers}
 use Rattle.rolling_ball_fillet.specs.declared.VderInfoAnswer.{VderInfoAnswer}
@@ -39,12 +39,10 @@ numbers-held f n l e k h =
     ap (λ (x : List Float). curveNumbers x k) e ∙ filled-at 21 nan nil f n k (omega arith) ∙ ap (λ (b : Bool). cond b (f k) nil) (lt-ltb k n h)
 
 pub numbers-agree : (f : ℕ → Float) (n : ℕ) → n ≤ 20 → {r : List Float} → r ≡ filled 21 nil f (suc n) → CurvesAgree n (curveNumbers r) f
-numbers-agree f n l e k h = numbers-held f (suc n) (omega arith) e k (omega arith)
+numbers-agree f n l e k h = ap (λ (x : List Float). curveNumbers x k) e ∙ numbers-at f n k l h
 
 pub vectors-agree : (f : ℕ → Vector3) (n : ℕ) → n ≤ 20 → {r : List Float} → r ≡ vectorArray f n → CurvesAgree n (vectorNumbers r) f
-vectors-agree f n l e k h =
-    ap (λ (x : List Float). vectorNumbers x k) e ∙ flat-at (filled 21 origin f (suc n)) k ∙ filled-at 21 nowhere origin f (suc n) k (omega arith)
-    ∙ ap (λ (b : Bool). cond b (f k) origin) (lt-ltb k (suc n) (omega arith))
+vectors-agree f n l e k h = ap (λ (x : List Float). vectorNumbers x k) e ∙ vectors-at f n k l h
 
 -- ---- records of jets whose parts are the same
 abbrev pub vectorJet : ℕ → List Float → VectorCurveDerivatives

@@ -1,6 +1,6 @@
 -- The jets that stand for the ball's centre and contacts, read as functions of the order: cut to an order, and tested up to one. Assumes nothing.
 use Prim.Native.Nat.{ℕ, suc}
-use mathlib.Core.Bool.{Bool, _&&_, _||_}
+use mathlib.Core.Bool.{Bool, _||_}
 use lib.Dec.{ltb}
 use lib.Ieee.{Float}
 use Rattle.calculus.specs.Array.{curveArray}
@@ -42,11 +42,3 @@ finiteJet a n = finiteVectors (vectorNumbers (a .entries)) n
 
 abbrev pub finiteNumbers : CurveDerivatives → ℕ → Bool
 finiteNumbers a n = finiteCurve (curveNumbers (a .entries)) n
-
-abbrev pub finiteParameter : ParameterCurve → ℕ → Bool
-finiteParameter a n = finiteCurve (curveNumbers (a .u)) n && finiteCurve (curveNumbers (a .v)) n
-
-abbrev pub finiteDers : CenterContactDers → ℕ → Bool
-finiteDers d n =
-    finiteJet (d .«center_ders») n && finiteJet (d .«contact0_ders») (suc n) && finiteJet (d .«contact1_ders») (suc n)
-    && finiteParameter (d .«uv0_ders») (suc n) && finiteParameter (d .«uv1_ders») (suc n)

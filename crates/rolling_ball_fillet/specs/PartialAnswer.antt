@@ -16,7 +16,8 @@ use Rattle.derivatives.specs.VectorAnswer.{tested}
 use Rattle.derivatives.specs.declared.CurveDerivatives.{CurveDerivatives}
 use Rattle.derivatives.specs.declared.ParameterCurve.{ParameterCurve}
 use Rattle.derivatives.specs.declared.VectorCurveDerivatives.{VectorCurveDerivatives}
-use Rattle.rolling_ball_fillet.specs.Jets.{farContacts, shortContacts, finiteJet, finiteNumbers, finiteDers}
+use Rattle.rolling_ball_fillet.specs.Center.{finiteContacts}
+use Rattle.rolling_ball_fillet.specs.Jets.{farContacts, shortContacts, finiteJet, finiteNumbers}
 use Rattle.rolling_ball_fillet.specs.AxisAngle.{arm0, arm1, lengths, divisionByZero, infoOf, cosine}
 use Rattle.rolling_ball_fillet.specs.declared.CenterContactDers.{CenterContactDers}
 use Rattle.rolling_ball_fillet.specs.declared.VderInfo.{VderInfo}
@@ -47,7 +48,7 @@ vderInfo d r angle n = cond (divisionByZero (lengths (arm0 d) (arm1 d) 0) (r 0))
 
 -- the entries up to the order n, those of the contacts and parameters up to n + 1
 abbrev pub finiteInfo : VderInfo → ℕ → Bool
-finiteInfo i n = finiteDers (i .«cc_ders») n && finiteJet (i .«axis_ders») n && finiteNumbers (i .«angle_ders») n
+finiteInfo i n = finiteContacts (i .«cc_ders») n && finiteJet (i .«axis_ders») n && finiteNumbers (i .«angle_ders») n
 
 -- 10 where what is answered is not finite; a refusal stays as it is
 abbrev pub returnedInfo : VderInfoAnswer → ℕ → VderInfoAnswer
@@ -57,7 +58,7 @@ abbrev pub vderInfoAnswer : CenterContactDers → CurveDerivatives → Float →
 vderInfoAnswer d r angle =
     let n = d .«center_ders» .order in
     tested refusedInfo (ltb 19 n || farContacts d || ltb 20 (r .order)) (shortContacts d (suc n) || ltb (r .order) (suc n))
-    (finiteDers d n && finiteNumbers r (suc n) && finite angle)
+    (finiteContacts d n && finiteNumbers r (suc n) && finite angle)
     (returnedInfo (vderInfo d (curveNumbers (r .entries)) angle n) n)
 
 -- ---- partials, worked at the order k

@@ -1,6 +1,6 @@
 // The tests before an answer, and the answer or its refusal.
 ghost use mathlib.Core.Path.{_≡_};
-ghost use mathlib.Core.Bool.{_&&_};
+ghost use mathlib.Core.Bool.{_&&_, _||_};
 ghost use lib.Dec.{leb};
 ghost use Rattle.vectors.specs.Answers.{vectorFrom, refused3, returned3};
 ghost use Rattle.rolling_ball_fillet.specs.Answers.{servedOrders, finiteTurn};
@@ -13,6 +13,12 @@ pub fn both(p: bool, q: bool) -> bool
     ensures { λ r. ⌜ r ≡ (p && q) ⌝ }
 {
     if p { q } else { false }
+}
+
+pub fn either(p: bool, q: bool) -> bool
+    ensures { λ r. ⌜ r ≡ (p || q) ⌝ }
+{
+    if p { true } else { q }
 }
 
 pub fn order_served(n: usize) -> bool

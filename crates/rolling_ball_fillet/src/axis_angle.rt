@@ -12,6 +12,7 @@ ghost use Rattle.rolling_ball_fillet.specs.PartialAnswer.{noVectors, noP
 use crate::CenterContactDers;
 use crate::VderInfo;
 use crate::VderInfoAnswer;
+use crate::answers::either;
 use crate::jets;
 use derivatives::CurveDerivatives;
 use derivatives::ParameterCurve;
@@ -162,8 +163,8 @@ fn cosine(p: &[f64; 63], q: &[f64; 63], r: f64) -> f64
 fn division_by_zero(length: f64, r: f64) -> bool
     ensures { λ x. ⌜ x ≡ divisionByZero length r ⌝ }
 {
-    let either = jets::either(length == 0.0, r == 0.0);
-    jets::either(either, r * r == 0.0)
+    let first = either(length == 0.0, r == 0.0);
+    either(first, r * r == 0.0)
 }
 
 fn no_vectors() -> VectorCurveDerivatives

@@ -1,6 +1,5 @@
 // The tests on what is given for the centre and the contacts, and on what is returned.
 ghost use mathlib.Core.Path.{_≡_};
-ghost use mathlib.Core.Bool.{_||_};
 ghost use Prim.Native.Nat.{_≤_, _<_};
 ghost use Rattle.derivatives.specs.VectorAnswer.{far as farOf};
 ghost use Rattle.rolling_ball_fillet.specs.Center.{beyond as beyondOf, short as shortOf, finiteGiven, finiteContacts, returnedContacts};
@@ -9,16 +8,12 @@ use crate::CenterContactDers;
 use crate::ContactCircle;
 use crate::RollingBallFilletSurface;
 use crate::answers::both;
+use crate::answers::either;
 use crate::contacts;
 use derivatives::raw;
 
-fn either(p: bool, q: bool) -> bool
-    ensures { λ r. ⌜ r ≡ (p || q) ⌝ }
-{
-    if p { true } else { q }
-}
-
-fn far(m: usize, n: usize) -> bool
+// Whether one of two orders is above 20.
+pub fn far(m: usize, n: usize) -> bool
     ensures { λ r. ⌜ r ≡ farOf m n ⌝ }
 {
     either(20 < m, 20 < n)
@@ -61,7 +56,7 @@ pub fn finite_given(f: RollingBallFilletSurface, cc: ContactCircle, n: usize) ->
 }
 
 // Whether what is returned is finite.
-fn finite_contacts(d: CenterContactDers, n: usize) -> bool
+pub fn finite_contacts(d: CenterContactDers, n: usize) -> bool
     requires { ⌜ n < 20 ⌝ }
     ensures { λ r. ⌜ r ≡ finiteContacts d n ⌝ }
 {

@@ -4,13 +4,16 @@ ghost use mathlib.Core.Bool.{_&&_, _||_};
 ghost use Prim.Native.Nat.{suc, _<_};
 ghost use lib.Dec.{ltb};
 ghost use lib.Ieee.Scale.{finite};
-ghost use Rattle.rolling_ball_fillet.specs.Jets.{farContacts, shortContacts, finiteNumbers, finiteDers};
+ghost use Rattle.rolling_ball_fillet.specs.Center.{finiteContacts};
+ghost use Rattle.rolling_ball_fillet.specs.Jets.{farContacts, shortContacts, finiteNumbers};
 ghost use Rattle.rolling_ball_fillet.specs.PartialAnswer.{returnedInfo, finiteInfo, farInfo, shortInfo};
 use crate::CenterContactDers;
 use crate::VderInfo;
 use crate::VderInfoAnswer;
 use crate::answers::both;
+use crate::answers::either;
 use crate::axis_angle;
+use crate::given;
 use crate::jets;
 use derivatives::CurveDerivatives;
 
@@ -18,21 +21,21 @@ use derivatives::CurveDerivatives;
 pub fn beyond(d: CenterContactDers, r: CurveDerivatives, n: usize) -> bool
     ensures { λ x. ⌜ x ≡ (ltb 19 n || farContacts d || ltb 20 (r .order)) ⌝ }
 {
-    let contacts = jets::either(19 < n, jets::far_contacts(d));
-    jets::either(contacts, 20 < r.order)
+    let contacts = either(19 < n, jets::far_contacts(d));
+    either(contacts, 20 < r.order)
 }
 
 pub fn short(d: CenterContactDers, r: CurveDerivatives, k: usize) -> bool
     ensures { λ x. ⌜ x ≡ (shortContacts d k || ltb (r .order) k) ⌝ }
 {
-    jets::either(jets::short_contacts(d, k), r.order < k)
+    either(jets::short_contacts(d, k), r.order < k)
 }
 
 pub fn finite_given(d: CenterContactDers, r: CurveDerivatives, angle: f64, n: usize) -> bool
     requires { ⌜ n < 20 ⌝ }
-    ensures { λ x. ⌜ x ≡ (finiteDers d n && finiteNumbers r (suc n) && finite angle) ⌝ }
+    ensures { λ x. ⌜ x ≡ (finiteContacts d n && finiteNumbers r (suc n) && finite angle) ⌝ }
 {
-    let jets = both(jets::finite_ders(d, n), jets::finite_numbers(r, n + 1));
+    let jets = both(given::finite_contacts(d, n), jets::finite_numbers(r, n + 1));
     both(jets, ieee::is_finite(angle))
 }
 
@@ -44,9 +47,9 @@ pub fn far_info(i: VderInfo) -> bool
     let center = d.center_ders;
     let a = i.axis_ders;
     let t = i.angle_ders;
-    let contacts = jets::either(20 < center.order, jets::far_contacts(d));
-    let axis = jets::either(contacts, 20 < a.order);
-    jets::either(axis, 20 < t.order)
+    let contacts = either(20 < center.order, jets::far_contacts(d));
+    let axis = either(contacts, 20 < a.order);
+    either(axis, 20 < t.order)
 }
 
 pub fn short_info(i: VderInfo, k: usize) -> bool
@@ -57,9 +60,9 @@ pub fn short_info(i: VderInfo, k: usize) -> bool
     let center = d.center_ders;
     let a = i.axis_ders;
     let t = i.angle_ders;
-    let contacts = jets::either(center.order < k, jets::short_contacts(d, k + 1));
-    let axis = jets::either(contacts, a.order < k);
-    jets::either(axis, t.order < k)
+    let contacts = either(center.order < k, jets::short_contacts(d, k + 1));
+    let axis = either(contacts, a.order < k);
+    either(axis, t.order < k)
 }
 
 fn finite_info(i: VderInfo, n: usize) -> bool
@@ -67,7 +70,7 @@ fn finite_info(i: VderInfo, n: usize) -> bool
     ensures { λ r. ⌜ r ≡ finiteInfo i n ⌝ }
 {
     let axis = both(
-        jets::finite_ders(i.cc_ders, n),
+        given::finite_contacts(i.cc_ders, n),
         jets::finite_jet(i.axis_ders, n),
     );
     both(axis, jets::finite_numbers(i.angle_ders, n))

@@ -1,25 +1,18 @@
 // The jets of the centre and contacts: single entries, cut jets, and the tests on orders and entries. Each `requires` is met by the callers.
 ghost use mathlib.Core.Path.{_≡_};
-ghost use mathlib.Core.Bool.{_||_};
-ghost use Prim.Native.Nat.{suc, _≤_, _<_};
+ghost use Prim.Native.Nat.{_≤_, _<_};
 ghost use Rattle.calculus.specs.Array.{curveArray};
 ghost use Rattle.derivatives.specs.Real.{nil};
 ghost use Rattle.derivatives.specs.Answer.{curveNumbers};
 ghost use Rattle.derivatives.specs.Vector.{vectorNumbers, vectorArray};
-ghost use Rattle.rolling_ball_fillet.specs.Jets.{cutVectors, cutParameter, cutDers, farContacts, shortContacts, finiteJet, finiteNumbers, finiteParameter, finiteDers};
+ghost use Rattle.rolling_ball_fillet.specs.Jets.{cutVectors, cutParameter, cutDers, farContacts, shortContacts, finiteJet, finiteNumbers};
 use crate::CenterContactDers;
-use crate::answers::both;
+use crate::answers::either;
 use derivatives::CurveDerivatives;
 use derivatives::ParameterCurve;
 use derivatives::VectorCurveDerivatives;
 use derivatives::raw;
 use vectors::Vector3;
-
-pub fn either(p: bool, q: bool) -> bool
-    ensures { λ r. ⌜ r ≡ (p || q) ⌝ }
-{
-    if p { true } else { q }
-}
 
 // The entry of the order k.
 pub fn vector_at(a: &[f64; 63], k: usize) -> Vector3
@@ -167,24 +160,4 @@ pub fn finite_numbers(a: CurveDerivatives, n: usize) -> bool
 {
     let x = a.entries;
     raw::finite_numbers(&x, n)
-}
-
-fn finite_parameter(a: ParameterCurve, n: usize) -> bool
-    requires { ⌜ n ≤ 20 ⌝ }
-    ensures { λ r. ⌜ r ≡ finiteParameter a n ⌝ }
-{
-    let u = a.u;
-    let v = a.v;
-    both(raw::finite_numbers(&u, n), raw::finite_numbers(&v, n))
-}
-
-pub fn finite_ders(d: CenterContactDers, n: usize) -> bool
-    requires { ⌜ n < 20 ⌝ }
-    ensures { λ r. ⌜ r ≡ finiteDers d n ⌝ }
-{
-    let k = n + 1;
-    let first = both(finite_jet(d.center_ders, n), finite_jet(d.contact0_ders, k));
-    let points = both(first, finite_jet(d.contact1_ders, k));
-    let foot = both(points, finite_parameter(d.uv0_ders, k));
-    both(foot, finite_parameter(d.uv1_ders, k))
 }

@@ -2,7 +2,6 @@
 ghost use mathlib.Core.Path.{_≡_};
 ghost use Prim.Native.Nat.{suc, _≤_};
 ghost use Rattle.derivatives.specs.Answer.{curveNumbers};
-ghost use Rattle.derivatives.specs.VectorAnswer.{far as farOf};
 ghost use Rattle.rolling_ball_fillet.specs.SubDer.{decided, orderOf, partialBy, fromInfo, fromContacts, finiteNumbers4, byEdge, finiteWhole, byArc, byDecision, farPair};
 ghost use Rattle.rolling_ball_fillet.specs.Center.{centerContacts, radii};
 use crate::ContactCircle;
@@ -11,11 +10,11 @@ use crate::VderInfo;
 use crate::VderInfoAnswer;
 use crate::answers;
 use crate::answers::both;
+use crate::answers::either;
 use crate::axis_angle;
 use crate::circle;
 use crate::contacts;
 use crate::given;
-use crate::jets;
 use crate::partials;
 use derivatives::raw;
 use vectors::Vector3;
@@ -143,12 +142,6 @@ fn by_edge(
 }
 
 // Whether an order is above 20.
-fn far(m: usize, n: usize) -> bool
-    ensures { λ r. ⌜ r ≡ farOf m n ⌝ }
-{
-    jets::either(20 < m, 20 < n)
-}
-
 pub fn far_pair(f: RollingBallFilletSurface, m: usize, n: usize) -> bool
     ensures { λ r. ⌜ r ≡ farPair f m n ⌝ }
 {
@@ -156,10 +149,10 @@ pub fn far_pair(f: RollingBallFilletSurface, m: usize, n: usize) -> bool
     let r = f.radius;
     let a = f.surface0;
     let b = f.surface1;
-    let pair = far(m, n);
-    let curves = far(e.order, r.order);
-    let surfaces = far(a.order, b.order);
-    jets::either(pair, jets::either(curves, surfaces))
+    let pair = given::far(m, n);
+    let curves = given::far(e.order, r.order);
+    let surfaces = given::far(a.order, b.order);
+    either(pair, either(curves, surfaces))
 }
 
 // Whether what is given is finite, of the jets all entries.

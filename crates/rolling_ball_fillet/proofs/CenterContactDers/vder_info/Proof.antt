@@ -4,7 +4,8 @@ use lib.Dec.{ltb}
 use lib.Ieee.Scale.{finite}
 use mathlib.Core.Bool.{_&&_, _||_}
 use native.Mathlib.Numerals.{add-one}
-use Rattle.rolling_ball_fillet.specs.Jets.{farContacts, shortContacts, finiteNumbers, finiteDers}
+use Rattle.rolling_ball_fillet.specs.Center.{finiteContacts}
+use Rattle.rolling_ball_fillet.specs.Jets.{farContacts, shortContacts, finiteNumbers}
 use Rattle.rolling_ball_fillet.specs.PartialAnswer.{refusedInfo, vderInfo, returnedInfo}
 use Rattle.rolling_ball_fillet.specs.declared.VderInfoAnswer.{VderInfoAnswer}
 use Rattle.rolling_ball_fillet.proofs.Tests.{is-far, is-unfit, is-infinite, is-worked, order-below}
@@ -30,7 +31,7 @@ returns c =
     let k = add-one n in
     let far = ltb 19 n || farContacts d || ltb 20 (r .order) in
     let unfit = shortContacts d (suc n) || ltb (r .order) (suc n) in
-    let fin = finiteDers d n && finiteNumbers r (suc n) && finite (s .angle) in
+    let fin = finiteContacts d n && finiteNumbers r (suc n) && finite (s .angle) in
     let work = returnedInfo (vderInfo d (curveNumbers (r .entries)) (s .angle) n) n in
     c .refused .ensures ∙ is-far refusedInfo work far unfit fin (sym (c .before .before .beyond .ensures) ∙ c .before .if1 .taken)
 
@@ -55,7 +56,7 @@ returns-2 c =
     let k = add-one n in
     let far = ltb 19 n || farContacts d || ltb 20 (r .order) in
     let unfit = shortContacts d (suc n) || ltb (r .order) (suc n) in
-    let fin = finiteDers d n && finiteNumbers r (suc n) && finite (s .angle) in
+    let fin = finiteContacts d n && finiteNumbers r (suc n) && finite (s .angle) in
     let work = returnedInfo (vderInfo d (curveNumbers (r .entries)) (s .angle) n) n in
     c .refused2 .ensures ∙ is-unfit refusedInfo work far unfit fin (sym (c .before .before .before .before .beyond .ensures) ∙ c .before .before .before .if1 .left) (sym (c .before .before .short .ensures ∙ ap (λ (m : ℕ). shortContacts d m || ltb (r .order) m) k) ∙ c .before .if2 .taken)
 
@@ -86,7 +87,7 @@ returns-3 c =
     let k = add-one n in
     let far = ltb 19 n || farContacts d || ltb 20 (r .order) in
     let unfit = shortContacts d (suc n) || ltb (r .order) (suc n) in
-    let fin = finiteDers d n && finiteNumbers r (suc n) && finite (s .angle) in
+    let fin = finiteContacts d n && finiteNumbers r (suc n) && finite (s .angle) in
     let work = returnedInfo (vderInfo d (curveNumbers (r .entries)) (s .angle) n) n in
     c .returned .ensures ∙ ap (λ (a : VderInfoAnswer). returnedInfo a n) (c .before .vder-info .ensures)
     ∙ is-worked refusedInfo work far unfit fin (sym (c .before .before .before .before .before .before .before .before .before .beyond .ensures) ∙ c .before .before .before .before .before .before .before .before .if1 .left) (sym (c .before .before .before .before .before .before .before .short .ensures ∙ ap (λ (m : ℕ). shortContacts d m || ltb (r .order) m) k) ∙ c .before .before .before .before .before .before .if2 .left) (sym (c .before .before .before .before .before .finite-given .ensures) ∙ c .before .before .before .before .if3 .taken)
@@ -103,7 +104,7 @@ returns-4 c =
     let k = add-one n in
     let far = ltb 19 n || farContacts d || ltb 20 (r .order) in
     let unfit = shortContacts d (suc n) || ltb (r .order) (suc n) in
-    let fin = finiteDers d n && finiteNumbers r (suc n) && finite (s .angle) in
+    let fin = finiteContacts d n && finiteNumbers r (suc n) && finite (s .angle) in
     let work = returnedInfo (vderInfo d (curveNumbers (r .entries)) (s .angle) n) n in
     c .refused3 .ensures
     ∙ is-infinite refusedInfo work far unfit fin (sym (c .before .before .before .before .before .before .beyond .ensures) ∙ c .before .before .before .before .before .if1 .left) (sym (c .before .before .before .before .short .ensures ∙ ap (λ (m : ℕ). shortContacts d m || ltb (r .order) m) k) ∙ c .before .before .before .if2 .left) (sym (c .before .before .finite-given .ensures) ∙ c .before .if3 .left)

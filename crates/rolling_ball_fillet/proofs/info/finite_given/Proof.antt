@@ -7,8 +7,8 @@ use mathlib.Core.Path.{ap, _∙_}
 use Rattle.rolling_ball_fillet.proofs.info.finite_given.Statement.{statement}
 use Rattle.rolling_ball_fillet.proofs.info.finite_given.Tie as tie
 
-finite-ders-requires : tie.Need-finite-ders-requires
-finite-ders-requires c κs = search needs
+finite-contacts-requires : tie.Need-finite-contacts-requires
+finite-contacts-requires c κs = search needs
 
 add-finite-numbers : tie.Need-add-finite-numbers
 add-finite-numbers c = search needs
@@ -28,14 +28,14 @@ both-requires-2 c κs = search needs
 returns : tie.Need-returns
 returns c =
     let s = c .before .before .before .before .before .args in
-    let jets = c .before .before .both .ensures ∙ both (c .before .before .before .before .finite-ders .ensures) (c .before .before .before .finite-numbers .ensures ∙ ap (finiteNumbers (s .r)) (add-one (s .n))) in
+    let jets = c .before .before .both .ensures ∙ both (c .before .before .before .before .finite-contacts .ensures) (c .before .before .before .finite-numbers .ensures ∙ ap (finiteNumbers (s .r)) (add-one (s .n))) in
     c .both2 .ensures ∙ both jets (c .before .is-finite .ensures)
 
 pub finite-given-spec : {M : Type 1} → statement M
 finite-given-spec =
     tie.close
     (tie.spec
-    finite-ders-requires
+    finite-contacts-requires
     add-finite-numbers
     finite-numbers-requires
     both-requires

@@ -5,8 +5,8 @@ use mathlib.Core.Path.{_∙_}
 use Rattle.rolling_ball_fillet.proofs.info.finite_info.Statement.{statement}
 use Rattle.rolling_ball_fillet.proofs.info.finite_info.Tie as tie
 
-finite-ders-requires : tie.Need-finite-ders-requires
-finite-ders-requires c κs = search needs
+finite-contacts-requires : tie.Need-finite-contacts-requires
+finite-contacts-requires c κs = search needs
 
 finite-jet-requires : tie.Need-finite-jet-requires
 finite-jet-requires c κs = search needs
@@ -21,13 +21,13 @@ both-requires-2 : tie.Need-both-requires-2
 both-requires-2 c κs = search needs
 
 returns : tie.Need-returns
-returns c = c .both2 .ensures ∙ both (c .before .before .both .ensures ∙ both (c .before .before .before .before .finite-ders .ensures) (c .before .before .before .finite-jet .ensures)) (c .before .finite-numbers .ensures)
+returns c = c .both2 .ensures ∙ both (c .before .before .both .ensures ∙ both (c .before .before .before .before .finite-contacts .ensures) (c .before .before .before .finite-jet .ensures)) (c .before .finite-numbers .ensures)
 
 pub finite-info-spec : {M : Type 1} → statement M
 finite-info-spec =
     tie.close
     (tie.spec
-    finite-ders-requires
+    finite-contacts-requires
     finite-jet-requires
     both-requires
     finite-numbers-requires
