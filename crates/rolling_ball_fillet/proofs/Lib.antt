@@ -4,3 +4,4 @@ pub mod Entries
 pub mod Parts
 pub mod Tested
 pub mod CenterFigures
+pub mod Untouched
