@@ -10,3 +10,4 @@ pub mod Parameters
 pub mod Tests
 pub mod Decisions
 pub mod PartialFigures
+pub mod Untouched

@@ -56,7 +56,7 @@ unfolding allFinite
 zeros-finite zero h = refl
 zeros-finite (suc n) h = ap₂ _&&_ (zeros-finite n (omega arith)) (ap finite (getD-replicate 21 n nil nan h) ∙ finite-nil)
 
-origins : (k : ℕ) → k < 21 → vectorNumbers (replicate 63 nil) k ≡ origin
+pub origins : (k : ℕ) → k < 21 → vectorNumbers (replicate 63 nil) k ≡ origin
 origins k h =
     λ i. vector (getD-replicate 63 (3 * k) nil nan (omega arith) i) (getD-replicate 63 (3 * k + 1) nil nan (omega arith) i) (getD-replicate 63 (3 * k + 2) nil nan (omega arith) i)
 

@@ -103,8 +103,8 @@ refusedContacts c = record {
   };
 }
 
--- ---- 6 and 7. Every order inverts the same matrices and divides by the same entries of order 0, first for the centre, then for each surface: so the
--- order 1 meets the first zero, if there is one, and without the order 1 nothing is inverted or divided.
+-- ---- 6 and 7. Every order inverts the same matrices and divides by the same entries of order 0 (proofs/Untouched.antt), first for the centre, then
+-- for each surface: so the order 1 meets the first zero, if there is one, and without the order 1 nothing is inverted or divided.
 abbrev pub ifRegular : (ℕ → ℕ → Vector3) → List Float → SurfaceInfo → CenterContactAnswer → CenterContactAnswer
 ifRegular s center a r =
     cond (isZero (determinant2 (form s (apart center a 0)))) (refusedContacts 6) (cond (isZero (curveNumbers (a .absders) 0)) (refusedContacts 7) r)
