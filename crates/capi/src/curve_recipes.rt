@@ -11,7 +11,7 @@ ghost use Rattle.capi.specs.ExactChecks.{unlike as unlikeDue, curveCount
 ghost use Rattle.capi.specs.ExactJets.{curveOf};
 ghost use Rattle.capi.specs.Recipes.{total, jetAt, blankCurve, curveRecipe, entriesCount, resultCount, recipeChecks, curveRecipeInto};
 use crate::exact_checks;
-use crate::recipes;
+use crate::recipe_steps;
 use exact::CurveDerivatives;
 use roads::CurveRecipe;
 
@@ -44,7 +44,7 @@ fn curves_fill(orders: &[usize], count: usize) -> u8
 fn curves_count(orders: &[usize], count: usize) -> u8
     ensures { λ r. ⌜ r ≡ entriesCount suc (now (orders .entry)) count ⌝ }
 {
-    if recipes::some_above_20(orders) {
+    if recipe_steps::some_above_20(orders) {
         return 1;
     }
     curves_fill(orders, count)
@@ -56,17 +56,17 @@ fn curve_result(orders: &[usize], count: usize) -> u8
     if orders.len() == 0 {
         return 0;
     }
-    exact_checks::curve_count(count, recipes::smallest(orders))
+    exact_checks::curve_count(count, recipe_steps::smallest(orders))
 }
 
 fn recipe_checks(orders: &[usize], x: usize, steps: &[usize], o: usize) -> u8
     ensures { λ r. ⌜ r ≡ recipeChecks suc curveCount (now (orders .entry)) x (now (steps .entry)) o ⌝ }
 {
     let lists = curves_count(orders, x);
-    let triples = recipes::no_triples(steps.len());
+    let triples = recipe_steps::no_triples(steps.len());
     let due = curve_result(orders, o);
     let given = exact_checks::first(lists, exact_checks::first(triples, due));
-    exact_checks::first(given, recipes::limits(orders.len(), steps))
+    exact_checks::first(given, recipe_steps::limits(orders.len(), steps))
 }
 
 fn blank_curve() -> CurveDerivatives
@@ -106,7 +106,7 @@ fn read_recipe(orders: &[usize], entries: &[i64], steps: &[usize]) -> CurveRecip
 {
     let curves = read_curves(orders, entries);
     let count = steps.len() / 3;
-    let program = recipes::read_steps(steps, count);
+    let program = recipe_steps::read_steps(steps, count);
     CurveRecipe {
         inputs: orders.len(),
         curves,

@@ -12,6 +12,7 @@ pub mod exact_curves;
 pub mod exact_surfaces;
 mod given;
 pub mod part_lists;
+mod recipe_steps;
 pub mod recipes;
 pub mod surfaces;
 pub mod values;

@@ -7,50 +7,25 @@ ghost use Prim.Native.Nat.{ℕ, suc, _*_, _/_, _≤_};
 ghost use lib.IntN.{ℤ};
 ghost use lib.ListN.{length};
 ghost use Rattle.calculus.specs.Array.{filled};
-ghost use Rattle.roads.specs.Recipe.{someAbove20, smallest as Smallest};
+ghost use Rattle.roads.specs.Recipe.{someAbove20};
 ghost use Rattle.roads.specs.Roads.{buildThenCarry, carryThenBuild};
 ghost use Rattle.capi.specs.ExactChecks.{unlike as unlikeDue, surfaceCount};
 ghost use Rattle.capi.specs.ExactJets.{surfaceOf};
-ghost use Rattle.capi.specs.Recipes.{surfaceSize, total, jetAt, operationOf, stepAt, knownOperations, blankStep, blankSurface, surfaceRecipe, highOrders, entriesCount, noTriples, resultCount, limits as limitsOf, recipeChecks, roadChecks, surfaceRecipeInto, roadInto};
+ghost use Rattle.capi.specs.Recipes.{surfaceSize, total, jetAt, blankSurface, surfaceRecipe, highOrders, entriesCount, resultCount, recipeChecks, roadChecks, surfaceRecipeInto, roadInto};
 use crate::exact_checks;
+use crate::recipe_steps;
 use exact::ParameterCurve;
 use exact::SurfaceDerivatives;
-use roads::Operation;
-use roads::Step;
 use roads::SurfaceRecipe;
-
-pub fn some_above_20(orders: &[usize]) -> bool
-    ensures { λ r. ⌜ r ≡ someAbove20 (now (orders .entry)) ⌝ }
-{
-    let mut i = 0;
-    while i < orders.len() {
-        if 20 < orders[i] {
-            return true;
-        }
-        i += 1;
-    }
-    false
-}
-
-pub fn smallest(orders: &[usize]) -> usize
-    ensures { λ r. ⌜ r ≡ Smallest (now (orders .entry)) ⌝ }
-{
-    let mut least = 20;
-    let mut i = orders.len();
-    while 0 < i {
-        i -= 1;
-        let n = orders[i];
-        if n < least {
-            least = n;
-        }
-    }
-    least
-}
 
 fn high_orders(orders: &[usize]) -> u8
     ensures { λ r. ⌜ r ≡ highOrders (now (orders .entry)) ⌝ }
 {
-    if some_above_20(orders) { 1 } else { 0 }
+    if recipe_steps::some_above_20(orders) {
+        1
+    } else {
+        0
+    }
 }
 
 // What is left of the count after each list in turn, so that no sum is formed.
@@ -75,16 +50,10 @@ fn surfaces_fill(orders: &[usize], count: usize) -> u8
 fn surfaces_count(orders: &[usize], count: usize) -> u8
     ensures { λ r. ⌜ r ≡ entriesCount surfaceSize (now (orders .entry)) count ⌝ }
 {
-    if some_above_20(orders) {
+    if recipe_steps::some_above_20(orders) {
         return 1;
     }
     surfaces_fill(orders, count)
-}
-
-pub fn no_triples(n: usize) -> u8
-    ensures { λ r. ⌜ r ≡ noTriples n ⌝ }
-{
-    if n % 3 == 0 { 0 } else { 2 }
 }
 
 fn surface_result(orders: &[usize], count: usize) -> u8
@@ -93,45 +62,17 @@ fn surface_result(orders: &[usize], count: usize) -> u8
     if orders.len() == 0 {
         return 0;
     }
-    exact_checks::surface_count(count, smallest(orders))
-}
-
-fn known_operations(steps: &[usize], count: usize) -> bool
-    requires { ⌜ 3 * count ≤ length (now steps) ⌝ }
-    ensures { λ r. ⌜ r ≡ knownOperations (now (steps .entry)) count ⌝ }
-{
-    let mut i = count;
-    while 0 < i {
-        i -= 1;
-        let k = 3 * i;
-        if 3 < steps[k] {
-            return false;
-        }
-    }
-    true
-}
-
-pub fn limits(inputs: usize, steps: &[usize]) -> u8
-    ensures { λ r. ⌜ r ≡ limitsOf inputs (now (steps .entry)) ⌝ }
-{
-    if 4 < inputs {
-        return 4;
-    }
-    let count = steps.len() / 3;
-    if 12 < count {
-        return 4;
-    }
-    if known_operations(steps, count) { 0 } else { 4 }
+    exact_checks::surface_count(count, recipe_steps::smallest(orders))
 }
 
 fn recipe_checks(orders: &[usize], x: usize, steps: &[usize], o: usize) -> u8
     ensures { λ r. ⌜ r ≡ recipeChecks surfaceSize surfaceCount (now (orders .entry)) x (now (steps .entry)) o ⌝ }
 {
     let lists = surfaces_count(orders, x);
-    let triples = no_triples(steps.len());
+    let triples = recipe_steps::no_triples(steps.len());
     let due = surface_result(orders, o);
     let given = exact_checks::first(lists, exact_checks::first(triples, due));
-    exact_checks::first(given, limits(orders.len(), steps))
+    exact_checks::first(given, recipe_steps::limits(orders.len(), steps))
 }
 
 fn road_checks(
@@ -147,65 +88,22 @@ fn road_checks(
 {
     let high = exact_checks::first(exact_checks::too_high(n), exact_checks::too_high(asked));
     let all = exact_checks::first(high_orders(orders), high);
-    let triples = no_triples(steps.len());
+    let triples = recipe_steps::no_triples(steps.len());
     let curve = exact_checks::parameter_count(y, n);
     let lists = exact_checks::first(
         surfaces_count(orders, x),
         exact_checks::first(triples, curve),
     );
     let beyond = exact_checks::first(
-        exact_checks::exceeds(asked, smallest(orders)),
+        exact_checks::exceeds(asked, recipe_steps::smallest(orders)),
         exact_checks::exceeds(asked, n),
     );
     let due = exact_checks::curve_count(o, asked);
     let last = exact_checks::first(
         beyond,
-        exact_checks::first(due, limits(orders.len(), steps)),
+        exact_checks::first(due, recipe_steps::limits(orders.len(), steps)),
     );
     exact_checks::first(all, exact_checks::first(lists, last))
-}
-
-fn operation_of(n: usize) -> Operation
-    ensures { λ r. ⌜ r ≡ operationOf n ⌝ }
-{
-    if n == 0 {
-        return Operation::Sum;
-    }
-    if n == 1 {
-        return Operation::Difference;
-    }
-    if n == 2 {
-        return Operation::Product;
-    }
-    Operation::Quotient
-}
-
-pub fn read_steps(steps: &[usize], count: usize) -> [Step; 12]
-    requires { ⌜ (count ≤ 12) × (3 * count ≤ length (now steps)) ⌝ }
-    ensures { λ r. ⌜ r ≡ filled 12 blankStep (stepAt (now (steps .entry))) count ⌝ }
-{
-    let blank = Step {
-        operation: Operation::Sum,
-        left: 0,
-        right: 0,
-    };
-    let mut program = [blank; 12];
-    let mut i = 0;
-    while i < count {
-        let k = 3 * i;
-        let l = k + 1;
-        let m = k + 2;
-        let operation = operation_of(steps[k]);
-        let left = steps[l];
-        let right = steps[m];
-        program[i] = Step {
-            operation,
-            left,
-            right,
-        };
-        i += 1;
-    }
-    program
 }
 
 fn blank_surface() -> SurfaceDerivatives
@@ -245,7 +143,7 @@ fn read_recipe(orders: &[usize], entries: &[i64], steps: &[usize]) -> SurfaceRec
 {
     let surfaces = read_surfaces(orders, entries);
     let count = steps.len() / 3;
-    let program = read_steps(steps, count);
+    let program = recipe_steps::read_steps(steps, count);
     SurfaceRecipe {
         inputs: orders.len(),
         surfaces,

@@ -1,7 +1,7 @@
 -- `capi::recipes::operation_of` meets its contract. Assumes nothing.
 use borrow.Author.Tests.{eq-eqb, ne-eqb}
-use Rattle.capi.proofs.recipes.operation_of.Statement.{statement}
-use Rattle.capi.proofs.recipes.operation_of.Tie as tie
+use Rattle.capi.proofs.recipe_steps.operation_of.Statement.{statement}
+use Rattle.capi.proofs.recipe_steps.operation_of.Tie as tie
 
 returns : tie.Need-returns
 returns c = rw (eq-eqb (c .before .args .n) 0 (c .if1 .taken))

@@ -7,8 +7,8 @@ use denote.Ref.{now}
 use borrow.Author.Needs.{needs}
 use Rattle.roads.specs.Recipe.{someAbove20}
 use Rattle.roads.proofs.Tests.{above-here, above-later, above-none}
-use Rattle.capi.proofs.recipes.some_above_20.Statement.{statement}
-use Rattle.capi.proofs.recipes.some_above_20.Tie as tie
+use Rattle.capi.proofs.recipe_steps.some_above_20.Statement.{statement}
+use Rattle.capi.proofs.recipe_steps.some_above_20.Tie as tie
 
 abbrev Inv-loop : tie.InvT-loop
 Inv-loop orders i₀ i = (i ≤ length orders) × (someAbove20 (drop i orders) ≡ someAbove20 orders)

@@ -6,8 +6,8 @@ use denote.Ref.{now}
 use borrow.Author.Needs.{needs}
 use Rattle.capi.specs.Recipes.{knownOperations}
 use Rattle.capi.proofs.RecipeLists.{unknown-here, known-here, known-none}
-use Rattle.capi.proofs.recipes.known_operations.Statement.{statement}
-use Rattle.capi.proofs.recipes.known_operations.Tie as tie
+use Rattle.capi.proofs.recipe_steps.known_operations.Statement.{statement}
+use Rattle.capi.proofs.recipe_steps.known_operations.Tie as tie
 
 abbrev Inv-loop : tie.InvT-loop
 Inv-loop steps count i₀ i = (i ≤ count) × (knownOperations steps count ≡ knownOperations steps i)

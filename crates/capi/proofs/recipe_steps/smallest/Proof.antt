@@ -7,8 +7,8 @@ use denote.Ref.{now}
 use borrow.Author.Needs.{needs}
 use Rattle.roads.specs.Recipe.{smallest}
 use Rattle.roads.proofs.Tests.{smaller, not-smaller, smallest-none}
-use Rattle.capi.proofs.recipes.smallest.Statement.{statement}
-use Rattle.capi.proofs.recipes.smallest.Tie as tie
+use Rattle.capi.proofs.recipe_steps.smallest.Statement.{statement}
+use Rattle.capi.proofs.recipe_steps.smallest.Tie as tie
 
 abbrev Inv-loop : tie.InvT-loop
 Inv-loop orders least₀ i₀ least i = (i ≤ length orders) × (least ≡ smallest (drop i orders))

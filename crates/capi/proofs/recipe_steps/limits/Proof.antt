@@ -7,8 +7,8 @@ use denote.Ref.{now}
 use borrow.Author.Tests.{lt-ltb, le-ltb}
 use borrow.Author.Needs.{needs}
 use Rattle.capi.specs.Recipes.{knownOperations, limits}
-use Rattle.capi.proofs.recipes.limits.Statement.{statement}
-use Rattle.capi.proofs.recipes.limits.Tie as tie
+use Rattle.capi.proofs.recipe_steps.limits.Statement.{statement}
+use Rattle.capi.proofs.recipe_steps.limits.Tie as tie
 
 returns : tie.Need-returns
 returns c = rw (lt-ltb 4 (c .before .before .args .inputs) (c .if1 .taken))

@@ -1,8 +1,8 @@
 -- `capi::recipes::no_triples` meets its contract. Assumes nothing.
 use Prim.Native.Nat.{_%_}
 use borrow.Author.Tests.{eq-eqb, ne-eqb}
-use Rattle.capi.proofs.recipes.no_triples.Statement.{statement}
-use Rattle.capi.proofs.recipes.no_triples.Tie as tie
+use Rattle.capi.proofs.recipe_steps.no_triples.Statement.{statement}
+use Rattle.capi.proofs.recipe_steps.no_triples.Tie as tie
 
 returns : tie.Need-returns
 returns c = rw (eq-eqb (c .before .args .n % 3) 0 (c .if1 .taken))

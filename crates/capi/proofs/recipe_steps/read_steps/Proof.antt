@@ -11,8 +11,8 @@ use Rattle.roads.specs.declared.Step.{Step}
 use Rattle.roads.specs.declared.Operation.{Operation}
 use Rattle.capi.specs.Recipes.{stepAt, blankStep}
 use Rattle.capi.proofs.RecipeLists.{fill-twelve}
-use Rattle.capi.proofs.recipes.read_steps.Statement.{statement}
-use Rattle.capi.proofs.recipes.read_steps.Tie as tie
+use Rattle.capi.proofs.recipe_steps.read_steps.Statement.{statement}
+use Rattle.capi.proofs.recipe_steps.read_steps.Tie as tie
 
 abbrev Inv-loop : tie.InvT-loop
 Inv-loop steps count program₀ i₀ program i = (i ≤ count) × (program ≡ filled 12 blankStep (stepAt steps) i)
