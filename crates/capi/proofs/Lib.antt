@@ -6,3 +6,4 @@ pub mod Counts
 pub mod Walks
 pub mod RecipeLists
 pub mod RecipeChecks
+pub mod RoadsMeet
