@@ -55,14 +55,14 @@ abbrev pub fromContacts : EdgePartial → CenterContactAnswer → (ℕ → Float
 fromContacts p a r angle u s c = cond (eqb (a .refusal) 0) (fromInfo p (vderInfo (a .ders) r angle (orderOf p)) u s c) (Refused (a .refusal))
 
 -- ---- the tests before it. A partial along the edge needs jets of one order more, and cuts them to it
-abbrev pub finiteNumbers4 : (angle u s c : Float) → Bool
-finiteNumbers4 angle u s c = finite angle && finite u && finite s && finite c
+abbrev pub finiteFloats : (angle u s c : Float) → Bool
+finiteFloats angle u s c = finite angle && finite u && finite s && finite c
 
 abbrev pub byEdge : EdgePartial → RollingBallFilletSurface → ContactCircle → (angle u s c : Float) → VectorAnswer
 byEdge p f cc angle u s c =
     let k = suc (orderOf p) in
     cond (short f k) (Refused 2)
-    (cond (finiteGiven f cc k && finiteNumbers4 angle u s c) (fromContacts p (centerContacts f cc (orderOf p)) (radii f) angle u s c) (Refused 5))
+    (cond (finiteGiven f cc k && finiteFloats angle u s c) (fromContacts p (centerContacts f cc (orderOf p)) (radii f) angle u s c) (Refused 5))
 
 -- a partial along the arc needs none, and cuts nothing: their entries up to their own orders count
 abbrev pub finiteWhole : RollingBallFilletSurface → ContactCircle → Bool
@@ -72,7 +72,7 @@ finiteWhole f cc =
     && (finiteVectorSurface (first f) (f .surface0 .order) && finiteVectorSurface (second f) (f .surface1 .order)))
 
 abbrev pub byArc : ℕ → RollingBallFilletSurface → ContactCircle → (angle u s c : Float) → VectorAnswer
-byArc m f cc angle u s c = vectorFrom (finiteWhole f cc && finiteNumbers4 angle u s c) (derivative cc m s c)
+byArc m f cc angle u s c = vectorFrom (finiteWhole f cc && finiteFloats angle u s c) (derivative cc m s c)
 
 abbrev pub byDecision : Decision → ℕ → RollingBallFilletSurface → ContactCircle → (angle u s c : Float) → VectorAnswer
 byDecision Arc m f cc angle u s c = byArc m f cc angle u s c

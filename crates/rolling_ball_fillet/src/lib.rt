@@ -1,5 +1,6 @@
-// The fillet that a rolling ball leaves between two surfaces: its contact circle, and how that turns. Refusals: 1 where an order is above 20,
-// 5 where a float handed in is not finite, 10 where a returned float is not.
+// The fillet that a rolling ball leaves between two surfaces: its contact circle, how that turns, and the fillet's partial derivatives. Refusals: 1 where
+// an order is above 20, 2 where a jet's is too low, 5 where a float handed in is not finite, 6 where a determinant is zero, 7 where a divisor is, 10
+// where a returned float is not finite, 11 where a pair of orders is not served.
 ghost use mathlib.Core.Path.{_≡_};
 ghost use Rattle.rolling_ball_fillet.specs.Answers.{rotationAnswer, finiteContact, finiteCircle, derivativeAnswer};
 ghost use Rattle.rolling_ball_fillet.specs.Center.{centerContactAnswer};

@@ -2,7 +2,7 @@
 ghost use mathlib.Core.Path.{_≡_};
 ghost use Prim.Native.Nat.{suc, _≤_};
 ghost use Rattle.derivatives.specs.Answer.{curveNumbers};
-ghost use Rattle.rolling_ball_fillet.specs.SubDer.{decided, orderOf, partialBy, fromInfo, fromContacts, finiteNumbers4, byEdge, finiteWhole, byArc, byDecision, farPair};
+ghost use Rattle.rolling_ball_fillet.specs.SubDer.{decided, orderOf, partialBy, fromInfo, fromContacts, finiteFloats, byEdge, finiteWhole, byArc, byDecision, farPair};
 ghost use Rattle.rolling_ball_fillet.specs.Center.{centerContacts, radii};
 use crate::ContactCircle;
 use crate::RollingBallFilletSurface;
@@ -110,8 +110,8 @@ fn along_edge(
     from_info(p, i, u, s, c)
 }
 
-fn finite_numbers4(angle: f64, u: f64, s: f64, c: f64) -> bool
-    ensures { λ r. ⌜ r ≡ finiteNumbers4 angle u s c ⌝ }
+fn finite_floats(angle: f64, u: f64, s: f64, c: f64) -> bool
+    ensures { λ r. ⌜ r ≡ finiteFloats angle u s c ⌝ }
 {
     let share = both(ieee::is_finite(angle), ieee::is_finite(u));
     let sine = both(share, ieee::is_finite(s));
@@ -135,7 +135,7 @@ fn by_edge(
         return VectorAnswer::Refused(2);
     }
     let jets = given::finite_given(f, cc, k);
-    if both(jets, finite_numbers4(angle, u, s, c)) {
+    if both(jets, finite_floats(angle, u, s, c)) {
         return along_edge(p, f, cc, angle, u, s, c);
     }
     VectorAnswer::Refused(5)
@@ -196,7 +196,7 @@ fn by_arc(
     ensures { λ r. ⌜ r ≡ byArc m f cc angle u s c ⌝ }
 {
     let jets = finite_whole(f, cc);
-    let inputs = both(jets, finite_numbers4(angle, u, s, c));
+    let inputs = both(jets, finite_floats(angle, u, s, c));
     answers::vector_from(inputs, circle::derivative(cc, m, s, c))
 }
 

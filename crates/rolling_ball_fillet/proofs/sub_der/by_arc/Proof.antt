@@ -8,8 +8,8 @@ use Rattle.rolling_ball_fillet.proofs.sub_der.by_arc.Tie as tie
 finite-whole-requires : tie.Need-finite-whole-requires
 finite-whole-requires c κs = search needs
 
-finite-numbers4-requires : tie.Need-finite-numbers4-requires
-finite-numbers4-requires c κs = search needs
+finite-floats-requires : tie.Need-finite-floats-requires
+finite-floats-requires c κs = search needs
 
 both-requires : tie.Need-both-requires
 both-requires c κs = search needs
@@ -21,14 +21,14 @@ vector-from-requires : tie.Need-vector-from-requires
 vector-from-requires c κs = search needs
 
 returns : tie.Need-returns
-returns c = c .vector-from .ensures ∙ vector-from (c .before .before .both .ensures ∙ both (c .before .before .before .before .finite-whole .ensures) (c .before .before .before .finite-numbers4 .ensures)) (c .before .derivative .ensures)
+returns c = c .vector-from .ensures ∙ vector-from (c .before .before .both .ensures ∙ both (c .before .before .before .before .finite-whole .ensures) (c .before .before .before .finite-floats .ensures)) (c .before .derivative .ensures)
 
 pub by-arc-spec : {M : Type 1} → statement M
 by-arc-spec =
     tie.close
     (tie.spec
     finite-whole-requires
-    finite-numbers4-requires
+    finite-floats-requires
     both-requires
     derivative-requires
     vector-from-requires

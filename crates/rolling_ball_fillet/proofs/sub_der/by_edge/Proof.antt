@@ -5,7 +5,7 @@ use native.Mathlib.Numerals.{add-one}
 use Rattle.ieee.proofs.Tests.{first}
 use Rattle.vectors.specs.declared.VectorAnswer.the-variants.{Refused}
 use Rattle.rolling_ball_fillet.specs.Center.{radii, centerContacts, short, finiteGiven}
-use Rattle.rolling_ball_fillet.specs.SubDer.{orderOf, fromContacts, finiteNumbers4}
+use Rattle.rolling_ball_fillet.specs.SubDer.{orderOf, fromContacts, finiteFloats}
 use Rattle.rolling_ball_fillet.proofs.Tests.{passed, stopped}
 use borrow.Author.Needs.{needs}
 use Prim.Native.Nat.{suc}
@@ -29,15 +29,15 @@ returns c =
     let p = s .p in
     let k = add-one (c .before .before .order .result) ∙ ap suc (c .before .before .order .ensures .0) in
     let work = fromContacts p (centerContacts f (s .cc) (orderOf p)) (radii f) (s .angle) (s .u) (s .s) (s .c) in
-    let fin = finiteGiven f (s .cc) (suc (orderOf p)) && finiteNumbers4 (s .angle) (s .u) (s .s) (s .c) in
+    let fin = finiteGiven f (s .cc) (suc (orderOf p)) && finiteFloats (s .angle) (s .u) (s .s) (s .c) in
     let unfit = c .before .short .ensures ∙ ap (short f) k in
     sym (first (Refused 2) (cond fin work (Refused 5)) (sym unfit ∙ c .if1 .taken))
 
 finite-given-requires : tie.Need-finite-given-requires
 finite-given-requires c κs = search needs
 
-finite-numbers4-requires : tie.Need-finite-numbers4-requires
-finite-numbers4-requires c κs = search needs
+finite-floats-requires : tie.Need-finite-floats-requires
+finite-floats-requires c κs = search needs
 
 both-requires : tie.Need-both-requires
 both-requires c κs = search needs
@@ -52,9 +52,8 @@ returns-2 c =
     let p = s .p in
     let k = add-one (c .before .before .before .before .before .before .before .order .result) ∙ ap suc (c .before .before .before .before .before .before .before .order .ensures .0) in
     let work = fromContacts p (centerContacts f (s .cc) (orderOf p)) (radii f) (s .angle) (s .u) (s .s) (s .c) in
-    let fin = finiteGiven f (s .cc) (suc (orderOf p)) && finiteNumbers4 (s .angle) (s .u) (s .s) (s .c) in
     let unfit = c .before .before .before .before .before .before .short .ensures ∙ ap (short f) k in
-    c .along-edge .ensures ∙ passed (Refused 2) work (Refused 5) (sym unfit ∙ c .before .before .before .before .before .if1 .left) (sym (c .before .before .both .ensures ∙ both (c .before .before .before .before .finite-given .ensures ∙ ap (finiteGiven f (s .cc)) k) (c .before .before .before .finite-numbers4 .ensures)) ∙ c .before .if2 .taken)
+    c .along-edge .ensures ∙ passed (Refused 2) work (Refused 5) (sym unfit ∙ c .before .before .before .before .before .if1 .left) (sym (c .before .before .both .ensures ∙ both (c .before .before .before .before .finite-given .ensures ∙ ap (finiteGiven f (s .cc)) k) (c .before .before .before .finite-floats .ensures)) ∙ c .before .if2 .taken)
 
 returns-3 : tie.Need-returns-3
 returns-3 c =
@@ -63,9 +62,8 @@ returns-3 c =
     let p = s .p in
     let k = add-one (c .before .before .before .before .before .before .order .result) ∙ ap suc (c .before .before .before .before .before .before .order .ensures .0) in
     let work = fromContacts p (centerContacts f (s .cc) (orderOf p)) (radii f) (s .angle) (s .u) (s .s) (s .c) in
-    let fin = finiteGiven f (s .cc) (suc (orderOf p)) && finiteNumbers4 (s .angle) (s .u) (s .s) (s .c) in
     let unfit = c .before .before .before .before .before .short .ensures ∙ ap (short f) k in
-    stopped (Refused 2) work (Refused 5) (sym unfit ∙ c .before .before .before .before .if1 .left) (sym (c .before .both .ensures ∙ both (c .before .before .before .finite-given .ensures ∙ ap (finiteGiven f (s .cc)) k) (c .before .before .finite-numbers4 .ensures)) ∙ c .if2 .left)
+    stopped (Refused 2) work (Refused 5) (sym unfit ∙ c .before .before .before .before .if1 .left) (sym (c .before .both .ensures ∙ both (c .before .before .before .finite-given .ensures ∙ ap (finiteGiven f (s .cc)) k) (c .before .before .finite-floats .ensures)) ∙ c .if2 .left)
 
 pub by-edge-spec : {M : Type 1} → statement M
 by-edge-spec =
@@ -76,7 +74,7 @@ by-edge-spec =
     short-requires
     returns
     finite-given-requires
-    finite-numbers4-requires
+    finite-floats-requires
     both-requires
     along-edge-requires
     returns-2

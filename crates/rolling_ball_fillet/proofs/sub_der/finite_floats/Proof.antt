@@ -1,9 +1,9 @@
--- `finite_numbers4` meets its contract. Assumes nothing.
+-- `finite_floats` meets its contract. Assumes nothing.
 use Rattle.vectors.proofs.Picked.{both}
 use borrow.Author.Needs.{needs}
 use mathlib.Core.Path.{_∙_}
-use Rattle.rolling_ball_fillet.proofs.sub_der.finite_numbers4.Statement.{statement}
-use Rattle.rolling_ball_fillet.proofs.sub_der.finite_numbers4.Tie as tie
+use Rattle.rolling_ball_fillet.proofs.sub_der.finite_floats.Statement.{statement}
+use Rattle.rolling_ball_fillet.proofs.sub_der.finite_floats.Tie as tie
 
 is-finite-requires : tie.Need-is-finite-requires
 is-finite-requires c κs = search needs
@@ -32,8 +32,8 @@ returns c =
     let sine = c .before .before .both2 .ensures ∙ both share (c .before .before .before .is-finite3 .ensures) in
     c .both3 .ensures ∙ both sine (c .before .is-finite4 .ensures)
 
-pub finite-numbers4-spec : {M : Type 1} → statement M
-finite-numbers4-spec =
+pub finite-floats-spec : {M : Type 1} → statement M
+finite-floats-spec =
     tie.close
     (tie.spec
     is-finite-requires
