@@ -9,7 +9,8 @@
      1   an order above 20 (above 19 for n of sugamdely_sub_center_contacts_ders)
      2   an order asked or needed exceeds a jet's; a list, or an output, of the wrong length; the derivative of a jet of order 0
      3   part lists: len 0 or above the order; a list whose parts are not positive and nonincreasing; a walk that holds no list of its walk
-     4   a recipe with no jet or more than 4, with no step or more than 12, or with a step that names itself or a later number
+     4   a recipe with no jet or more than 4, with no step or more than 12, with an operation above 3, or with a step that names itself or a
+         later number
      5   a float handed in is not finite, used or not; entries above the order worked at do not count
      6   a determinant is zero
      7   a division by zero is due
@@ -97,12 +98,14 @@ uint8_t sugamdely_exact_composite_derivatives(size_t a_order, const int64_t *a, 
 
 /* ---- Recipes: 1 to 4 exact jets, numbered from 0, then 1 to 12 steps, numbered on from them. orders has the order of each jet, entries
    their lists one after the other, steps three numbers a step: what it does (0 sum, 1 difference, 2 product, 3 quotient), and the numbers of
-   its left and its right jet. The last step is the answer. Every step works at the smallest order among the jets. Refusals 4, 7, 8, 9. */
+   its left and its right jet. The last step is the answer. Every step works at the smallest order among the jets, which is the answer's.
+   Refusals 4, 7, 8, 9. */
 
 uint8_t sugamdely_recipe_surfaces(const size_t *orders, size_t orders_len, const int64_t *entries, size_t entries_len, const size_t *steps, size_t steps_len, int64_t *out, size_t out_len);
 uint8_t sugamdely_recipe_curves(const size_t *orders, size_t orders_len, const int64_t *entries, size_t entries_len, const size_t *steps, size_t steps_len, int64_t *out, size_t out_len);
 /* The recipe of surfaces is built and then carried along the parameter curve c to order n; or every surface is carried, and the recipe is
-   built of the curves. Out of n + 1. Where the first is answered, the second has the same answer or is refused 9. */
+   built of the curves. n must not exceed any order. Out of n + 1. Where the first is answered, the second has the same answer or is
+   refused 9. */
 uint8_t sugamdely_build_then_carry(const size_t *orders, size_t orders_len, const int64_t *entries, size_t entries_len, const size_t *steps, size_t steps_len, size_t c_order, const int64_t *c, size_t c_len, size_t n, int64_t *out, size_t out_len);
 uint8_t sugamdely_carry_then_build(const size_t *orders, size_t orders_len, const int64_t *entries, size_t entries_len, const size_t *steps, size_t steps_len, size_t c_order, const int64_t *c, size_t c_len, size_t n, int64_t *out, size_t out_len);
 
@@ -211,9 +214,9 @@ uint8_t sugamdely_sub_center_contacts_ders(
     size_t surface0_order, const double *surface0, size_t surface0_len, size_t surface1_order, const double *surface1, size_t surface1_len,
     double *center, size_t center_len, double *contact0, size_t contact0_len, double *contact1, size_t contact1_len,
     double *uv0, size_t uv0_len, double *uv1, size_t uv1_len);
-/* How the axis (vectors) and the angle (floats) move along the edge, from the five jets above, of orders n and n + 1, and the radius, of
-   order n + 1: both come out at order n, 3(n + 1) and n + 1 floats. angle is the angle's entry 0, from the caller; its cosine, clamped from
-   above, is cosine (out of 1). Refusal 7. */
+/* How the axis (vectors) and the angle (floats) move along the edge, from the five jets above. The centre has order n, 0 to 19, the others
+   and the radius order n + 1 or more. Both come out at order n: 3(n + 1) and n + 1 floats. angle is the angle's entry 0, from the caller; the
+   cosine that it should have, clamped from above, goes to cosine_out (1). Refusal 7. */
 uint8_t sugamdely_vder_info(
     size_t center_order, const double *center, size_t center_len, size_t contact0_order, const double *contact0, size_t contact0_len,
     size_t contact1_order, const double *contact1, size_t contact1_len, size_t uv0_order, const double *uv0, size_t uv0_len,

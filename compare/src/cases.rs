@@ -199,6 +199,7 @@ pub fn added() -> Vec<Operation> {
     let mut all = parts::added();
     all.extend(vectors::vectors());
     all.extend(exact::exact());
+    all.extend(fillet::added());
     all
 }
 

@@ -522,13 +522,13 @@ pub fn ours(name: &str) -> Option<Work> {
         #[cfg(fillet)]
         "sub_center_contacts_ders" => fillet::sub_center_contacts_ders(),
         #[cfg(fillet)]
-        "vder_info" => fillet::vder_info(),
+        "vder_info" | "vder_info_of_other_orders" => fillet::vder_info(),
         #[cfg(fillet)]
-        "derivative_v" => fillet::partial!(ffi::derivative_v),
+        "derivative_v" | "derivative_v_of_other_orders" => fillet::partial!(ffi::derivative_v),
         #[cfg(fillet)]
-        "derivative_uv" => fillet::partial!(ffi::derivative_uv),
+        "derivative_uv" | "derivative_uv_of_other_orders" => fillet::partial!(ffi::derivative_uv),
         #[cfg(fillet)]
-        "derivative_vv" => fillet::partial!(ffi::derivative_vv),
+        "derivative_vv" | "derivative_vv_of_other_orders" => fillet::partial!(ffi::derivative_vv),
         #[cfg(fillet)]
         "sub_der_mn" => fillet::sub_der_mn(),
         _ => return None,

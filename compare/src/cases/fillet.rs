@@ -484,3 +484,67 @@ pub(super) fn fillet() -> Vec<Operation> {
         contact_circle_derivative_n(),
     ]
 }
+
+/// The same operation on jets of other orders: longer ones, which are cut to the orders that it works at (`needs`, from the centre's order), too short
+/// or too high ones, and lists of the wrong length. The jets come first among its items, the centre's before the others.
+fn of_other_orders(base: Operation, forms: Vec<Form>, highest: usize, needs: impl Fn(usize) -> Vec<usize> + Copy + 'static) -> Operation {
+    let count = forms.len();
+    let made = base.random;
+    Operation {
+        name: format!("{}_of_other_orders", base.name),
+        given: base.given,
+        answer: base.answer,
+        stored: 0,
+        fixed: Vec::new(),
+        random: Box::new({
+            let forms = forms.clone();
+            move |random| {
+                let mut items = made(random);
+                for (k, form) in forms.iter().enumerate() {
+                    let mut reader = Reader::new(&items[2 * k..]);
+                    let mut jet = reader.jet(*form);
+                    // The centre's order says at which the axis is worked out: it is left as it is there.
+                    match random.below(if k == 0 && highest < 20 { 1 } else { 40 }) {
+                        1..=8 if jet.order < 20 => {
+                            jet.order += 1;
+                            let more = if random.below(4) == 0 { vec![random.not_finite(); form.width] } else { random.floats(form.width) };
+                            jet.list.extend(more);
+                        }
+                        9 if jet.order > 0 => {
+                            jet.order -= 1;
+                            jet.list.truncate(form.length(jet.order));
+                        }
+                        10 => jet.list.push(0.0),
+                        11 => (jet.order, jet.list) = (21, vec![1.0; form.length(21)]),
+                        _ => {}
+                    }
+                    items.splice(2 * k..2 * k + 2, jet.items());
+                }
+                items
+            }
+        }),
+        rust: Box::new(move |items| {
+            let mut reader = Reader::new(items);
+            let jets: Vec<Jet> = forms.iter().map(|form| reader.jet(*form)).collect();
+            let needs = needs(jets[0].order.min(20));
+            let short = jets.iter().zip(&needs).any(|(jet, order)| jet.shorter(*order));
+            let refusal = first(&[(1, jets[0].order > highest || jets.iter().any(Jet::too_high)), (2, jets.iter().any(Jet::miscounted) || short)]);
+            if refusal != 0 {
+                return Answer::refused(refusal);
+            }
+            let cut: Vec<Jet> = jets.iter().zip(&needs).map(|(j, order)| jet(j.form, &j.cut(*order))).collect();
+            (base.rust)(&[items_of(&cut), items[2 * count..].to_vec()].concat())
+        }),
+    }
+}
+
+/// The checks of the orders of the jets that the source makes itself.
+pub(super) fn added() -> Vec<Operation> {
+    let info = [&CONTACT_FORMS[..], &[curve(3), curve(1)]].concat();
+    vec![
+        of_other_orders(vder_info(), [&CONTACT_FORMS[..], &[curve(1)]].concat(), 19, |n| vec![n, n + 1, n + 1, n + 1, n + 1, n + 1]),
+        of_other_orders(partial("derivative_v", 1, oracle::derivative_v), info.clone(), 20, |_| vec![1, 2, 2, 2, 2, 1, 1]),
+        of_other_orders(partial("derivative_uv", 1, oracle::derivative_uv), info.clone(), 20, |_| vec![1, 2, 2, 2, 2, 1, 1]),
+        of_other_orders(partial("derivative_vv", 2, oracle::derivative_vv), info, 20, |_| vec![2, 3, 3, 3, 3, 2, 2]),
+    ]
+}
