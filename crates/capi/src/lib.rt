@@ -4,12 +4,14 @@
 // of a surface is u0 v0 u1 v1 .. . A jet goes in as its order, then its list. A list lent for an answer has just the length that is due.
 
 pub mod curves;
+mod deliver;
 pub mod exact_carry;
+mod exact_checks;
 pub mod exact_curves;
 pub mod exact_surfaces;
+pub mod fillet;
+mod given;
+mod records;
 pub mod surfaces;
 pub mod values;
 pub mod whole_numbers;
-mod deliver;
-mod exact_checks;
-mod given;
