@@ -1,6 +1,10 @@
 //! Reads the Rust source, patches it and writes it where the crate includes it. The build fails unless each patch finds its text exactly once.
+//! Names the library to the linker, where it is there: the flag `ours` is set then.
 
 use std::{env, fs, path::PathBuf};
+
+#[path = "../rust/archive.rs"]
+mod archive;
 
 #[allow(dead_code)]
 mod patches;
@@ -24,4 +28,18 @@ fn main() {
         fs::write(out.join(format!("examples_{name}")), patches::examples(&text)).unwrap();
     }
     println!("cargo:rustc-env=ORACLE_SOURCE={}", source.display());
+
+    println!("cargo:rustc-check-cfg=cfg(ours, fillet)");
+    match archive::link(&manifest.join("..")) {
+        Ok(archive) => {
+            println!("cargo:rustc-cfg=ours");
+            if holds(&archive, "sugamdely_sub_der_mn") {
+                println!("cargo:rustc-cfg=fillet");
+            }
+        }
+        Err(message) => println!("cargo:warning={}", message.replace('\n', " ")),
+    }
 }
+
+/// Whether a library has a name.
+fn holds(archive: &std::path::Path, name: &str) -> bool { fs::read(archive).unwrap().windows(name.len()).any(|w| w == name.as_bytes()) }

@@ -6,14 +6,17 @@
 use crate::inputs::Random;
 use crate::oracle;
 
+mod exact;
 mod fillet;
 mod jets;
 mod parts;
+mod vectors;
 
 #[derive(Clone, Debug)]
 pub enum Item {
     Whole(u64),
     Wholes(Vec<u64>),
+    Signed(Vec<i64>),
     Floats(Vec<f64>),
 }
 use Item::*;
@@ -24,7 +27,21 @@ impl Item {
         match self {
             Whole(n) => n.to_string(),
             Wholes(list) => counted(list.iter().map(|n| n.to_string()).collect()),
+            Signed(list) => counted(list.iter().map(|n| n.to_string()).collect()),
             Floats(list) => counted(list.iter().map(|x| format!("{:016x}", x.to_bits())).collect()),
+        }
+    }
+}
+
+impl Item {
+    /// The same to the last bit.
+    fn same(&self, other: &Item) -> bool {
+        match (self, other) {
+            (Whole(a), Whole(b)) => a == b,
+            (Wholes(a), Wholes(b)) => a == b,
+            (Signed(a), Signed(b)) => a == b,
+            (Floats(a), Floats(b)) => a.len() == b.len() && a.iter().zip(b).all(|(x, y)| x.to_bits() == y.to_bits()),
+            _ => false,
         }
     }
 }
@@ -39,7 +56,12 @@ pub struct Answer {
 }
 
 impl Answer {
-    fn refused(refusal: u8) -> Self { Answer { refusal, items: Vec::new() } }
+    pub(crate) fn refused(refusal: u8) -> Self { Answer { refusal, items: Vec::new() } }
+
+    /// The same to the last bit.
+    pub fn same(&self, other: &Answer) -> bool {
+        self.refusal == other.refusal && self.items.len() == other.items.len() && self.items.iter().zip(&other.items).all(|(a, b)| a.same(b))
+    }
 
     pub fn text(&self) -> String { [vec![self.refusal.to_string()], self.items.iter().map(Item::text).collect()].concat().join(" ") }
 }
@@ -49,7 +71,7 @@ pub type Make = Box<dyn Fn(&mut Random) -> Vec<Item>>;
 /// Answers a case.
 pub type Work = Box<dyn Fn(&[Item]) -> Answer>;
 
-/// One operation. The other side's answer, once it is there, has the type of `rust`.
+/// One operation. The answer of the other side (`ours`) has the type of `rust`.
 pub struct Operation {
     pub name: String,
     /// the items of a case, then those of an answer, in words
@@ -65,17 +87,17 @@ pub struct Operation {
 // Jets.
 
 #[derive(Clone, Copy, Debug, PartialEq)]
-struct Form {
+pub(crate) struct Form {
     surface: bool,
     width: usize,
 }
 
-const fn curve(width: usize) -> Form { Form { surface: false, width } }
-const fn surface(width: usize) -> Form { Form { surface: true, width } }
+pub(crate) const fn curve(width: usize) -> Form { Form { surface: false, width } }
+pub(crate) const fn surface(width: usize) -> Form { Form { surface: true, width } }
 
 impl Form {
     /// The length of a list.
-    fn length(self, order: usize) -> usize { self.width * if self.surface { oracle::surface_count(order) } else { order + 1 } }
+    pub(crate) fn length(self, order: usize) -> usize { self.width * if self.surface { oracle::surface_count(order) } else { order + 1 } }
 
     fn cut(self, list: &[f64], order: usize) -> Vec<f64> {
         if self.surface { oracle::cut_surface(list, self.width, order) } else { oracle::cut_curve(list, self.width, order) }
@@ -109,23 +131,29 @@ fn jet(form: Form, list: &[f64]) -> Jet {
 fn items_of(jets: &[Jet]) -> Vec<Item> { jets.iter().flat_map(|j| j.items()).collect() }
 
 /// Reads the items of a case one by one.
-struct Reader<'a>(std::slice::Iter<'a, Item>);
+pub(crate) struct Reader<'a>(std::slice::Iter<'a, Item>);
 
 impl Reader<'_> {
-    fn new(items: &[Item]) -> Reader<'_> { Reader(items.iter()) }
-    fn whole(&mut self) -> usize {
+    pub(crate) fn new(items: &[Item]) -> Reader<'_> { Reader(items.iter()) }
+    pub(crate) fn whole(&mut self) -> usize {
         match self.0.next() {
             Some(Whole(n)) => *n as usize,
             other => panic!("a whole number expected, not {other:?}"),
         }
     }
-    fn wholes(&mut self) -> Vec<usize> {
+    pub(crate) fn wholes(&mut self) -> Vec<usize> {
         match self.0.next() {
             Some(Wholes(list)) => list.iter().map(|n| *n as usize).collect(),
             other => panic!("whole numbers expected, not {other:?}"),
         }
     }
-    fn floats(&mut self) -> Vec<f64> {
+    pub(crate) fn signed(&mut self) -> Vec<i64> {
+        match self.0.next() {
+            Some(Signed(list)) => list.clone(),
+            other => panic!("signed numbers expected, not {other:?}"),
+        }
+    }
+    pub(crate) fn floats(&mut self) -> Vec<f64> {
         match self.0.next() {
             Some(Floats(list)) => list.clone(),
             other => panic!("floats expected, not {other:?}"),
@@ -158,10 +186,19 @@ fn single(list: Vec<f64>) -> Vec<Item> { vec![Floats(list)] }
 
 fn whole_jet(form: Form) -> impl Fn(Vec<f64>) -> Vec<Item> { move |list| jet(form, &list).items().to_vec() }
 
+/// The operations that the source answers.
 pub fn operations() -> Vec<Operation> {
     let mut all = vec![parts::part_lists(), parts::multiplicity(), parts::square_root()];
     all.extend(jets::jets());
     all.extend(fillet::fillet());
+    all
+}
+
+/// Operations of the library that have no counterpart in the source. `rust` is a calculation of our own, from document 01.
+pub fn added() -> Vec<Operation> {
+    let mut all = parts::added();
+    all.extend(vectors::vectors());
+    all.extend(exact::exact());
     all
 }
 
@@ -172,6 +209,7 @@ pub fn parse(like: &[Item], words: &mut dyn Iterator<Item = &str>) -> Option<Vec
         Some(match item {
             Whole(_) => Whole(number),
             Wholes(_) => Wholes((0..number).map(|_| words.next()?.parse().ok()).collect::<Option<_>>()?),
+            Signed(_) => Signed((0..number).map(|_| words.next()?.parse().ok()).collect::<Option<_>>()?),
             Floats(_) => Floats((0..number).map(|_| Some(f64::from_bits(u64::from_str_radix(words.next()?, 16).ok()?))).collect::<Option<_>>()?),
         })
     });
@@ -179,10 +217,12 @@ pub fn parse(like: &[Item], words: &mut dyn Iterator<Item = &str>) -> Option<Vec
 }
 
 impl Operation {
-    /// The cases that are stored: the fixed ones, then random ones from a seed of the operation's own.
+    /// A seed of the operation's own.
+    pub fn seed(&self) -> u64 { self.name.bytes().fold(0xCBF29CE484222325u64, |h, b| (h ^ b as u64).wrapping_mul(0x100000001B3)) }
+
+    /// The cases that are stored: the fixed ones, then random ones.
     pub fn cases(&self) -> Vec<Vec<Item>> {
-        let seed = self.name.bytes().fold(0xCBF29CE484222325u64, |h, b| (h ^ b as u64).wrapping_mul(0x100000001B3));
-        let mut random = Random::new(seed);
+        let mut random = Random::new(self.seed());
         self.fixed.iter().cloned().chain((0..self.stored).map(|_| (self.random)(&mut random))).collect()
     }
 }

@@ -312,6 +312,12 @@ pub fn composite_derivatives(kind: Kind, a: &[f64], uv: &[f64]) -> Option<Vec<f6
     })
 }
 
+/// The carry of a surface of vectors on jets that are there already: for measuring. It gives the list of the answer.
+pub fn timed_carry(a: &[f64], uv: &[f64]) -> impl Fn() -> Vec<f64> {
+    let (a, uv) = (surface::<Vector3>(a), curve::<Vector2>(uv));
+    move || curve_list(&std::hint::black_box(&a).composite_derivatives(std::hint::black_box(&uv)))
+}
+
 // Rotations.
 
 /// The matrix's columns; `s` and `c` are sine and cosine of the angle.

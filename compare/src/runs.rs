@@ -20,12 +20,31 @@ pub fn stored(operation: &Operation, file: &str, side: Side) -> (usize, Vec<Stri
     (lines.len(), lines.iter().filter_map(differs).collect())
 }
 
-/// Works `count` random cases by the source and by `side`: the lines in which they differ.
-pub fn random(operation: &Operation, mut random: Random, count: usize, side: Side) -> Vec<String> {
-    let differs = |_| {
-        let case = (operation.random)(&mut random);
-        let (rust, found) = ((operation.rust)(&case).text(), side(&case).text());
-        (rust != found).then(|| format!("{} = {rust}\nfound {found}", text(&case)))
-    };
-    (0..count).filter_map(differs).collect()
+/// What a run over given cases found.
+#[derive(Default)]
+pub struct Found {
+    pub cases: usize,
+    /// how many of them the source answers
+    pub answered: usize,
+    /// the cases in which the two differ, with both answers
+    pub wrong: Vec<String>,
+}
+
+/// Works cases by the source and by `side`.
+pub fn both(operation: &Operation, cases: impl Iterator<Item = Vec<Item>>, side: Side) -> Found {
+    let mut found = Found::default();
+    for case in cases {
+        let (rust, other) = ((operation.rust)(&case), side(&case));
+        found.cases += 1;
+        found.answered += (rust.refusal == 0) as usize;
+        if !rust.same(&other) {
+            found.wrong.push(format!("{} = {}\nfound {}", text(&case), rust.text(), other.text()));
+        }
+    }
+    found
+}
+
+/// The same over `count` random cases.
+pub fn random(operation: &Operation, mut random: Random, count: usize, side: Side) -> Found {
+    both(operation, (0..count).map(|_| (operation.random)(&mut random)), side)
 }

@@ -472,7 +472,7 @@ fn a_wrong_answer_is_found() {
     assert_eq!(crate::runs::stored(&operation, "# a note\n3 2 1 1 = 0 6\n", &operation.rust), (1, vec![]));
     assert_eq!(crate::runs::stored(&operation, "3 2 1 1 = 0 7\n3 2 1 = 0 6\n", &operation.rust).1.len(), 2);
     let mute = |_: &[crate::cases::Item]| crate::cases::Answer { refusal: 200, items: vec![] };
-    assert_eq!(crate::runs::random(&operation, Random::new(1), 10, &mute).len(), 10);
+    assert_eq!(crate::runs::random(&operation, Random::new(1), 10, &mute).wrong.len(), 10);
 }
 
 /// An answer depends on its case alone: nothing is left over from the calls before.
@@ -486,7 +486,7 @@ fn answers_follow_from_the_case() {
             (before.rust)(&other);
             (operation.rust)(case)
         };
-        assert!(crate::runs::random(operation, Random::new(5), 40, &side).is_empty(), "{}", operation.name);
+        assert!(crate::runs::random(operation, Random::new(5), 40, &side).wrong.is_empty(), "{}", operation.name);
     }
 }
 
@@ -495,6 +495,47 @@ fn answers_follow_from_the_case() {
 #[ignore = "long"]
 fn long_runs_are_settled() {
     for operation in crate::cases::operations() {
-        assert!(crate::runs::random(&operation, Random::far(9), 1_000, &operation.rust).is_empty(), "{}", operation.name);
+        assert!(crate::runs::random(&operation, Random::far(9), 1_000, &operation.rust).wrong.is_empty(), "{}", operation.name);
     }
+}
+
+// What the source has not.
+
+fn added(name: &str) -> crate::cases::Operation { crate::cases::added().into_iter().find(|o| o.name == name).unwrap() }
+
+#[test]
+fn added_operations_meet_the_figures() {
+    let answers = |name: &str| -> Vec<String> {
+        let operation = added(name);
+        operation.fixed.iter().map(|case| (operation.rust)(case).text()).collect()
+    };
+    assert_eq!(answers("exact_curve_combinatorial_derivatives")[..], ["0 3 4 13 38", "0 3 4 21 102", "0 1 10", "9"]);
+    assert_eq!(answers("exact_curve_quotient")[1..3], ["0 3 4 5 6", "8"]);
+    assert_eq!(answers("exact_composite_derivatives"), ["0 3 5 8 48"]);
+    assert_eq!(answers("whole_quotient")[2..5], ["9", "8", "7"]);
+    assert_eq!(answers("roads")[..], ["0 0 3 25 80 608 0 3 25 80 608", "0 0 3 0 0 31 9 0"]);
+    assert_eq!(answers("stirling_number").iter().filter(|a| *a == "0 524287").count(), 1);
+}
+
+/// Demand 3, in the calculation that the library is held against.
+#[test]
+fn the_two_roads_meet() {
+    use crate::cases::Item::{Signed, Whole};
+    let (operation, mut random) = (added("roads"), Random::new(4));
+    let (mut same, mut refused) = (0, 0);
+    for _ in 0..5_000 {
+        let case = (operation.random)(&mut random);
+        match &(operation.rust)(&case).items[..] {
+            [Whole(0), Signed(first), Whole(0), Signed(second)] => {
+                assert_eq!(first, second, "{case:?}");
+                same += 1
+            }
+            [Whole(0), _, Whole(refusal), _] => {
+                assert_eq!(*refusal, 9, "{case:?}");
+                refused += 1
+            }
+            _ => {}
+        }
+    }
+    assert!(same > 500 && refused > 5, "{same} {refused}");
 }

@@ -116,3 +116,119 @@ pub(super) fn square_root() -> Operation {
         }),
     }
 }
+
+// What the source has not: the numbers by themselves, and a walk record that holds anything.
+
+fn number(name: &str, pair: bool, fixed: Vec<Vec<Item>>, work: fn(usize, usize) -> Result<u64, u8>) -> Operation {
+    Operation {
+        name: name.to_string(),
+        given: if pair { "order, len" } else { "n" },
+        answer: "number",
+        stored: 0,
+        fixed,
+        random: Box::new(move |random| (0..if pair { 2 } else { 1 }).map(|_| Whole(random.below(24) as u64)).collect()),
+        rust: Box::new(move |items| {
+            let mut reader = Reader::new(items);
+            let n = reader.whole();
+            match work(n, if pair { reader.whole() } else { 0 }) {
+                Ok(number) => Answer { refusal: 0, items: vec![Whole(number)] },
+                Err(refusal) => Answer::refused(refusal),
+            }
+        }),
+    }
+}
+
+/// Order, len, whether it has ended, then 20 parts.
+fn random_walk(random: &mut Random) -> Vec<u64> {
+    let most = random.pick(&[9, 9, 9, 9, 20]);
+    let order = 1 + random.below(most);
+    let len = 1 + random.below(order);
+    let lists = super::exact::part_lists(order, len, order);
+    let list = match random.below(4) {
+        0 => &lists[lists.len() - 1],
+        _ => &lists[random.below(lists.len())],
+    };
+    let mut walk: Vec<u64> = [order, len, (random.below(10) == 0) as usize].iter().chain(list).map(|n| *n as u64).collect();
+    // What is stored past the list is not read.
+    let junk = random.below(3) == 0;
+    walk.resize_with(23, || if junk { random.bits() } else { 0 });
+    match random.below(24) {
+        0 => walk[0] = random.pick(&[0, 21, order as u64 + 1, u64::MAX]),
+        1 => walk[1] = random.pick(&[0, 21, order as u64 + 1, len as u64 - 1, u64::MAX]),
+        2 => walk[2] = random.pick(&[2, 3, u64::MAX]),
+        3 | 4 => {
+            let at = 3 + random.below(len);
+            walk[at] = random.pick(&[0, 1, walk[at] + 1, u64::MAX, walk[at] - 1]);
+        }
+        5 => {
+            walk.pop();
+        }
+        6 => walk.push(0),
+        7 => walk[3..3 + len].reverse(),
+        _ => {}
+    }
+    walk
+}
+
+fn walk_next() -> Operation {
+    Operation {
+        name: "walk_next".to_string(),
+        given: "the walk: order, len, whether it has ended, 20 parts",
+        answer: "the parts handed out, the walk then",
+        stored: 0,
+        fixed: vec![vec![Wholes(vec![0; 23])]],
+        random: Box::new(|random| vec![Wholes(random_walk(random))]),
+        rust: Box::new(|items| {
+            let walk = Reader::new(items).wholes();
+            if walk.len() != 23 {
+                return Answer::refused(2);
+            }
+            let (order, len) = (walk[0], walk[1]);
+            let refusal = first(&[(1, order > 20), (3, walk[2] > 1 || len == 0 || len > order)]);
+            if refusal != 0 {
+                return Answer::refused(refusal);
+            }
+            let wholes = |list: &[usize]| Wholes(list.iter().map(|n| *n as u64).collect());
+            let answered = |parts: &[usize], walk: &[usize]| Answer { refusal: 0, items: vec![wholes(parts), wholes(walk)] };
+            if walk[2] == 1 {
+                return answered(&[0; 20], &walk);
+            }
+            let lists = super::exact::part_lists(order, len, order);
+            let Some(at) = lists.iter().position(|list| list[..] == walk[3..3 + len]) else { return Answer::refused(3) };
+            let mut parts = [0; 20];
+            parts[..len].copy_from_slice(&lists[at]);
+            let mut after = walk.clone();
+            match lists.get(at + 1) {
+                Some(next) => after[3..3 + len].copy_from_slice(next),
+                None => after[2] = 1,
+            }
+            answered(&parts, &after)
+        }),
+    }
+}
+
+/// S(order, len), by its recurrence.
+fn stirling_number(order: usize, len: usize) -> u64 {
+    match (order, len) {
+        (0, 0) => 1,
+        (0, _) | (_, 0) => 0,
+        _ => len as u64 * stirling_number(order - 1, len) + stirling_number(order - 1, len - 1),
+    }
+}
+
+pub(super) fn added() -> Vec<Operation> {
+    let pairs = (0..=21).flat_map(|order| (0..=order + 1).map(move |len| vec![Whole(order), Whole(len)])).collect();
+    vec![
+        number("factorial", false, (0..=22).map(|n| vec![Whole(n)]).collect(), |n, _| if n > 20 { Err(1) } else { Ok((1..=n as u64).product()) }),
+        number("stirling_number", true, pairs, |order, len| {
+            if order > 20 {
+                Err(1)
+            } else if len > order {
+                Err(3)
+            } else {
+                Ok(stirling_number(order, len))
+            }
+        }),
+        walk_next(),
+    ]
+}

@@ -1,21 +1,22 @@
 -- The checks in turn; a number written to a list of one; and signed numbers that are passed on. Assumes nothing.
 use mathlib.Core.Path.{_≡_, refl, sym, ap, ap₂, _∙_}
-use mathlib.Core.Bool.{Bool, cond}
+use mathlib.Core.Bool.{Bool, true, false, cond}
 use mathlib.Core.List.{List, [], _∷_}
 use Prim.Native.Nat.{ℕ, zero, suc, _≤_, _<_}
 use native.Mathlib.Nat.{suc-ne-zero}
 use native.Mathlib.Decide.{decLt}
 use native.Mathlib.Omega.{arith}
+use lib.Dec.{eqb}
 use lib.IntN.{ℤ}
 use lib.ListN.{length, set}
 use mir.Syntax.{w64}
 use mir.Val.{SFits, toZ, ofZ}
 use mir.Facts.{toZ-ofZ}
-use borrow.Author.Tests.{lt-ltb, le-ltb, eq-eqb, ne-eqb}
+use borrow.Author.Tests.{lt-ltb, le-ltb, eq-eqb, ne-eqb, eqb-true}
 use Rattle.whole.specs.declared.Whole.{Whole}
 use Rattle.whole.specs.declared.Whole.the-variants.{Value, Refused}
 use Rattle.whole.specs.History.{orElse}
-use Rattle.capi.specs.ExactChecks.{tooHigh, wholeDelivered, wholeInto}
+use Rattle.capi.specs.ExactChecks.{tooHigh, unlike, wholeDelivered, wholeInto}
 
 pub first-some : (a b : ℕ) → ¬ (a ≡ 0) → a ≡ orElse a b
 first-some zero b h = absurd (h refl)
@@ -48,7 +49,7 @@ module _ (n x : ℕ) where
   low h = rw (le-ltb 20 n h)
 
 -- ---- a list of one
-set-one : {X : Type 0} (l : List X) (x : X) → length l ≡ 1 → set l 0 x ≡ x ∷ []
+pub set-one : {X : Type 0} (l : List X) (x : X) → length l ≡ 1 → set l 0 x ≡ x ∷ []
 set-one [] x h = absurd (omega arith)
 set-one (y ∷ []) x h = refl
 set-one (y ∷ z ∷ l) x h = absurd (omega arith)
@@ -72,3 +73,11 @@ module _ (w : Whole) (out : List ℤ) where
 pub on-passed : {a b : ℤ} {w : Whole} (f : ℤ → ℤ → Whole) → SFits w64 a → SFits w64 b → w ≡ f (toZ w64 (ofZ w64 a)) (toZ w64 (ofZ w64 b)) → (out : List ℤ) →
     wholeInto w out ≡ wholeInto (f a b) out
 on-passed f fa fb e out = ap (λ (v : Whole). wholeInto v out) (e ∙ ap₂ f (toZ-ofZ fa) (toZ-ofZ fb))
+
+-- ---- a count that passes is the one due
+pub as-due : (count due : ℕ) → unlike count due ≡ 0 → count ≡ due
+as-due count due h = by (eqb count due) refl
+  where
+    by : (t : Bool) → eqb count due ≡ t → count ≡ due
+    by true e = eqb-true count due e
+    by false e = absurd (suc-ne-zero 1 (sym (ap (λ (t : Bool). cond t 0 2) e) ∙ h))

@@ -1,2 +1,8 @@
 pub mod Admission
 pub mod ExactOutcomes
+pub mod Delivered
+pub mod Copying
+pub mod Counts
+pub mod Walks
+pub mod RecipeLists
+pub mod RecipeChecks

@@ -6,3 +6,6 @@ pub mod Operations
 pub mod Fillet
 pub mod ExactChecks
 pub mod ExactJets
+pub mod VectorOperations
+pub mod PartLists
+pub mod Recipes

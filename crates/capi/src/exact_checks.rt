@@ -76,7 +76,7 @@ pub fn curve_count(count: usize, n: usize) -> u8
 }
 
 // How many entries a surface has up to the order n.
-fn entries(n: usize) -> usize
+pub fn entries(n: usize) -> usize
     requires { ⌜ n ≤ 20 ⌝ }
     ensures { λ r. ⌜ r ≡ triangle (suc n) ⌝ }
 {

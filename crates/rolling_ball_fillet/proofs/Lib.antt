@@ -1,6 +1,12 @@
 pub mod Orders
 pub mod Figures
+pub mod Entries
+pub mod Parts
+pub mod Tested
+pub mod CenterFigures
 pub mod Filled
 pub mod AxisAngle
 pub mod Parameters
-pub mod Tested
+pub mod Tests
+pub mod Decisions
+pub mod PartialFigures

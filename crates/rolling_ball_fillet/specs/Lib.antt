@@ -1,7 +1,10 @@
 pub mod Rotation
 pub mod Circle
 pub mod Answers
+pub mod SurfaceInfo
+pub mod Center
 pub mod Jets
 pub mod AxisAngle
 pub mod Partials
 pub mod PartialAnswer
+pub mod SubDer

@@ -4,14 +4,15 @@ ghost use mathlib.Core.Bool.{_||_};
 ghost use Prim.Native.Nat.{suc, _≤_, _<_};
 ghost use Rattle.calculus.specs.Array.{curveArray};
 ghost use Rattle.derivatives.specs.Real.{nil};
-ghost use Rattle.derivatives.specs.Answer.{curveNumbers, finiteCurve};
-ghost use Rattle.derivatives.specs.Vector.{vectorNumbers, vectorArray, finiteVectors};
+ghost use Rattle.derivatives.specs.Answer.{curveNumbers};
+ghost use Rattle.derivatives.specs.Vector.{vectorNumbers, vectorArray};
 ghost use Rattle.rolling_ball_fillet.specs.Jets.{cutVectors, cutParameter, cutDers, farContacts, shortContacts, finiteJet, finiteNumbers, finiteParameter, finiteDers};
 use crate::CenterContactDers;
 use crate::answers::both;
 use derivatives::CurveDerivatives;
 use derivatives::ParameterCurve;
 use derivatives::VectorCurveDerivatives;
+use derivatives::raw;
 use vectors::Vector3;
 
 pub fn either(p: bool, q: bool) -> bool
@@ -152,42 +153,12 @@ pub fn short_contacts(d: CenterContactDers, n: usize) -> bool
 }
 
 // Whether the entries up to the order n are finite.
-fn entries_finite(a: &[f64; 63], n: usize) -> bool
-    requires { ⌜ n ≤ 20 ⌝ }
-    ensures { λ r. ⌜ r ≡ finiteVectors (vectorNumbers (now (a .entry))) n ⌝ }
-{
-    let mut i = 0;
-    while i <= n {
-        let v = vector_at(a, i);
-        if !v.is_finite() {
-            return false;
-        }
-        i += 1;
-    }
-    true
-}
-
-fn numbers_finite(a: &[f64; 21], n: usize) -> bool
-    requires { ⌜ n ≤ 20 ⌝ }
-    ensures { λ r. ⌜ r ≡ finiteCurve (curveNumbers (now (a .entry))) n ⌝ }
-{
-    let mut i = 0;
-    while i <= n {
-        let x = a[i];
-        if !ieee::is_finite(x) {
-            return false;
-        }
-        i += 1;
-    }
-    true
-}
-
 pub fn finite_jet(a: VectorCurveDerivatives, n: usize) -> bool
     requires { ⌜ n ≤ 20 ⌝ }
     ensures { λ r. ⌜ r ≡ finiteJet a n ⌝ }
 {
     let x = a.entries;
-    entries_finite(&x, n)
+    raw::finite_vectors(&x, n)
 }
 
 pub fn finite_numbers(a: CurveDerivatives, n: usize) -> bool
@@ -195,7 +166,7 @@ pub fn finite_numbers(a: CurveDerivatives, n: usize) -> bool
     ensures { λ r. ⌜ r ≡ finiteNumbers a n ⌝ }
 {
     let x = a.entries;
-    numbers_finite(&x, n)
+    raw::finite_numbers(&x, n)
 }
 
 fn finite_parameter(a: ParameterCurve, n: usize) -> bool
@@ -204,7 +175,7 @@ fn finite_parameter(a: ParameterCurve, n: usize) -> bool
 {
     let u = a.u;
     let v = a.v;
-    both(numbers_finite(&u, n), numbers_finite(&v, n))
+    both(raw::finite_numbers(&u, n), raw::finite_numbers(&v, n))
 }
 
 pub fn finite_ders(d: CenterContactDers, n: usize) -> bool

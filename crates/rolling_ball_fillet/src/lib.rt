@@ -2,8 +2,10 @@
 // 5 where a float handed in is not finite, 10 where a returned float is not.
 ghost use mathlib.Core.Path.{_≡_};
 ghost use Rattle.rolling_ball_fillet.specs.Answers.{rotationAnswer, finiteContact, finiteCircle, derivativeAnswer};
+ghost use Rattle.rolling_ball_fillet.specs.Center.{centerContactAnswer};
 ghost use Rattle.rolling_ball_fillet.specs.Partials.{derivativeV, derivativeUV, derivativeVV};
 ghost use Rattle.rolling_ball_fillet.specs.PartialAnswer.{vderInfoAnswer, partialAnswer};
+ghost use Rattle.rolling_ball_fillet.specs.SubDer.{subDerMn};
 use derivatives::CurveDerivatives;
 use derivatives::ParameterCurve;
 use derivatives::VectorCurveDerivatives;
@@ -14,12 +16,17 @@ use vectors::Vector3;
 use vectors::VectorAnswer;
 
 mod answers;
+mod arrays;
 mod axis_angle;
 mod circle;
+mod contacts;
+mod given;
 mod info;
 mod jets;
 mod partials;
 mod rotation;
+mod sub_der;
+mod surface_info;
 
 // The sine and the cosine of an angle.
 pub struct Pair {
@@ -207,5 +214,45 @@ impl VderInfo {
         }
         let inputs = info::finite_inputs(self, 2, u, s, c);
         answers::vector_from(inputs, partials::derivative_vv(self, u, s, c))
+    }
+}
+
+impl RollingBallFilletSurface {
+    // How the centre, the contact points and their parameters move along the edge, up to the order n.
+    pub fn sub_center_contacts_ders(self, cc: ContactCircle, n: usize) -> CenterContactAnswer
+        ensures { λ r. ⌜ r ≡ centerContactAnswer self cc n ⌝ }
+    {
+        if given::beyond(self, n) {
+            return contacts::refused(1);
+        }
+        let k = n + 1;
+        if given::short(self, k) {
+            return contacts::refused(2);
+        }
+        if given::finite_given(self, cc, k) {
+            let a = contacts::center_contacts(self, cc, n);
+            return given::returned(a, n);
+        }
+        contacts::refused(5)
+    }
+
+    // The fillet's partial derivative, m times by u and n times by v, at the share u of the arc; s and c are the sine and cosine of angle·u.
+    pub fn sub_der_mn(
+        self,
+        m: usize,
+        n: usize,
+        u: f64,
+        cc: ContactCircle,
+        angle: f64,
+        s: f64,
+        c: f64,
+    ) -> VectorAnswer
+        ensures { λ r. ⌜ r ≡ subDerMn self m n u cc angle s c ⌝ }
+    {
+        if sub_der::far_pair(self, m, n) {
+            return VectorAnswer::Refused(1);
+        }
+        let d = sub_der::decide(m, n);
+        sub_der::by_decision(d, m, self, cc, angle, u, s, c)
     }
 }

@@ -7,7 +7,7 @@ use native.Mathlib.Numerals.{add-one}
 use Rattle.rolling_ball_fillet.specs.Jets.{farContacts, shortContacts, finiteNumbers, finiteDers}
 use Rattle.rolling_ball_fillet.specs.PartialAnswer.{refusedInfo, vderInfo, returnedInfo}
 use Rattle.rolling_ball_fillet.specs.declared.VderInfoAnswer.{VderInfoAnswer}
-use Rattle.rolling_ball_fillet.proofs.Tested.{is-far, is-unfit, is-infinite, is-worked, order-below}
+use Rattle.rolling_ball_fillet.proofs.Tests.{is-far, is-unfit, is-infinite, is-worked, order-below}
 use borrow.Author.Needs.{needs}
 use native.Mathlib.Omega.{arith}
 use Prim.Native.Nat.{ℕ, suc}

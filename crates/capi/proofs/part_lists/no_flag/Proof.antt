@@ -1,0 +1,13 @@
+-- `capi::part_lists::no_flag` meets its contract. Assumes nothing.
+use borrow.Author.Tests.{lt-ltb, le-ltb}
+use Rattle.capi.proofs.part_lists.no_flag.Statement.{statement}
+use Rattle.capi.proofs.part_lists.no_flag.Tie as tie
+
+returns : tie.Need-returns
+returns c = rw (lt-ltb 1 (c .before .args .n) (c .if1 .taken))
+
+returns-2 : tie.Need-returns-2
+returns-2 c = rw (le-ltb 1 (c .before .args .n) (c .if1 .left))
+
+pub no-flag-spec : {M : Type 1} → statement M
+no-flag-spec = tie.close (tie.spec returns returns-2)

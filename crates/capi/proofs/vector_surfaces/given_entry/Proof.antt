@@ -1,0 +1,34 @@
+-- `capi::vector_surfaces::given_entry` meets its contract. Assumes nothing.
+use mathlib.Core.Path.{ap₂, _∙_}
+use Rattle.capi.specs.Given.{first}
+use borrow.Author.Needs.{needs}
+use Rattle.capi.proofs.vector_surfaces.given_entry.Statement.{statement}
+use Rattle.capi.proofs.vector_surfaces.given_entry.Tie as tie
+
+vector-surface-requires : tie.Need-vector-surface-requires
+vector-surface-requires c κs = search needs
+
+vector-surface-requires-2 : tie.Need-vector-surface-requires-2
+vector-surface-requires-2 c κs = search needs
+
+order-sum-requires : tie.Need-order-sum-requires
+order-sum-requires c κs = search needs
+
+floats-requires : tie.Need-floats-requires
+floats-requires c κs = search needs
+
+first-requires : tie.Need-first-requires
+first-requires c κs = search needs
+
+first-requires-2 : tie.Need-first-requires-2
+first-requires-2 c κs = search needs
+
+first-requires-3 : tie.Need-first-requires-3
+first-requires-3 c κs = search needs
+
+returns : tie.Need-returns
+returns c = c .first3 .ensures
+    ∙ ap₂ first (c .before .before .before .before .before .before .vector-surface .ensures) (c .before .first2 .ensures ∙ ap₂ first (c .before .before .before .before .before .vector-surface2 .ensures) (c .before .before .first .ensures ∙ ap₂ first (c .before .before .before .before .order-sum .ensures) (c .before .before .before .floats .ensures)))
+
+pub given-entry-spec : {M : Type 1} → statement M
+given-entry-spec = tie.close (tie.spec vector-surface-requires vector-surface-requires-2 order-sum-requires floats-requires first-requires first-requires-2 first-requires-3 returns)

@@ -1,0 +1,43 @@
+-- `capi::vector_surfaces::sugamdely_surface_combinatorial_derivative_scaled` meets its contract. Assumes nothing.
+use denote.Ref.{now}
+use mathlib.Core.Path.{sym, _∙_}
+use Prim.Native.Nat.{_+_}
+use lib.ListN.{length}
+use Rattle.vectors.specs.Vectors.{multiple}
+use Rattle.calculus.specs.Surface.{productBy}
+use Rattle.derivatives.specs.Vector.{vectors}
+use Rattle.derivatives.specs.VectorSurfaceAnswer.{onWeightedSurfaceAt}
+use Rattle.capi.specs.Lists.{vectorSurface, surface, toVector}
+use Rattle.capi.proofs.Admission.{two-refused-at, two-worked-at, rest-fits, floats-fit}
+use borrow.Author.Needs.{needs}
+use Rattle.capi.proofs.vector_surfaces.sugamdely_surface_combinatorial_derivative_scaled.Statement.{statement}
+use Rattle.capi.proofs.vector_surfaces.sugamdely_surface_combinatorial_derivative_scaled.Tie as tie
+
+given-weighted-entry-requires : tie.Need-given-weighted-entry-requires
+given-weighted-entry-requires c κs = search needs
+
+returns : tie.Need-returns
+returns c = let s = c .before .before .before .before .before .args in
+    two-refused-at vectorSurface surface toVector (λ x y. onWeightedSurfaceAt (productBy vectors multiple) x y (s .m) (s .n)) (s .a-order) (now (s .a)) (s .b-order) (now (s .b)) (now (s .out)) (s .m + s .n) (c .before .given-weighted-entry .ensures) (c .if1 .taken)
+
+vector-surface-requires : tie.Need-vector-surface-requires
+vector-surface-requires c κs = search needs
+
+surface-requires : tie.Need-surface-requires
+surface-requires c κs = search needs
+
+combinatorial-derivative-scaled-requires : tie.Need-combinatorial-derivative-scaled-requires
+combinatorial-derivative-scaled-requires c κs = search needs
+
+vector-requires : tie.Need-vector-requires
+vector-requires c κs = floats-fit 3 (length (now (c .before .before .before .before .before .before .before .before .before .args .out))) (rest-fits _ _ (rest-fits _ _ (rest-fits _ _ (sym (c .before .before .before .before .before .given-weighted-entry .ensures) ∙ c .before .before .before .before .if1 .left))))
+
+same-length : tie.Need-same-length
+same-length c = search needs
+
+returns-2 : tie.Need-returns-2
+returns-2 c = let s = c .before .before .before .before .before .before .before .before .before .before .before .before .args in
+    two-worked-at vectorSurface surface toVector (λ x y. onWeightedSurfaceAt (productBy vectors multiple) x y (s .m) (s .n)) (s .a-order) (now (s .a)) (s .b-order) (now (s .b)) (now (s .out)) (s .m + s .n) (c .before .before .before .before .before .before .before .before .given-weighted-entry .ensures) (c .before .before .before .before .before .before .before .if1 .left) (c .before .before .before .before .before .before .vector-surface .ensures) (c .before .before .before .before .before .surface .ensures) (c .before .before .before .before .combinatorial-derivative-scaled .ensures) (c .before .before .vector .ensures)
+
+pub sugamdely-surface-combinatorial-derivative-scaled-spec : {M : Type 1} → statement M
+sugamdely-surface-combinatorial-derivative-scaled-spec = tie.close (tie.spec given-weighted-entry-requires returns vector-surface-requires surface-requires combinatorial-derivative-scaled-requires vector-requires same-length returns-2)

@@ -1,0 +1,43 @@
+// Curves of floats.
+use crate::UNKNOWN;
+use capi::curves;
+use replay_text::float_list;
+use replay_text::size_at;
+
+// Of two jets a jet.
+pub fn two_jets(op: u64, n: &[usize], l: &[f64], ends: &[usize; 12], out: &mut [f64]) -> u8 {
+    let a_order = size_at(n, 0);
+    let b_order = size_at(n, 1);
+    let a = float_list(l, ends, 0);
+    let b = float_list(l, ends, 1);
+    match op {
+        0x101 => curves::sugamdely_curve_sum(a_order, a, b_order, b, out),
+        0x102 => curves::sugamdely_curve_difference(a_order, a, b_order, b, out),
+        0x103 => curves::sugamdely_curve_combinatorial_derivatives(a_order, a, b_order, b, out),
+        0x104 => curves::sugamdely_curve_rational_derivatives(a_order, a, b_order, b, out),
+        _ => UNKNOWN,
+    }
+}
+
+// Of a jet a jet.
+pub fn one_jet(op: u64, n: &[usize], l: &[f64], ends: &[usize; 12], out: &mut [f64]) -> u8 {
+    let order = size_at(n, 0);
+    let a = float_list(l, ends, 0);
+    match op {
+        0x105 => curves::sugamdely_curve_derivative(order, a, out),
+        _ => UNKNOWN,
+    }
+}
+
+// Of two jets an entry.
+pub fn entry(op: u64, n: &[usize], l: &[f64], ends: &[usize; 12], out: &mut [f64]) -> u8 {
+    let a_order = size_at(n, 0);
+    let b_order = size_at(n, 1);
+    let a = float_list(l, ends, 0);
+    let b = float_list(l, ends, 1);
+    let m = size_at(n, 2);
+    match op {
+        0x106 => curves::sugamdely_curve_combinatorial_derivative(a_order, a, b_order, b, m, out),
+        _ => UNKNOWN,
+    }
+}

@@ -1,0 +1,74 @@
+// Exact surfaces.
+use crate::UNKNOWN;
+use capi::exact_carry;
+use capi::exact_surfaces;
+use replay_text::size_at;
+use replay_text::whole_list;
+
+// Of two jets a jet.
+pub fn two_jets(op: u64, n: &[usize], l: &[i64], ends: &[usize; 12], out: &mut [i64]) -> u8 {
+    let a_order = size_at(n, 0);
+    let b_order = size_at(n, 1);
+    let a = whole_list(l, ends, 0);
+    let b = whole_list(l, ends, 1);
+    match op {
+        0x801 => exact_surfaces::sugamdely_exact_surface_sum(a_order, a, b_order, b, out),
+        0x802 => exact_surfaces::sugamdely_exact_surface_difference(a_order, a, b_order, b, out),
+        0x803 => exact_surfaces::sugamdely_exact_surface_combinatorial_derivatives(
+            a_order,
+            a,
+            b_order,
+            b,
+            out,
+        ),
+        0x804 => exact_surfaces::sugamdely_exact_surface_quotient(a_order, a, b_order, b, out),
+        _ => UNKNOWN,
+    }
+}
+
+// Of a jet a jet.
+pub fn one_jet(op: u64, n: &[usize], l: &[i64], ends: &[usize; 12], out: &mut [i64]) -> u8 {
+    let order = size_at(n, 0);
+    let a = whole_list(l, ends, 0);
+    match op {
+        0x805 => exact_surfaces::sugamdely_exact_surface_derivative_u(order, a, out),
+        0x806 => exact_surfaces::sugamdely_exact_surface_derivative_v(order, a, out),
+        _ => UNKNOWN,
+    }
+}
+
+// Of two jets an entry.
+pub fn entry(op: u64, n: &[usize], l: &[i64], ends: &[usize; 12], out: &mut [i64]) -> u8 {
+    let a_order = size_at(n, 0);
+    let b_order = size_at(n, 1);
+    let a = whole_list(l, ends, 0);
+    let b = whole_list(l, ends, 1);
+    let i = size_at(n, 2);
+    let j = size_at(n, 3);
+    match op {
+        0x807 => exact_surfaces::sugamdely_exact_surface_combinatorial_derivative(
+            a_order,
+            a,
+            b_order,
+            b,
+            i,
+            j,
+            out,
+        ),
+        _ => UNKNOWN,
+    }
+}
+
+// A surface carried along a curve, up to an order.
+pub fn carry(op: u64, n: &[usize], l: &[i64], ends: &[usize; 12], out: &mut [i64]) -> u8 {
+    let a_order = size_at(n, 0);
+    let b_order = size_at(n, 1);
+    let a = whole_list(l, ends, 0);
+    let b = whole_list(l, ends, 1);
+    let m = size_at(n, 2);
+    match op {
+        0x808 => exact_carry::sugamdely_exact_composite_derivative(a_order, a, b_order, b, m, out),
+        0x809 => exact_carry::sugamdely_exact_composite_derivatives(a_order, a, b_order, b, m, out),
+        _ => UNKNOWN,
+    }
+}

@@ -1,0 +1,72 @@
+-- `next_float_lists` is safe and ends: a turn for each list. Assumes nothing.
+use Prim.Native.Nat.{_-_, _≤_}
+use lib.ListN.{length}
+use mathlib.Core.Path.{_≡_}
+use borrow.Author.Needs.{needs}
+use Rattle.replay_text.proofs.next_float_lists.Statement.{statement}
+use Rattle.replay_text.proofs.next_float_lists.Tie as tie
+
+abbrev Inv-loop : tie.InvT-loop
+Inv-loop l₀ ends₀ n at₀ i₀ l ends at i = (i ≤ n) × (length l ≡ length l₀) × (length ends ≡ length ends₀)
+
+abbrev μ-loop : tie.MeasureT-loop
+μ-loop l₀ ends₀ n at₀ i₀ l ends at i = n - i
+
+next-size-requires : tie.Need-next-size-requires Inv-loop μ-loop
+next-size-requires c κs = search needs
+
+loop-holds : tie.Need-loop-holds Inv-loop μ-loop
+loop-holds c = search needs
+
+put-size-requires : tie.Need-put-size-requires Inv-loop μ-loop
+put-size-requires c κs = search needs
+
+next-size-requires-2 : tie.Need-next-size-requires-2 Inv-loop μ-loop
+next-size-requires-2 c κs = search needs
+
+past-requires : tie.Need-past-requires Inv-loop μ-loop
+past-requires c κs = search needs
+
+next-floats-requires : tie.Need-next-floats-requires Inv-loop μ-loop
+next-floats-requires c κs = search needs
+
+add-i : tie.Need-add-i Inv-loop μ-loop
+add-i c = search needs
+
+loop-less : tie.Need-loop-less Inv-loop μ-loop
+loop-less c = search needs
+
+loop-again : tie.Need-loop-again Inv-loop μ-loop
+loop-again c = search needs
+
+put-size-requires-2 : tie.Need-put-size-requires-2 Inv-loop μ-loop
+put-size-requires-2 c κs = search needs
+
+same-length : tie.Need-same-length Inv-loop μ-loop
+same-length c = search needs
+
+same-length-2 : tie.Need-same-length-2 Inv-loop μ-loop
+same-length-2 c = search needs
+
+returns : tie.Need-returns Inv-loop μ-loop
+returns c = search needs
+
+pub next-float-lists-spec : {M : Type 1} → statement M
+next-float-lists-spec =
+    tie.close
+    (tie.spec
+    Inv-loop
+    μ-loop
+    next-size-requires
+    loop-holds
+    put-size-requires
+    next-size-requires-2
+    past-requires
+    next-floats-requires
+    add-i
+    loop-less
+    loop-again
+    put-size-requires-2
+    same-length
+    same-length-2
+    returns)

@@ -1,0 +1,52 @@
+-- `next_sizes` is safe and ends: a turn for each place. Assumes nothing.
+use Prim.Native.Nat.{_-_, _≤_}
+use lib.ListN.{length}
+use mathlib.Core.Path.{_≡_}
+use borrow.Author.Needs.{needs}
+use Rattle.replay_text.proofs.next_sizes.Statement.{statement}
+use Rattle.replay_text.proofs.next_sizes.Tie as tie
+
+abbrev Inv-loop : tie.InvT-loop
+Inv-loop l₀ from to i₀ l i = (from ≤ i) × (length l ≡ length l₀)
+
+abbrev μ-loop : tie.MeasureT-loop
+μ-loop l₀ from to i₀ l i = to - i
+
+loop-holds : tie.Need-loop-holds Inv-loop μ-loop
+loop-holds c = search needs
+
+next-size-requires : tie.Need-next-size-requires Inv-loop μ-loop
+next-size-requires c κs = search needs
+
+put-size-requires : tie.Need-put-size-requires Inv-loop μ-loop
+put-size-requires c κs = search needs
+
+add-i : tie.Need-add-i Inv-loop μ-loop
+add-i c = search needs
+
+loop-less : tie.Need-loop-less Inv-loop μ-loop
+loop-less c = search needs
+
+loop-again : tie.Need-loop-again Inv-loop μ-loop
+loop-again c = search needs
+
+same-length : tie.Need-same-length Inv-loop μ-loop
+same-length c = search needs
+
+returns : tie.Need-returns Inv-loop μ-loop
+returns c = search needs
+
+pub next-sizes-spec : {M : Type 1} → statement M
+next-sizes-spec =
+    tie.close
+    (tie.spec
+    Inv-loop
+    μ-loop
+    loop-holds
+    next-size-requires
+    put-size-requires
+    add-i
+    loop-less
+    loop-again
+    same-length
+    returns)

@@ -1,0 +1,63 @@
+-- `finite_given` meets its contract: each part is tested. Assumes nothing.
+use borrow.Author.Needs.{needs}
+use mathlib.Core.Path.{ap₂, _∙_}
+use mathlib.Core.Bool.{false, _&&_}
+use Rattle.derivatives.specs.Answer.{finiteCurve}
+use Rattle.derivatives.specs.Vector.{finiteVectors, finiteVectorSurface}
+use Rattle.rolling_ball_fillet.specs.Center.{edge, radii, first, second}
+use Rattle.rolling_ball_fillet.proofs.Entries.{served}
+use Rattle.rolling_ball_fillet.proofs.given.finite_given.Statement.{statement}
+use Rattle.rolling_ball_fillet.proofs.given.finite_given.Tie as tie
+
+is-finite-requires : tie.Need-is-finite-requires
+is-finite-requires c κs = search needs
+
+is-finite-requires-2 : tie.Need-is-finite-requires-2
+is-finite-requires-2 c κs = search needs
+
+both-requires : tie.Need-both-requires
+both-requires c κs = search needs
+
+is-finite-requires-3 : tie.Need-is-finite-requires-3
+is-finite-requires-3 c κs = search needs
+
+both-requires-2 : tie.Need-both-requires-2
+both-requires-2 c κs = search needs
+
+finite-vectors-requires : tie.Need-finite-vectors-requires
+finite-vectors-requires c κs = search needs
+
+finite-numbers-requires : tie.Need-finite-numbers-requires
+finite-numbers-requires c κs = search needs
+
+both-requires-3 : tie.Need-both-requires-3
+both-requires-3 c κs = search needs
+
+finite-surface-requires : tie.Need-finite-surface-requires
+finite-surface-requires c κs = search needs
+
+finite-surface-requires-2 : tie.Need-finite-surface-requires-2
+finite-surface-requires-2 c κs = search needs
+
+both-requires-4 : tie.Need-both-requires-4
+both-requires-4 c κs = search needs
+
+both-requires-5 : tie.Need-both-requires-5
+both-requires-5 c κs = search needs
+
+both-requires-6 : tie.Need-both-requires-6
+both-requires-6 c κs = search needs
+
+returns : tie.Need-returns
+returns c =
+    let f = c .before .before .before .before .before .before .before .before .before .before .before .before .before .before .before .before .before .before .before .before .before .before .before .args .f in
+    let n = c .before .before .before .before .before .before .before .before .before .before .before .before .before .before .before .before .before .before .before .before .before .before .before .args .n in
+    let h = c .before .before .before .before .before .before .before .before .before .before .before .before .before .before .before .before .before .before .before .before .before .before .before .pre in
+    c .both6 .ensures ∙ ap₂ _&&_
+    (c .before .before .before .before .before .before .before .before .before .before .before .before .both2 .ensures ∙ ap₂ _&&_ (c .before .before .before .before .before .before .before .before .before .before .before .before .before .is-finite3 .ensures) (c .before .before .before .before .before .before .before .before .before .before .before .before .before .before .both .ensures ∙ ap₂ _&&_ (c .before .before .before .before .before .before .before .before .before .before .before .before .before .before .before .before .is-finite .ensures) (c .before .before .before .before .before .before .before .before .before .before .before .before .before .before .before .is-finite2 .ensures)))
+    (c .before .both5 .ensures ∙ ap₂ _&&_
+    (c .before .before .before .before .before .before .before .both3 .ensures ∙ ap₂ _&&_ (c .before .before .before .before .before .before .before .before .before .before .finite-vectors .ensures ∙ served 20 n false (finiteVectors (edge f) n) h) (c .before .before .before .before .before .before .before .before .finite-numbers .ensures ∙ served 20 n false (finiteCurve (radii f) n) h))
+    (c .before .before .both4 .ensures ∙ ap₂ _&&_ (c .before .before .before .before .before .finite-surface .ensures ∙ served 20 n false (finiteVectorSurface (first f) n) h) (c .before .before .before .finite-surface2 .ensures ∙ served 20 n false (finiteVectorSurface (second f) n) h)))
+
+pub finite-given-spec : {M : Type 1} → statement M
+finite-given-spec = tie.close (tie.spec is-finite-requires is-finite-requires-2 both-requires is-finite-requires-3 both-requires-2 finite-vectors-requires finite-numbers-requires both-requires-3 finite-surface-requires finite-surface-requires-2 both-requires-4 both-requires-5 both-requires-6 returns)

@@ -1,0 +1,87 @@
+-- The fillet's partial derivative, m times by u and n times by v (the source's `sub_der_mn`): document 01's refusal number, or the vector. Checked as
+-- 1, 2, 11, 5; then 6 and 7; 10 last. Assumes nothing.
+use Prim.Native.Nat.{ℕ, suc}
+use mathlib.Core.Bool.{Bool, cond, _&&_, _||_}
+use lib.Dec.{leb, eqb}
+use lib.Ieee.{Float}
+use lib.Ieee.Scale.{finite}
+use Rattle.vectors.specs.declared.Vector3.{Vector3}
+use Rattle.vectors.specs.declared.VectorAnswer.{VectorAnswer}
+use Rattle.vectors.specs.declared.VectorAnswer.the-variants.{Refused}
+use Rattle.vectors.specs.Answers.{finiteVector, returnedVector, vectorFrom}
+use Rattle.derivatives.specs.Answer.{finiteCurve}
+use Rattle.derivatives.specs.Vector.{finiteVectors, finiteVectorSurface}
+use Rattle.derivatives.specs.VectorAnswer.{far}
+use Rattle.rolling_ball_fillet.specs.Answers.{finiteCircle}
+use Rattle.rolling_ball_fillet.specs.Circle.{derivative}
+use Rattle.rolling_ball_fillet.specs.Center.{edge, radii, first, second, centerContacts, short, finiteGiven}
+use Rattle.rolling_ball_fillet.specs.Partials.{derivativeV, derivativeUV, derivativeVV}
+use Rattle.rolling_ball_fillet.specs.PartialAnswer.{vderInfo}
+use Rattle.rolling_ball_fillet.specs.declared.ContactCircle.{ContactCircle}
+use Rattle.rolling_ball_fillet.specs.declared.RollingBallFilletSurface.{RollingBallFilletSurface}
+use Rattle.rolling_ball_fillet.specs.declared.CenterContactAnswer.{CenterContactAnswer}
+use Rattle.rolling_ball_fillet.specs.declared.VderInfo.{VderInfo}
+use Rattle.rolling_ball_fillet.specs.declared.VderInfoAnswer.{VderInfoAnswer}
+use Rattle.rolling_ball_fillet.specs.declared.sub_der.EdgePartial.{EdgePartial}
+use Rattle.rolling_ball_fillet.specs.declared.sub_der.EdgePartial.the-variants as along
+use Rattle.rolling_ball_fillet.specs.declared.sub_der.Decision.{Decision}
+use Rattle.rolling_ball_fillet.specs.declared.sub_der.Decision.the-variants.{Arc, Edge, Unserved}
+
+-- ---- the pairs served: (m, 0) with m up to 20, (0, 1), (1, 1) and (0, 2)
+abbrev pub decided : (m n : ℕ) → Decision
+decided m n =
+    cond (leb m 20 && eqb n 0) Arc
+    (cond (eqb m 0 && eqb n 1) (Edge along.V)
+    (cond (eqb m 1 && eqb n 1) (Edge along.Uv)
+    (cond (eqb m 0 && eqb n 2) (Edge along.Vv)
+    Unserved)))
+
+-- how often a partial is derived along the edge, and by which formula
+abbrev pub orderOf : EdgePartial → ℕ
+orderOf along.V = 1
+orderOf along.Uv = 1
+orderOf along.Vv = 2
+
+abbrev pub partialBy : EdgePartial → VderInfo → (u s c : Float) → Vector3
+partialBy along.V = derivativeV
+partialBy along.Uv = derivativeUV
+partialBy along.Vv = derivativeVV
+
+-- ---- the work: the centre and contacts, then axis and angle, then the partial; the first refusal ends it
+abbrev pub fromInfo : EdgePartial → VderInfoAnswer → (u s c : Float) → VectorAnswer
+fromInfo p a u s c = cond (eqb (a .refusal) 0) (returnedVector (partialBy p (a .info) u s c)) (Refused (a .refusal))
+
+abbrev pub fromContacts : EdgePartial → CenterContactAnswer → (ℕ → Float) → (angle u s c : Float) → VectorAnswer
+fromContacts p a r angle u s c = cond (eqb (a .refusal) 0) (fromInfo p (vderInfo (a .ders) r angle (orderOf p)) u s c) (Refused (a .refusal))
+
+-- ---- the tests before it. A partial along the edge needs jets of one order more, and cuts them to it
+abbrev pub finiteNumbers4 : (angle u s c : Float) → Bool
+finiteNumbers4 angle u s c = finite angle && finite u && finite s && finite c
+
+abbrev pub byEdge : EdgePartial → RollingBallFilletSurface → ContactCircle → (angle u s c : Float) → VectorAnswer
+byEdge p f cc angle u s c =
+    let k = suc (orderOf p) in
+    cond (short f k) (Refused 2)
+    (cond (finiteGiven f cc k && finiteNumbers4 angle u s c) (fromContacts p (centerContacts f cc (orderOf p)) (radii f) angle u s c) (Refused 5))
+
+-- a partial along the arc needs none, and cuts nothing: their entries up to their own orders count
+abbrev pub finiteWhole : RollingBallFilletSurface → ContactCircle → Bool
+finiteWhole f cc =
+    (finiteCircle cc && (finiteVector (f .normal0) && finiteVector (f .normal1)))
+    && ((finiteVectors (edge f) (f .«edge_curve» .order) && finiteCurve (radii f) (f .radius .order))
+    && (finiteVectorSurface (first f) (f .surface0 .order) && finiteVectorSurface (second f) (f .surface1 .order)))
+
+abbrev pub byArc : ℕ → RollingBallFilletSurface → ContactCircle → (angle u s c : Float) → VectorAnswer
+byArc m f cc angle u s c = vectorFrom (finiteWhole f cc && finiteNumbers4 angle u s c) (derivative cc m s c)
+
+abbrev pub byDecision : Decision → ℕ → RollingBallFilletSurface → ContactCircle → (angle u s c : Float) → VectorAnswer
+byDecision Arc m f cc angle u s c = byArc m f cc angle u s c
+byDecision (Edge p) m f cc angle u s c = byEdge p f cc angle u s c
+byDecision Unserved m f cc angle u s c = Refused 11
+
+-- an order of the pair or of a jet is above 20
+abbrev pub farPair : RollingBallFilletSurface → (m n : ℕ) → Bool
+farPair f m n = far m n || (far (f .«edge_curve» .order) (f .radius .order) || far (f .surface0 .order) (f .surface1 .order))
+
+abbrev pub subDerMn : RollingBallFilletSurface → (m n : ℕ) → Float → ContactCircle → (angle s c : Float) → VectorAnswer
+subDerMn f m n u cc angle s c = cond (farPair f m n) (Refused 1) (byDecision (decided m n) m f cc angle u s c)

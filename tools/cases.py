@@ -1,0 +1,104 @@
+"""The cases that crates/replay_calls reads, for the generators replay_rust.py and refusals.py.
+
+A case is a line of words of 16 hexadecimal digits: the operation's number, the wanted refusal, then three groups of lists: sizes (the first
+list has the orders, in the order of the call), members, and what the lists lent for the answer hold at the end. A group is how many lists it
+has, then of each list its count and its members. A list lent holds FILL in every place before the call, and so after a refusal.
+"""
+import struct
+
+FILL = 1234.5
+WHOLE_FILL = 1234
+
+PRODUCTS = ['scaled', 'dot', 'cross']
+
+
+def numbered(first, names):
+    return {name: first + place for place, name in enumerate(names)}
+
+
+# As the modules of replay_calls number them.
+CURVES = numbered(0x101, ['curve_sum', 'curve_difference', 'curve_combinatorial_derivatives', 'curve_rational_derivatives', 'curve_derivative',
+                          'curve_combinatorial_derivative'])
+SURFACES = numbered(0x201, ['surface_sum', 'surface_difference', 'surface_combinatorial_derivatives', 'surface_rational_derivatives',
+                            'surface_derivative_u', 'surface_derivative_v', 'surface_combinatorial_derivative', 'composite_derivative',
+                            'composite_derivatives'])
+VECTOR_CURVES = numbered(0x301, ['vector_curve_sum', 'vector_curve_difference', 'vector_curve_rational_derivatives']
+                         + ['curve_combinatorial_derivatives_' + k for k in PRODUCTS]
+                         + ['vector_curve_derivative', 'curve_absolute_derivatives']
+                         + ['curve_combinatorial_derivative_' + k for k in PRODUCTS])
+VECTOR_SURFACES = numbered(0x401, ['vector_surface_sum', 'vector_surface_difference', 'vector_surface_rational_derivatives']
+                           + ['surface_combinatorial_derivatives_' + k for k in PRODUCTS]
+                           + ['vector_surface_derivative_u', 'vector_surface_derivative_v', 'surface_absolute_derivatives']
+                           + ['surface_combinatorial_derivative_' + k for k in PRODUCTS]
+                           + ['vector_composite_derivative', 'vector_composite_derivatives'])
+VECTORS = numbered(0x501, ['square_root', 'vector_magnitude', 'matrix2_determinant', 'matrix2_inverse', 'matrix3_determinant',
+                           'matrix3_inverse', 'vector_sum', 'vector_difference', 'vector_cross', 'vector_dot', 'matrix3_image',
+                           'vector_multiple', 'vector_quotient'])
+FILLET = numbered(0x601, ['rot_der_n', 'from_axis_angle', 'contact_circle_derivative_n', 'derivative_v', 'derivative_uv', 'derivative_vv',
+                          'sub_der_mn', 'sub_center_contacts_ders', 'vder_info'])
+EXACT_CURVES = numbered(0x701, ['exact_' + name.replace('rational_derivatives', 'quotient') for name in CURVES])
+EXACT_SURFACES = numbered(0x801, ['exact_' + name.replace('rational_derivatives', 'quotient') for name in SURFACES])
+WHOLE = numbered(0x901, ['whole_sum', 'whole_difference', 'whole_product', 'whole_quotient'])
+RECIPES = numbered(0x905, ['recipe_surfaces', 'recipe_curves', 'build_then_carry', 'carry_then_build'])
+PARTS = numbered(0xa01, ['walk_start', 'walk_next', 'multiplicity', 'factorial', 'stirling_number'])
+FLOATS = CURVES | SURFACES | VECTOR_CURVES | VECTOR_SURFACES | VECTORS | FILLET
+WHOLES = EXACT_CURVES | EXACT_SURFACES | WHOLE | RECIPES
+OPERATIONS = FLOATS | WHOLES | PARTS
+SERVED = {name: n for name, n in OPERATIONS.items() if name not in FILLET and name not in RECIPES}
+
+
+def size(n):
+    return '%016x' % n
+
+
+def whole(z):
+    return '%016x' % (z % 2**64)
+
+
+def bits(x):
+    return struct.pack('>d', x).hex()
+
+
+def group(lists, word):
+    return [size(len(lists))] + [w for members in lists for w in [size(len(members))] + [word(x) for x in members]]
+
+
+def line(name, refusal, sizes, lists, lent):
+    """sizes, lists and lent are lists of lists; members that are words already stay as they are."""
+    kind = bits if name in FLOATS else whole if name in WHOLES else size
+    word = lambda x: x if isinstance(x, str) else kind(x)
+    words = [size(OPERATIONS[name]), size(refusal)] + group(sizes, size) + group(lists, word) + group(lent, word)
+    return ' '.join(words) + '\n'
+
+
+def count(kind, order):
+    """The entries of a jet."""
+    return order + 1 if kind == 'curve' else (order + 1) * (order + 2) // 2
+
+
+def due(name, orders):
+    """The lengths of the lists that are due for the answer, where the orders are in order."""
+    name = name.removeprefix('exact_')
+    width = 3 if name.startswith('vector_') or name.endswith(('scaled', 'cross')) else 1
+    plain = name.removeprefix('vector_')
+    kind = 'curve' if plain.startswith('curve') else 'surface'
+    if plain.endswith('composite_derivative') or '_combinatorial_derivative' in plain and '_derivatives' not in plain:
+        return [width]
+    if plain == 'composite_derivatives':
+        return [width * count('curve', orders[2])]
+    if plain in ('curve_derivative', 'surface_derivative_u', 'surface_derivative_v'):
+        return [width * count(kind, max(orders[0] - 1, 0))]
+    if plain.startswith(('curve_', 'surface_')):
+        return [width * count(kind, min(orders[:2]))]
+    if name == 'sub_center_contacts_ders':
+        n = orders[0]
+        return [3 * (n + 1), 3 * (n + 2), 3 * (n + 2), 2 * (n + 2), 2 * (n + 2)]
+    if name == 'vder_info':
+        n = orders[0]
+        return [3 * (n + 1), n + 1, 1]
+    if name in VECTORS:
+        return [{'matrix2_inverse': 4, 'matrix3_inverse': 9, 'vector_sum': 3, 'vector_difference': 3, 'vector_cross': 3, 'matrix3_image': 3,
+                 'vector_multiple': 3, 'vector_quotient': 3}.get(name, 1)]
+    if name in FILLET:
+        return [9 if name in ('rot_der_n', 'from_axis_angle') else 3]
+    raise ValueError(name)
