@@ -6,14 +6,16 @@ ghost use lib.ListN.{length};
 ghost use lib.Ieee.{Float};
 ghost use Rattle.rolling_ball_fillet.specs.Partials.{derivativeV, derivativeUV, derivativeVV};
 ghost use Rattle.rolling_ball_fillet.specs.PartialAnswer.{partialAnswer};
-ghost use Rattle.capi.specs.Given.{first, orderGiven, floatsGiven, curveGiven, parameterGiven, vectorCurveGiven};
-ghost use Rattle.capi.specs.Fillet.{ordersGiven, rotationInto, circleInto, dersOf, infoOf, Three, deliverInfo, vderInfoInto, partialBy, partialInto};
+ghost use Rattle.capi.specs.Given.{first, orderGiven, floatsGiven, curveGiven, parameterGiven, vectorCurveGiven, vectorSurfaceGiven};
+ghost use Rattle.capi.specs.Fillet.{ordersGiven, rotationInto, circleInto, filletOf, Five, contactsGiven, deliverContacts, contactsInto, dersOf, infoOf, Three, deliverInfo, vderInfoInto, partialBy, partialInto, subDerInto};
 use crate::deliver;
 use crate::given;
 use crate::records;
 use derivatives::lists;
 use ieee::Real;
+use rolling_ball_fillet::CenterContactAnswer;
 use rolling_ball_fillet::CenterContactDers;
+use rolling_ball_fillet::RollingBallFilletSurface;
 use rolling_ball_fillet::VderInfo;
 use rolling_ball_fillet::VderInfoAnswer;
 use vectors::VectorAnswer;
@@ -62,6 +64,62 @@ fn given_circle(n: usize, circle: usize, out: usize) -> u8
     let a = given::floats(13, circle);
     let b = given::floats(3, out);
     given::first(o, given::first(a, b))
+}
+
+// The test of a fillet, by the orders and the lengths.
+fn given_fillet(
+    circle: usize,
+    feet: usize,
+    normals: usize,
+    edge_order: usize,
+    edge: usize,
+    radius_order: usize,
+    radius: usize,
+    surface0_order: usize,
+    surface0: usize,
+    surface1_order: usize,
+    surface1: usize,
+) -> u8
+    ensures { λ r. ⌜ r ≡ first (floatsGiven 13 circle) (first (floatsGiven 4 feet) (first (floatsGiven 6 normals) (first (vectorCurveGiven «edge_order» edge) (first (curveGiven «radius_order» radius) (first (vectorSurfaceGiven «surface0_order» surface0) (vectorSurfaceGiven «surface1_order» surface1)))))) ⌝ }
+{
+    let a = given::floats(13, circle);
+    let b = given::floats(4, feet);
+    let c = given::floats(6, normals);
+    let e = given::vector_curve(edge_order, edge);
+    let r = given::curve(radius_order, radius);
+    let p = given::vector_surface(surface0_order, surface0);
+    let q = given::vector_surface(surface1_order, surface1);
+    let pq = given::first(p, q);
+    let jets = given::first(e, given::first(r, pq));
+    given::first(a, given::first(b, given::first(c, jets)))
+}
+
+// That test's number, then two orders, and the list for one vector.
+fn given_pair(fillet: u8, m: usize, n: usize, out: usize) -> u8
+    ensures { λ r. ⌜ r ≡ first fillet (first (orderGiven m) (first (orderGiven n) (floatsGiven 3 out))) ⌝ }
+{
+    let a = given::order(m);
+    let b = given::order(n);
+    let o = given::floats(3, out);
+    given::first(fillet, given::first(a, given::first(b, o)))
+}
+
+// The test of an order and of the lists for the centre, the contacts and their parameters.
+fn given_contacts(
+    n: usize,
+    center: usize,
+    contact0: usize,
+    contact1: usize,
+    uv0: usize,
+    uv1: usize,
+) -> u8
+    ensures { λ r. ⌜ r ≡ contactsGiven n center contact0 contact1 uv0 uv1 ⌝ }
+{
+    if 19 < n {
+        return 1;
+    }
+    let k = n + 1;
+    given_ders(n, center, k, contact0, k, contact1, k, uv0, k, uv1)
 }
 
 // The test of the jets of the centre, the contacts and their parameters, by the orders and the lengths.
@@ -170,6 +228,55 @@ fn info(
         axis_ders,
         angle_ders,
     }
+}
+
+fn fillet_of(
+    normals: &[f64],
+    edge_order: usize,
+    edge: &[f64],
+    radius_order: usize,
+    radius: &[f64],
+    surface0_order: usize,
+    surface0: &[f64],
+    surface1_order: usize,
+    surface1: &[f64],
+) -> RollingBallFilletSurface
+    requires { ⌜ length (now normals) ≡ 6 ⌝ }
+    ensures { λ r. ⌜ r ≡ filletOf (now (normals .entry)) («edge_order», now (edge .entry)) («radius_order», now (radius .entry)) («surface0_order», now (surface0 .entry)) («surface1_order», now (surface1 .entry)) ⌝ }
+{
+    let e = lists::vector_curve(edge_order, edge);
+    let r = lists::curve(radius_order, radius);
+    let p = lists::vector_surface(surface0_order, surface0);
+    let q = lists::vector_surface(surface1_order, surface1);
+    records::fillet(e, r, p, q, normals)
+}
+
+fn deliver_contacts(
+    a: CenterContactAnswer,
+    center: &mut [f64],
+    contact0: &mut [f64],
+    contact1: &mut [f64],
+    uv0: &mut [f64],
+    uv1: &mut [f64],
+) -> u8
+    ensures { λ r. ⌜ _≡_ {A = ℕ × Five} (r, (now (center .exit), (now (contact0 .exit), (now (contact1 .exit), (now (uv0 .exit), now (uv1 .exit)))))) (deliverContacts a (now (center .entry), (now (contact0 .entry), (now (contact1 .entry), (now (uv0 .entry), now (uv1 .entry)))))) ⌝ }
+{
+    let c = a.refusal;
+    if c != 0 {
+        return c;
+    }
+    let d = a.ders;
+    let x = d.center_ders;
+    let p = d.contact0_ders;
+    let q = d.contact1_ders;
+    let s = d.uv0_ders;
+    let t = d.uv1_ders;
+    x.into_list(center);
+    p.into_list(contact0);
+    q.into_list(contact1);
+    s.into_list(uv0);
+    t.into_list(uv1);
+    0
 }
 
 fn deliver_info(a: VderInfoAnswer, axis: &mut [f64], angle: &mut [f64], cosine: &mut [f64]) -> u8
@@ -299,6 +406,70 @@ pub extern "C" fn sugamdely_contact_circle_derivative_n(
     let o = records::circle(circle, 0.0, 0.0, 0.0, 0.0);
     let r = o.derivative_n(n, s, c);
     deliver::vector(r, out)
+}
+
+// How the ball's centre, its contact points and their parameters move along the edge, up to the order n.
+#[no_mangle]
+pub extern "C" fn sugamdely_sub_center_contacts_ders(
+    n: usize,
+    circle: &[f64],
+    feet: &[f64],
+    normals: &[f64],
+    edge_order: usize,
+    edge: &[f64],
+    radius_order: usize,
+    radius: &[f64],
+    surface0_order: usize,
+    surface0: &[f64],
+    surface1_order: usize,
+    surface1: &[f64],
+    center: &mut [f64],
+    contact0: &mut [f64],
+    contact1: &mut [f64],
+    uv0: &mut [f64],
+    uv1: &mut [f64],
+) -> u8
+    ensures { λ r. ⌜ _≡_ {A = ℕ × Five} (r, (now (center .exit), (now (contact0 .exit), (now (contact1 .exit), (now (uv0 .exit), now (uv1 .exit)))))) (contactsInto n (now (circle .entry)) (now (feet .entry)) (now (normals .entry)) («edge_order», now (edge .entry)) («radius_order», now (radius .entry)) («surface0_order», now (surface0 .entry)) («surface1_order», now (surface1 .entry)) (now (center .entry), (now (contact0 .entry), (now (contact1 .entry), (now (uv0 .entry), now (uv1 .entry)))))) ⌝ }
+{
+    let g = given_fillet(
+        circle.len(),
+        feet.len(),
+        normals.len(),
+        edge_order,
+        edge.len(),
+        radius_order,
+        radius.len(),
+        surface0_order,
+        surface0.len(),
+        surface1_order,
+        surface1.len(),
+    );
+    let o = given_contacts(
+        n,
+        center.len(),
+        contact0.len(),
+        contact1.len(),
+        uv0.len(),
+        uv1.len(),
+    );
+    let t = given::first(g, o);
+    if t != 0 {
+        return t;
+    }
+    let cc = records::circle_with(circle, feet);
+    let f = fillet_of(
+        normals,
+        edge_order,
+        edge,
+        radius_order,
+        radius,
+        surface0_order,
+        surface0,
+        surface1_order,
+        surface1,
+    );
+    let a = f.sub_center_contacts_ders(cc, n);
+    deliver_contacts(a, center, contact0, contact1, uv0, uv1)
 }
 
 // How the axis and the angle move along the edge, up to the centre's order, from the radius' derivatives and the angle itself; and the clamped
@@ -502,4 +673,61 @@ pub extern "C" fn sugamdely_derivative_vv(
         c,
         out,
     )
+}
+
+// The fillet's partial derivative m times by u and n times by v.
+#[no_mangle]
+pub extern "C" fn sugamdely_sub_der_mn(
+    m: usize,
+    n: usize,
+    circle: &[f64],
+    feet: &[f64],
+    normals: &[f64],
+    edge_order: usize,
+    edge: &[f64],
+    radius_order: usize,
+    radius: &[f64],
+    surface0_order: usize,
+    surface0: &[f64],
+    surface1_order: usize,
+    surface1: &[f64],
+    angle: f64,
+    u: f64,
+    s: f64,
+    c: f64,
+    out: &mut [f64],
+) -> u8
+    ensures { λ r. ⌜ _≡_ {A = ℕ × List Float} (r, now (out .exit)) (subDerInto m n (now (circle .entry)) (now (feet .entry)) (now (normals .entry)) («edge_order», now (edge .entry)) («radius_order», now (radius .entry)) («surface0_order», now (surface0 .entry)) («surface1_order», now (surface1 .entry)) angle u s c (now (out .entry))) ⌝ }
+{
+    let g = given_fillet(
+        circle.len(),
+        feet.len(),
+        normals.len(),
+        edge_order,
+        edge.len(),
+        radius_order,
+        radius.len(),
+        surface0_order,
+        surface0.len(),
+        surface1_order,
+        surface1.len(),
+    );
+    let t = given_pair(g, m, n, out.len());
+    if t != 0 {
+        return t;
+    }
+    let cc = records::circle_with(circle, feet);
+    let f = fillet_of(
+        normals,
+        edge_order,
+        edge,
+        radius_order,
+        radius,
+        surface0_order,
+        surface0,
+        surface1_order,
+        surface1,
+    );
+    let r = f.sub_der_mn(m, n, u, cc, angle, s, c);
+    deliver::vector(r, out)
 }

@@ -1,10 +1,14 @@
-// Vectors, matrices and circles of lists. Each `requires` is met by the callers.
+// Vectors, matrices, circles and fillets of lists. Each `requires` is met by the callers.
 ghost use mathlib.Core.Path.{_≡_};
 ghost use lib.ListN.{length};
 ghost use Rattle.capi.specs.Values.{vectorOf, matrix2Of, matrix3Of};
-ghost use Rattle.capi.specs.Fillet.{circleOf};
+ghost use Rattle.capi.specs.Fillet.{circleOf, circleWith, filletWith};
+use derivatives::CurveDerivatives;
+use derivatives::VectorCurveDerivatives;
+use derivatives::VectorSurfaceDerivatives;
 use rolling_ball_fillet::ContactCircle;
 use rolling_ball_fillet::ContactPoint;
+use rolling_ball_fillet::RollingBallFilletSurface;
 use vectors::Matrix2;
 use vectors::Matrix3;
 use vectors::Vector2;
@@ -95,5 +99,43 @@ pub fn circle(l: &[f64], u0: f64, v0: f64, u1: f64, v1: f64) -> ContactCircle
         angle,
         contact_point0,
         contact_point1,
+    }
+}
+
+pub fn circle_with(l: &[f64], feet: &[f64]) -> ContactCircle
+    requires { ⌜ (length (now l) ≡ 13) × (length (now feet) ≡ 4) ⌝ }
+    ensures { λ r. ⌜ r ≡ circleWith (now (l .entry)) (now (feet .entry)) ⌝ }
+{
+    circle(l, feet[0], feet[1], feet[2], feet[3])
+}
+
+// With both normals.
+pub fn fillet(
+    edge_curve: VectorCurveDerivatives,
+    radius: CurveDerivatives,
+    surface0: VectorSurfaceDerivatives,
+    surface1: VectorSurfaceDerivatives,
+    l: &[f64],
+) -> RollingBallFilletSurface
+    requires { ⌜ length (now l) ≡ 6 ⌝ }
+    ensures { λ r. ⌜ r ≡ filletWith «edge_curve» radius surface0 surface1 (now (l .entry)) ⌝ }
+{
+    let normal0 = Vector3 {
+        x: l[0],
+        y: l[1],
+        z: l[2],
+    };
+    let normal1 = Vector3 {
+        x: l[3],
+        y: l[4],
+        z: l[5],
+    };
+    RollingBallFilletSurface {
+        edge_curve,
+        surface0,
+        surface1,
+        radius,
+        normal0,
+        normal1,
     }
 }
