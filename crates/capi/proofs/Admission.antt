@@ -15,11 +15,14 @@ abbrev pub pair : ℕ → List Float → ℕ × List Float
 pair c l = (c, l)
 
 -- the test is not 0, or it is
-module _ {t g : ℕ} (out : List Float) (e : t ≡ g) where
-  pub refused : (r : ℕ × List Float) → ¬ (t ≡ 0) → pair t out ≡ admitted g out r
-  refused r h = ap (λ (x : ℕ). pair x out) e ∙ rw (ne-eqb g 0 (λ q. h (e ∙ q)))
+module _ {L : Type 0} {t g : ℕ} (out : L) (e : t ≡ g) where
+  abbrev beside : ℕ → ℕ × L
+  beside c = (c, out)
 
-  pub allowed : {s r : ℕ × List Float} → t ≡ 0 → s ≡ r → s ≡ admitted g out r
+  pub refused : (r : ℕ × L) → ¬ (t ≡ 0) → beside t ≡ admitted g out r
+  refused r h = ap beside e ∙ rw (ne-eqb g 0 (λ q. h (e ∙ q)))
+
+  pub allowed : {s r : ℕ × L} → t ≡ 0 → s ≡ r → s ≡ admitted g out r
   allowed h p = p ∙ rw (eq-eqb g 0 (sym e ∙ h))
 
 -- ---- operations on jets

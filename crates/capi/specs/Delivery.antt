@@ -18,8 +18,8 @@ use Rattle.derivatives.specs.Answer.{curveIntoList, surfaceIntoList}
 use Rattle.derivatives.specs.VectorAnswer.{vectorIntoList}
 use Rattle.derivatives.specs.VectorSurfaceAnswer.{vectorSurfaceIntoList}
 
--- nothing is done where a test c of what is given is not 0
-abbrev pub admitted : ℕ → List Float → ℕ × List Float → ℕ × List Float
+-- nothing is done where a test c of what is given is not 0: what is lent, a list or several, stays as it was
+abbrev pub admitted : {L : Type 0} → ℕ → L → ℕ × L → ℕ × L
 admitted c out r = cond (eqb c 0) r (c, out)
 
 -- ---- jets, each as its own function writes it into a list

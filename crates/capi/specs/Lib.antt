@@ -3,6 +3,7 @@ pub mod Delivery
 pub mod Lists
 pub mod Values
 pub mod Operations
+pub mod Fillet
 pub mod ExactChecks
 pub mod ExactJets
 pub mod VectorOperations

@@ -13,13 +13,12 @@ ghost use Rattle.vectors.specs.Matrices.{determinant2, determinant3, image3};
 ghost use Rattle.vectors.specs.Answers.{finiteVector, finiteMatrix2, finiteMatrix3, vectorFrom, quotientFrom, inverseAnswer2, inverseAnswer3};
 ghost use Rattle.capi.specs.Given.{first, floatsGiven};
 ghost use Rattle.capi.specs.Delivery.{admitted, deliverFloat};
-ghost use Rattle.capi.specs.Values.{vectorOf, matrix2Of, matrix3Of, aVector, aMatrix2, aMatrix3, toMatrix2, toMatrix3};
+ghost use Rattle.capi.specs.Values.{aVector, aMatrix2, aMatrix3, toMatrix2, toMatrix3};
 ghost use Rattle.capi.specs.Lists.{toFloat, toVector, onTwo, onOne};
 ghost use Rattle.capi.specs.Operations.{vectorOperation, scalarOperation};
 use crate::deliver;
 use crate::given;
-use vectors::Matrix2;
-use vectors::Matrix3;
+use crate::records;
 use vectors::Vector3;
 use vectors::VectorAnswer;
 use vectors::answers;
@@ -55,51 +54,6 @@ fn work_scalar(op: ScalarOperation, a: Vector3, s: f64) -> VectorAnswer
     }
 }
 
-fn vector(l: &[f64]) -> Vector3
-    requires { ⌜ length (now l) ≡ 3 ⌝ }
-    ensures { λ r. ⌜ r ≡ vectorOf (now (l .entry)) ⌝ }
-{
-    Vector3 {
-        x: l[0],
-        y: l[1],
-        z: l[2],
-    }
-}
-
-fn matrix2(l: &[f64]) -> Matrix2
-    requires { ⌜ length (now l) ≡ 4 ⌝ }
-    ensures { λ r. ⌜ r ≡ matrix2Of (now (l .entry)) ⌝ }
-{
-    Matrix2 {
-        a: l[0],
-        b: l[1],
-        c: l[2],
-        d: l[3],
-    }
-}
-
-fn matrix3(l: &[f64]) -> Matrix3
-    requires { ⌜ length (now l) ≡ 9 ⌝ }
-    ensures { λ r. ⌜ r ≡ matrix3Of (now (l .entry)) ⌝ }
-{
-    let c0 = Vector3 {
-        x: l[0],
-        y: l[1],
-        z: l[2],
-    };
-    let c1 = Vector3 {
-        x: l[3],
-        y: l[4],
-        z: l[5],
-    };
-    let c2 = Vector3 {
-        x: l[6],
-        y: l[7],
-        z: l[8],
-    };
-    Matrix3 { c0, c1, c2 }
-}
-
 // The test of two lists, and of the one for the answer, by the counts that are due and the lengths.
 fn given_two(m: usize, a: usize, n: usize, b: usize, k: usize, out: usize) -> u8
     ensures { λ r. ⌜ r ≡ first (floatsGiven m a) (first (floatsGiven n b) (floatsGiven k out)) ⌝ }
@@ -125,8 +79,8 @@ fn on_vectors(op: VectorOperation, a: &[f64], b: &[f64], out: &mut [f64]) -> u8
     if t != 0 {
         return t;
     }
-    let x = vector(a);
-    let y = vector(b);
+    let x = records::vector(a);
+    let y = records::vector(b);
     let r = work(op, x, y);
     deliver::vector(r, out)
 }
@@ -138,7 +92,7 @@ fn on_scalar(op: ScalarOperation, a: &[f64], s: f64, out: &mut [f64]) -> u8
     if t != 0 {
         return t;
     }
-    let x = vector(a);
+    let x = records::vector(a);
     let r = work_scalar(op, x, s);
     deliver::vector(r, out)
 }
@@ -199,8 +153,8 @@ pub extern "C" fn sugamdely_vector_dot(a: &[f64], b: &[f64], out: &mut [f64]) ->
     if t != 0 {
         return t;
     }
-    let x = vector(a);
-    let y = vector(b);
+    let x = records::vector(a);
+    let y = records::vector(b);
     let r = answers::vector_dot(x, y);
     deliver::float(r, out)
 }
@@ -213,7 +167,7 @@ pub extern "C" fn sugamdely_vector_magnitude(a: &[f64], out: &mut [f64]) -> u8
     if t != 0 {
         return t;
     }
-    let x = vector(a);
+    let x = records::vector(a);
     let r = answers::vector_magnitude(x);
     deliver::float(r, out)
 }
@@ -226,7 +180,7 @@ pub extern "C" fn sugamdely_matrix2_determinant(a: &[f64], out: &mut [f64]) -> u
     if t != 0 {
         return t;
     }
-    let x = matrix2(a);
+    let x = records::matrix2(a);
     let r = answers::matrix2_determinant(x);
     deliver::float(r, out)
 }
@@ -239,7 +193,7 @@ pub extern "C" fn sugamdely_matrix2_inverse(a: &[f64], out: &mut [f64]) -> u8
     if t != 0 {
         return t;
     }
-    let x = matrix2(a);
+    let x = records::matrix2(a);
     let r = answers::matrix2_inverse(x);
     deliver::matrix2(r, out)
 }
@@ -252,7 +206,7 @@ pub extern "C" fn sugamdely_matrix3_determinant(a: &[f64], out: &mut [f64]) -> u
     if t != 0 {
         return t;
     }
-    let x = matrix3(a);
+    let x = records::matrix3(a);
     let r = answers::matrix3_determinant(x);
     deliver::float(r, out)
 }
@@ -265,7 +219,7 @@ pub extern "C" fn sugamdely_matrix3_inverse(a: &[f64], out: &mut [f64]) -> u8
     if t != 0 {
         return t;
     }
-    let x = matrix3(a);
+    let x = records::matrix3(a);
     let r = answers::matrix3_inverse(x);
     deliver::matrix3(r, out)
 }
@@ -279,8 +233,8 @@ pub extern "C" fn sugamdely_matrix3_image(a: &[f64], b: &[f64], out: &mut [f64])
     if t != 0 {
         return t;
     }
-    let x = matrix3(a);
-    let y = vector(b);
+    let x = records::matrix3(a);
+    let y = records::vector(b);
     let r = answers::matrix3_image(x, y);
     deliver::vector(r, out)
 }
