@@ -44,7 +44,6 @@ PARTS = numbered(0xa01, ['walk_start', 'walk_next', 'multiplicity', 'factorial',
 FLOATS = CURVES | SURFACES | VECTOR_CURVES | VECTOR_SURFACES | VECTORS | FILLET
 WHOLES = EXACT_CURVES | EXACT_SURFACES | WHOLE | RECIPES
 OPERATIONS = FLOATS | WHOLES | PARTS
-SERVED = {name: n for name, n in OPERATIONS.items() if name not in FILLET and name not in RECIPES}
 
 
 def size(n):

@@ -58,8 +58,7 @@ def answered(call, what):
 def some(faults):
     """Of each number the first fault, one of the middle and the last."""
     groups = [[f for f in faults if f.number == number] for number in CHECKED]
-    places = [sorted({0, len(group) // 2, len(group) - 1}) for group in groups if group]
-    return [group[place] for group, at in zip([g for g in groups if g], places) for place in at]
+    return [group[place] for group in groups if group for place in sorted({0, len(group) // 2, len(group) - 1})]
 
 
 def first_checked(few):
@@ -185,7 +184,6 @@ def jets(name):
             c.orders[0], c.lists[0], c.lent = 0, c.lists[0][:wa], [wa]
         faults.append(Fault(2, 'order 0', 'order a', change))
     faults.append(lent_fault())
-    divisor = wa if 'absolute' in plain else 1
     if not exact:
         faults.append(value_fault(5, 'a', 0, 0, NAN, 'a 0'))
         if not one:
@@ -232,19 +230,14 @@ def jets(name):
     if exact:
         return
     # entries above the order that is worked at do not count
-    if carry:
+    if carry or single and kind == 'curve':
         cut = call(2, m=1)
         cut.lists[0][-1], cut.lists[1][-1] = NAN, INFINITY
         answered(cut, '5 above the order asked')
-    elif single:
-        cut = call(2, m=1)
-        if 'surface' not in plain:
-            cut.lists[0][-1], cut.lists[1][-1] = NAN, INFINITY
-            answered(cut, '5 above the order asked')
-    elif not one:
+    elif not one and not single:
         cut = call(2)
         cut.orders[0], cut.lists[0] = 3, sample(wa * count(kind, 3))
-        cut.lists[0][-wa * (1 if kind == 'curve' else 1):] = [NAN] * wa
+        cut.lists[0][-wa:] = [NAN] * wa
         answered(cut, '5 above the smaller order')
 
 
@@ -351,7 +344,8 @@ def recipes(name):
 
     def met(few):
         """The second road carries the inputs before it works the recipe."""
-        if name == 'carry_then_build' and {f.number for f in few} == {4, 9} and not any(f.where == 'no input' for f in few):
+        numbers = {f.number for f in few}
+        if name == 'carry_then_build' and 9 in numbers and numbers <= {4, 7, 8, 9} and not any(f.where == 'no input' for f in few):
             return 9
         return first_checked(few)
     matrix(call(2, whole_sample), faults, met=met, skip=skip)
@@ -506,7 +500,7 @@ KINDS = [(jets, cases.CURVES | cases.SURFACES | cases.VECTOR_CURVES | cases.VECT
 
 
 def main():
-    for name in cases.SERVED:
+    for name in cases.OPERATIONS:
         for make, names in KINDS:
             if name in names:
                 make(name)

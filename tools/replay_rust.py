@@ -119,7 +119,7 @@ def steps(name):
 def main():
     others = {'multiplicity': multiplicities, 'walk_start': starts, 'walk_next': steps}
     with open('crates/replay_rust/stdin', 'w') as given, open('crates/replay_rust/stdout', 'w') as wanted:
-        for name in cases.SERVED:
+        for name in cases.OPERATIONS:
             if name not in others and not os.path.exists('data/rust_answers/%s.txt' % name):
                 continue
             found = list(others.get(name, floats)(name))

@@ -4,13 +4,16 @@
 mod curves;
 mod exact_curves;
 mod exact_surfaces;
+mod fillet;
 mod part_lists;
+mod recipes;
 mod surfaces;
 mod values;
 mod vector_curves;
 mod vector_surfaces;
 mod whole_numbers;
 
+use fillet::Met;
 use replay_text::first_floats;
 use replay_text::first_sizes;
 use replay_text::first_wholes;
@@ -89,13 +92,23 @@ fn of_values(op: u64, l: &[f64], ends: &[usize; 12], out: &mut [f64]) -> u8 {
     }
 }
 
+fn of_fillet(op: u64, n: &[usize], l: &[f64], ends: &[usize; 12], out: &mut [f64]) -> u8 {
+    match op {
+        0x601..=0x603 => fillet::turn(op, n, l, ends, out),
+        0x604..=0x606 => fillet::partial(op, n, l, ends, out),
+        0x607 => fillet::pair_of_orders(n, l, ends, out),
+        _ => UNKNOWN,
+    }
+}
+
 fn of_floats(op: u64, n: &[usize], l: &[f64], ends: &[usize; 12], out: &mut [f64]) -> u8 {
     match op {
         0x100..=0x1ff => of_curves(op, n, l, ends, out),
         0x200..=0x2ff => of_surfaces(op, n, l, ends, out),
         0x300..=0x3ff => of_vector_curves(op, n, l, ends, out),
         0x400..=0x4ff => of_vector_surfaces(op, n, l, ends, out),
-        _ => of_values(op, l, ends, out),
+        0x500..=0x5ff => of_values(op, l, ends, out),
+        _ => of_fillet(op, n, l, ends, out),
     }
 }
 
@@ -116,11 +129,19 @@ fn of_exact_surfaces(op: u64, n: &[usize], l: &[i64], ends: &[usize; 12], out: &
     }
 }
 
-fn of_wholes(op: u64, n: &[usize], l: &[i64], ends: &[usize; 12], out: &mut [i64]) -> u8 {
+fn of_wholes(
+    op: u64,
+    n: &[usize],
+    n_ends: &[usize; 12],
+    l: &[i64],
+    ends: &[usize; 12],
+    out: &mut [i64],
+) -> u8 {
     match op {
         0x700..=0x7ff => of_exact_curves(op, n, l, ends, out),
         0x800..=0x8ff => of_exact_surfaces(op, n, l, ends, out),
-        _ => whole_numbers::numbers(op, l, out),
+        0x900..=0x904 => whole_numbers::numbers(op, l, out),
+        _ => recipes::recipe(op, n, n_ends, l, ends, out),
     }
 }
 
@@ -131,16 +152,27 @@ fn floats_met(
     ends: &[usize; 12],
     w: &[f64],
     w_ends: &[usize; 12],
-    wanted: u64,
-) -> Outcome {
+) -> Met {
     let k = w_ends[1];
     let mut out = [FILL; 1024];
     let refusal = of_floats(op, n, l, ends, first_floats(&mut out, k));
     let same = same_floats(floats_part(&out, 0, k), floats_part(w, 0, k));
-    Outcome {
-        refusal,
-        wanted,
-        same,
+    Met { refusal, same }
+}
+
+// The fillet's two calls with several lists lent, or a call with one.
+fn met(
+    op: u64,
+    n: &[usize],
+    l: &[f64],
+    ends: &[usize; 12],
+    w: &[f64],
+    w_ends: &[usize; 12],
+) -> Met {
+    match op {
+        0x608 => fillet::contacts(n, l, ends, w, w_ends),
+        0x609 => fillet::info(n, l, ends, w, w_ends),
+        _ => floats_met(op, n, l, ends, w, w_ends),
     }
 }
 
@@ -156,7 +188,7 @@ fn wholes_case(op: u64, wanted: u64) -> Outcome {
     next_whole_lists(&mut w, &mut w_ends);
     let k = w_ends[1];
     let mut out = [WHOLE_FILL; 1024];
-    let refusal = of_wholes(op, &n, &l, &ends, first_wholes(&mut out, k));
+    let refusal = of_wholes(op, &n, &n_ends, &l, &ends, first_wholes(&mut out, k));
     let same = same_wholes(wholes_part(&out, 0, k), wholes_part(&w, 0, k));
     Outcome {
         refusal,
@@ -182,7 +214,12 @@ fn floats_case(op: u64, wanted: u64) -> Outcome {
     let mut w = [0.0f64; 1024];
     let mut w_ends = [0usize; 12];
     next_float_lists(&mut w, &mut w_ends);
-    floats_met(op, &n, &l, &ends, &w, &w_ends, wanted)
+    let m = met(op, &n, &l, &ends, &w, &w_ends);
+    Outcome {
+        refusal: m.refusal,
+        wanted,
+        same: m.same,
+    }
 }
 
 // The walk is lent as it is given, and the list for the parts filled.
