@@ -29,17 +29,9 @@ fn main() {
     }
     println!("cargo:rustc-env=ORACLE_SOURCE={}", source.display());
 
-    println!("cargo:rustc-check-cfg=cfg(ours, fillet)");
+    println!("cargo:rustc-check-cfg=cfg(ours)");
     match archive::link(&manifest.join("..")) {
-        Ok(archive) => {
-            println!("cargo:rustc-cfg=ours");
-            if holds(&archive, "sugamdely_sub_der_mn") {
-                println!("cargo:rustc-cfg=fillet");
-            }
-        }
+        Ok(_) => println!("cargo:rustc-cfg=ours"),
         Err(message) => println!("cargo:warning={}", message.replace('\n', " ")),
     }
 }
-
-/// Whether a library has a name.
-fn holds(archive: &std::path::Path, name: &str) -> bool { fs::read(archive).unwrap().windows(name.len()).any(|w| w == name.as_bytes()) }

@@ -314,7 +314,6 @@ fn list_and_float(call: fn(&[f64], f64, &mut [f64]) -> u8) -> Work {
 
 // The fillet.
 
-#[cfg(fillet)]
 mod fillet {
     use super::*;
 
@@ -513,23 +512,14 @@ pub fn ours(name: &str) -> Option<Work> {
         "recipe_surfaces" => recipe(surfaces, ffi::recipe_surfaces),
         "roads" => roads(),
 
-        #[cfg(fillet)]
         "rot_der_n" => fillet::rot_der_n(),
-        #[cfg(fillet)]
         "from_axis_angle" => fillet::from_axis_angle(),
-        #[cfg(fillet)]
         "contact_circle_derivative_n" => fillet::contact_circle_derivative_n(),
-        #[cfg(fillet)]
         "sub_center_contacts_ders" => fillet::sub_center_contacts_ders(),
-        #[cfg(fillet)]
         "vder_info" | "vder_info_of_other_orders" => fillet::vder_info(),
-        #[cfg(fillet)]
         "derivative_v" | "derivative_v_of_other_orders" => fillet::partial!(ffi::derivative_v),
-        #[cfg(fillet)]
         "derivative_uv" | "derivative_uv_of_other_orders" => fillet::partial!(ffi::derivative_uv),
-        #[cfg(fillet)]
         "derivative_vv" | "derivative_vv_of_other_orders" => fillet::partial!(ffi::derivative_vv),
-        #[cfg(fillet)]
         "sub_der_mn" => fillet::sub_der_mn(),
         _ => return None,
     })
