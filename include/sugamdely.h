@@ -6,7 +6,7 @@
 
    REFUSALS. A function returns 0 where it has answered, or the number of its refusal:
 
-     1   an order above 20 (above 19 for n of sugamdely_sub_center_contacts_ders)
+     1   an order above 20 (above 19 for n of sugamdely_sub_center_contacts_ders, and for the centre of sugamdely_vder_info)
      2   an order asked or needed exceeds a jet's; a list, or an output, of the wrong length; the derivative of a jet of order 0
      3   part lists: len 0 or above the order; a list whose parts are not positive and nonincreasing; a walk that holds no list of its walk
      4   a recipe with no jet or more than 4, with no step or more than 12, with an operation above 3, or with a step that names itself or a
