@@ -23,7 +23,7 @@ use Rattle.derivatives.specs.declared.VectorCurveDerivatives.{VectorCurveDeriva
 use Rattle.derivatives.proofs.Answers as curves
 use Rattle.derivatives.proofs.Parameters as parameters
 use Rattle.derivatives.proofs.VectorAnswers as vectors
-use Rattle.rolling_ball_fillet.specs.Jets.{farContacts, shortContacts, finiteJet, finiteNumbers, finiteDers}
+use Rattle.rolling_ball_fillet.specs.Jets.{farContacts, shortContacts, finiteJet, finiteNumbers}
 use Rattle.rolling_ball_fillet.specs.AxisAngle.{arm0, arm1, lengths, divisionByZero}
 use Rattle.rolling_ball_fillet.specs.PartialAnswer.{refusedInfo, infoAnswer, vderInfo, returnedInfo, vderInfoAnswer, finiteInfo}
 use Rattle.vectors.specs.Matrices.{determinant2, determinant3}
@@ -82,7 +82,7 @@ module _ (d : CenterContactDers) (r : CurveDerivatives) (t : Float) where
   unfit = shortContacts d (suc n) || ltb (r .order) (suc n)
 
   abbrev given : Bool
-  given = finiteDers d n && finiteNumbers r (suc n) && finite t
+  given = center.finiteContacts d n && finiteNumbers r (suc n) && finite t
 
   orders : worked .refusal ≡ 0 → Orders worked
   orders =
@@ -92,7 +92,7 @@ module _ (d : CenterContactDers) (r : CurveDerivatives) (t : Float) where
   returned : far ≡ false → Whole (returnedInfo worked n)
   returned near =
       let a = worked in
-      let p = finiteDers (a .info .«cc_ders») n in
+      let p = center.finiteContacts (a .info .«cc_ders») n in
       let q = finiteJet (a .info .«axis_ders») n in
       let s = finiteNumbers (a .info .«angle_ders») n in
       let w = finite (a .cosine) in
