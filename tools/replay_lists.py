@@ -1,0 +1,59 @@
+#!/usr/bin/env python3
+"""The input and the expected output of the program replay_lists.
+
+Run in the repository's root:  python3 tools/replay_lists.py   (writes crates/replay_lists/stdin and crates/replay_lists/stdout)
+
+Document 01: 1 for an order above 20, then 2 for a count that is not that of the order, then 5 for a float that is not finite; what stands past the
+order does not count. An answered `into_list` changes its list, which shows where every place held 7 and now holds 1.
+"""
+import os
+
+import cases
+
+NONE = 999
+# floats of a jet of the order n, as a list, and how many stand in the array that the place of a spoilt float counts in
+KINDS = [
+    (lambda n: n + 1, lambda n: n + 1),
+    (lambda n: (n + 1) * (n + 2) // 2, lambda n: (n + 1) * (n + 2) // 2),
+    (lambda n: 2 * (n + 1), lambda n: n + 1),
+    (lambda n: 3 * (n + 1), lambda n: 3 * (n + 1)),
+    (lambda n: 3 * (n + 1) * (n + 2) // 2, lambda n: 3 * (n + 1) * (n + 2) // 2),
+]
+
+
+def refusal(order, count, due, spoilt):
+    if order > 20:
+        return 1
+    if count != due:
+        return 2
+    return 5 if spoilt else 0
+
+
+def lines():
+    for way in (0, 1):
+        for kind, (due, stored) in enumerate(KINDS):
+            for order in (0, 1, 2, 20, 21, 2 ** 63):
+                right = due(min(order, 20))
+                for count in (right, right - 1, right + 1, 0):
+                    inside = count if way == 0 else stored(min(order, 20))
+                    for at in (NONE, 0, inside - 1, inside):
+                        if at < 0:
+                            continue
+                        met = refusal(order, count, right, at < inside)
+                        # a list of no floats cannot be seen to change
+                        changed = way == 1 and met == 0 and count > 0
+                        yield (way, kind, order, count, at), met, changed
+
+
+def main():
+    folder = os.path.join('crates', 'replay_lists')
+    every = list(lines())
+    with open(os.path.join(folder, 'stdin'), 'w') as out:
+        out.write(cases.size(len(every)) + '\n')
+        out.writelines(' '.join(cases.size(x) for x in case) + '\n' for case, _, _ in every)
+    with open(os.path.join(folder, 'stdout'), 'w') as out:
+        for case, met, changed in every:
+            out.write(' '.join(str(x) for x in case) + f' -> {met}' + (' changed' if changed else '') + '\n')
+
+
+main()
