@@ -76,7 +76,7 @@ def count(kind, order):
 
 
 def due(name, orders):
-    """The lengths of the lists that are due for the answer, where the orders are in order."""
+    """The lengths of the lists that are due for the answer, where the orders are in order; of the fillet, those at the highest order else."""
     name = name.removeprefix('exact_')
     width = 3 if name.startswith('vector_') or name.endswith(('scaled', 'cross')) else 1
     plain = name.removeprefix('vector_')
@@ -90,10 +90,10 @@ def due(name, orders):
     if plain.startswith(('curve_', 'surface_')):
         return [width * count(kind, min(orders[:2]))]
     if name == 'sub_center_contacts_ders':
-        n = orders[0]
+        n = min(orders[0], 19)
         return [3 * (n + 1), 3 * (n + 2), 3 * (n + 2), 2 * (n + 2), 2 * (n + 2)]
     if name == 'vder_info':
-        n = orders[0]
+        n = min(orders[0], 19)
         return [3 * (n + 1), n + 1, 1]
     if name in VECTORS:
         return [{'matrix2_inverse': 4, 'matrix3_inverse': 9, 'vector_sum': 3, 'vector_difference': 3, 'vector_cross': 3, 'matrix3_image': 3,
