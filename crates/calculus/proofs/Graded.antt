@@ -1,7 +1,8 @@
 -- The graded index of a surface's entries: which are below (N + 1)(N + 2)/2, no two share a place, and a total order's run is consecutive.
 -- Assumes nothing.
-use mathlib.Core.Path.{_≡_, refl, sym, _∙_, ap}
-use Prim.Native.Nat.{ℕ, zero, suc, _+_, _≤_, _<_}
+use mathlib.Core.Path.{_≡_, refl, sym, _∙_, ap, ap₂}
+use native.Mathlib.Nat.{mul-le-mul}
+use Prim.Native.Nat.{ℕ, zero, suc, _+_, _*_, _/_, _≤_, _<_}
 use native.Mathlib.Omega.{arith}
 use Rattle.calculus.specs.Graded.{triangle, index, after, place}
 use Rattle.calculus.proofs.Layers.{size-mono, layer-below, layer-only, layer-same, layer-place}
@@ -24,6 +25,20 @@ index-only N i j h = layer-only triangle suc triangle-suc N (i + j) i (rw (index
 pub index-231 : (i j : ℕ) → i + j ≤ 20 → index i j < 231
 unfolding triangle
 index-231 i j l = index-below 20 i j l
+
+-- how many there are up to the order n, as the code works it out
+pub count-is : (n : ℕ) → (n + 1) * (n + 2) / 2 ≡ triangle (suc n)
+unfolding triangle
+count-is n =
+    let a : n + 1 ≡ suc n = omega arith in
+    let b : n + 2 ≡ suc n + 1 = omega arith in
+    ap₂ (λ (x y : ℕ). x * y / 2) a b
+
+pub count-fits : (n : ℕ) → n ≤ 20 → (n + 1) * (n + 2) ≤ 462
+count-fits n h =
+    let a : n + 1 ≤ 21 = omega arith in
+    let b : n + 2 ≤ 22 = omega arith in
+    mul-le-mul a b
 
 -- a jet of order N fits where one of order 20 does
 pub room-231 : (N : ℕ) → N ≤ 20 → triangle (suc N) ≤ 231

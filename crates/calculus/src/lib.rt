@@ -1,6 +1,27 @@
 // The formulas on derivatives, over any kind of number and any number of variables, and their laws: see specs/ and proofs/.
 ghost use mathlib.Core.Path.{_≡_};
+ghost use mathlib.Core.Bool.{cond};
+ghost use Prim.Native.Nat.{suc, min};
+ghost use lib.Dec.{ltb};
 ghost use Rattle.calculus.specs.Choose.{pascal, binomialTable};
+ghost use Rattle.calculus.specs.Graded.{triangle};
+
+// The smaller of two orders, at which two jets meet.
+pub fn smaller(m: usize, n: usize) -> usize
+    ensures { λ r. ⌜ r ≡ min m n ⌝ }
+{
+    if m < n { m } else { n }
+}
+
+// How many entries a surface has up to the order n: none where the order is above 20.
+pub fn surface_count(n: usize) -> usize
+    ensures { λ r. ⌜ r ≡ cond (ltb 20 n) 0 (triangle (suc n)) ⌝ }
+{
+    if 20 < n {
+        return 0;
+    }
+    (n + 1) * (n + 2) / 2
+}
 
 // From the binomial coefficients C(m, 0) .. C(m, 20) to those of m + 1, from the right. Those of the orders to 31 fit.
 pub fn next_row(c: &mut [u32; 21])

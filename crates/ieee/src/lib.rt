@@ -1,9 +1,10 @@
 // Floats of 64 bits: whether one is finite, and the square root of IEEE 754, worked with whole numbers.
 ghost use mathlib.Core.Path.{_≡_};
+ghost use mathlib.Core.Bool.{_&&_, _||_};
 ghost use lib.Ieee.{binary64, ofBits, toBits};
 ghost use lib.Ieee.Scale.{finite};
 ghost use Rattle.ieee.specs.SquareRoot.{squareRoot};
-ghost use Rattle.ieee.specs.Answer.{realFrom, rootAnswer};
+ghost use Rattle.ieee.specs.Answer.{returned as returnedReal, realFrom, rootAnswer};
 
 mod root;
 
@@ -19,6 +20,19 @@ pub fn is_finite(x: f64) -> bool
 {
     let d = x - x;
     d == d
+}
+
+// Of two tests: both hold, and one of them does.
+pub fn both(p: bool, q: bool) -> bool
+    ensures { λ r. ⌜ r ≡ (p && q) ⌝ }
+{
+    if p { q } else { false }
+}
+
+pub fn either(p: bool, q: bool) -> bool
+    ensures { λ r. ⌜ r ≡ (p || q) ⌝ }
+{
+    if p { true } else { q }
 }
 
 // The float of a bit pattern, of any NaN's too.
@@ -57,15 +71,22 @@ pub fn sqrt(x: f64) -> f64
     0.0 / 0.0
 }
 
-// A float that is to be returned: refused where an input (5) or the float itself (10) is not finite.
+// A float that is to be returned: 10 where it is not finite.
+pub fn returned(y: f64) -> Real
+    ensures { λ r. ⌜ r ≡ returnedReal y ⌝ }
+{
+    if is_finite(y) {
+        return Real::Value(y);
+    }
+    Real::Refused(10)
+}
+
+// From inputs that are all finite, or not: 5 where they are not.
 pub fn real_from(inputs: bool, y: f64) -> Real
     ensures { λ r. ⌜ r ≡ realFrom inputs y ⌝ }
 {
     if inputs {
-        if is_finite(y) {
-            return Real::Value(y);
-        }
-        return Real::Refused(10);
+        return returned(y);
     }
     Real::Refused(5)
 }

@@ -3,7 +3,7 @@
 use exact::CurveDerivatives;
 use exact::SurfaceDerivatives;
 
-mod checks;
+pub mod checks;
 mod curves;
 mod roads;
 mod surfaces;

@@ -41,14 +41,17 @@ fn cut(jets: [SurfaceDerivatives; 4], inputs: usize, order: usize) -> [SurfaceDe
     hand
 }
 
-fn apply(operation: Operation, a: SurfaceDerivatives, b: SurfaceDerivatives) -> SurfaceAnswer
-    ensures { λ r. ⌜ r ≡ kind .apply operation a b ⌝ }
-{
-    match operation {
-        Operation::Sum => a.sum(b),
-        Operation::Difference => a.difference(b),
-        Operation::Product => a.combinatorial_derivatives(b),
-        Operation::Quotient => a.quotient(b),
+impl Operation {
+    // What a step makes of two surfaces.
+    pub fn on_surfaces(self, a: SurfaceDerivatives, b: SurfaceDerivatives) -> SurfaceAnswer
+        ensures { λ r. ⌜ r ≡ kind .apply self a b ⌝ }
+    {
+        match self {
+            Operation::Sum => a.sum(b),
+            Operation::Difference => a.difference(b),
+            Operation::Product => a.combinatorial_derivatives(b),
+            Operation::Quotient => a.quotient(b),
+        }
     }
 }
 
@@ -71,7 +74,7 @@ fn work(
         let right = s.right;
         let a = hand[left];
         let b = hand[right];
-        let answer = apply(operation, a, b);
+        let answer = operation.on_surfaces(a, b);
         let number = answer.refusal;
         if number != 0 {
             return exact::refused_surface(number);

@@ -7,7 +7,7 @@ ghost use Rattle.ieee.specs.Answer.{realFrom};
 ghost use Rattle.vectors.specs.Vectors.{sum, difference, multiple, dot, cross, magnitude};
 ghost use Rattle.vectors.specs.Matrices.{determinant2, determinant3, image3};
 ghost use Rattle.vectors.specs.Answers.{finiteVector, finiteMatrix2, finiteMatrix3};
-ghost use Rattle.vectors.specs.Answers.{vectorFrom, quotientFrom, inverseAnswer2, inverseAnswer3};
+ghost use Rattle.vectors.specs.Answers.{returnedVector, vectorFrom, quotientFrom, inverseAnswer2, inverseAnswer3};
 ghost use Rattle.vectors.specs.Answers.{refused2 as refusedBy2, refused3 as refusedBy3, returned2 as returnedBy2, returned3 as returnedBy3};
 use crate::Matrix2;
 use crate::Matrix2Answer;
@@ -15,17 +15,24 @@ use crate::Matrix3;
 use crate::Matrix3Answer;
 use crate::Vector3;
 use crate::VectorAnswer;
-use crate::both;
 use ieee::Real;
 
-fn vector_from(inputs: bool, v: Vector3) -> VectorAnswer
+// A vector that is to be returned: 10 where it is not finite.
+pub fn returned_vector(v: Vector3) -> VectorAnswer
+    ensures { λ r. ⌜ r ≡ returnedVector v ⌝ }
+{
+    if v.is_finite() {
+        return VectorAnswer::Value(v);
+    }
+    VectorAnswer::Refused(10)
+}
+
+// From inputs that are all finite, or not: 5 where they are not.
+pub fn vector_from(inputs: bool, v: Vector3) -> VectorAnswer
     ensures { λ r. ⌜ r ≡ vectorFrom inputs v ⌝ }
 {
     if inputs {
-        if v.is_finite() {
-            return VectorAnswer::Value(v);
-        }
-        return VectorAnswer::Refused(10);
+        return returned_vector(v);
     }
     VectorAnswer::Refused(5)
 }
@@ -33,32 +40,32 @@ fn vector_from(inputs: bool, v: Vector3) -> VectorAnswer
 pub fn vector_sum(a: Vector3, b: Vector3) -> VectorAnswer
     ensures { λ r. ⌜ r ≡ vectorFrom (finiteVector a && finiteVector b) (sum a b) ⌝ }
 {
-    let inputs = both(a.is_finite(), b.is_finite());
+    let inputs = ieee::both(a.is_finite(), b.is_finite());
     vector_from(inputs, a.add(b))
 }
 
 pub fn vector_difference(a: Vector3, b: Vector3) -> VectorAnswer
     ensures { λ r. ⌜ r ≡ vectorFrom (finiteVector a && finiteVector b) (difference a b) ⌝ }
 {
-    let inputs = both(a.is_finite(), b.is_finite());
+    let inputs = ieee::both(a.is_finite(), b.is_finite());
     vector_from(inputs, a.sub(b))
 }
 
 pub fn vector_multiple(a: Vector3, s: f64) -> VectorAnswer
     ensures { λ r. ⌜ r ≡ vectorFrom (finiteVector a && finite s) (multiple a s) ⌝ }
 {
-    let inputs = both(a.is_finite(), ieee::is_finite(s));
+    let inputs = ieee::both(a.is_finite(), ieee::is_finite(s));
     vector_from(inputs, a.mul(s))
 }
 
 pub fn vector_quotient(a: Vector3, s: f64) -> VectorAnswer
     ensures { λ r. ⌜ r ≡ quotientFrom (finiteVector a && finite s) a s ⌝ }
 {
-    if both(a.is_finite(), ieee::is_finite(s)) {
+    if ieee::both(a.is_finite(), ieee::is_finite(s)) {
         if s == 0.0 {
             return VectorAnswer::Refused(7);
         }
-        return vector_from(true, a.div(s));
+        return returned_vector(a.div(s));
     }
     VectorAnswer::Refused(5)
 }
@@ -66,14 +73,14 @@ pub fn vector_quotient(a: Vector3, s: f64) -> VectorAnswer
 pub fn vector_cross(a: Vector3, b: Vector3) -> VectorAnswer
     ensures { λ r. ⌜ r ≡ vectorFrom (finiteVector a && finiteVector b) (cross a b) ⌝ }
 {
-    let inputs = both(a.is_finite(), b.is_finite());
+    let inputs = ieee::both(a.is_finite(), b.is_finite());
     vector_from(inputs, a.cross(b))
 }
 
 pub fn vector_dot(a: Vector3, b: Vector3) -> Real
     ensures { λ r. ⌜ r ≡ realFrom (finiteVector a && finiteVector b) (dot a b) ⌝ }
 {
-    let inputs = both(a.is_finite(), b.is_finite());
+    let inputs = ieee::both(a.is_finite(), b.is_finite());
     ieee::real_from(inputs, a.dot(b))
 }
 
@@ -101,7 +108,7 @@ pub fn matrix3_determinant(m: Matrix3) -> Real
 pub fn matrix3_image(m: Matrix3, v: Vector3) -> VectorAnswer
     ensures { λ r. ⌜ r ≡ vectorFrom (finiteMatrix3 m && finiteVector v) (image3 m v) ⌝ }
 {
-    let inputs = both(m.is_finite(), v.is_finite());
+    let inputs = ieee::both(m.is_finite(), v.is_finite());
     vector_from(inputs, m.image(v))
 }
 
@@ -143,7 +150,8 @@ pub fn matrix2_inverse(m: Matrix2) -> Matrix2Answer
     refused2(5)
 }
 
-fn refused3(n: u8) -> Matrix3Answer
+// A refusal has the zero matrix beside it.
+pub fn refused3(n: u8) -> Matrix3Answer
     ensures { λ r. ⌜ r ≡ refusedBy3 n ⌝ }
 {
     let zeros = Vector3 {
@@ -161,7 +169,7 @@ fn refused3(n: u8) -> Matrix3Answer
     }
 }
 
-fn returned3(m: Matrix3) -> Matrix3Answer
+pub fn returned3(m: Matrix3) -> Matrix3Answer
     ensures { λ r. ⌜ r ≡ returnedBy3 m ⌝ }
 {
     if m.is_finite() {

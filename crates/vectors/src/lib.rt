@@ -1,7 +1,6 @@
 // Vectors and matrices of floats by value, each operation rounded in document 01's order ("Vectors"). A NaN or an infinity passes through
 // them; the functions of `answers` refuse.
 ghost use mathlib.Core.Path.{_≡_};
-ghost use mathlib.Core.Bool.{_&&_};
 ghost use Rattle.vectors.specs.Vectors.{sum, difference, negative, multiple, quotient, dot, dot2, cross, magnitude};
 ghost use Rattle.vectors.specs.Matrices.{determinant2, inverse2, negative2, image2};
 ghost use Rattle.vectors.specs.Matrices.{transposed, determinant3, inverse3, image3, sum3, multiple3};
@@ -52,12 +51,6 @@ pub struct Matrix3Answer {
     pub matrix: Matrix3,
 }
 
-fn both(p: bool, q: bool) -> bool
-    ensures { λ r. ⌜ r ≡ (p && q) ⌝ }
-{
-    if p { q } else { false }
-}
-
 impl Vector2 {
     pub fn dot(self, b: Vector2) -> f64
         ensures { λ r. ⌜ r ≡ dot2 self b ⌝ }
@@ -70,8 +63,8 @@ impl Vector3 {
     pub fn is_finite(self) -> bool
         ensures { λ r. ⌜ r ≡ finiteVector self ⌝ }
     {
-        let xy = both(ieee::is_finite(self.x), ieee::is_finite(self.y));
-        both(xy, ieee::is_finite(self.z))
+        let xy = ieee::both(ieee::is_finite(self.x), ieee::is_finite(self.y));
+        ieee::both(xy, ieee::is_finite(self.z))
     }
 
     pub fn add(self, b: Vector3) -> Vector3
@@ -151,9 +144,9 @@ impl Matrix2 {
     pub fn is_finite(self) -> bool
         ensures { λ r. ⌜ r ≡ finiteMatrix2 self ⌝ }
     {
-        let ab = both(ieee::is_finite(self.a), ieee::is_finite(self.b));
-        let abc = both(ab, ieee::is_finite(self.c));
-        both(abc, ieee::is_finite(self.d))
+        let ab = ieee::both(ieee::is_finite(self.a), ieee::is_finite(self.b));
+        let abc = ieee::both(ab, ieee::is_finite(self.c));
+        ieee::both(abc, ieee::is_finite(self.d))
     }
 
     pub fn determinant(self) -> f64
@@ -202,8 +195,8 @@ impl Matrix3 {
         let a = self.c0;
         let b = self.c1;
         let c = self.c2;
-        let ab = both(a.is_finite(), b.is_finite());
-        both(ab, c.is_finite())
+        let ab = ieee::both(a.is_finite(), b.is_finite());
+        ieee::both(ab, c.is_finite())
     }
 
     pub fn transpose(self) -> Matrix3

@@ -58,8 +58,8 @@ array-copy-out-b c =
     let long : length (a .t4) ≡ 12 = search needs in
     omega (arith, names-right curves (a .start) (a .inputs) (a .steps) (a .t4) (l .loop .inv .0) none (c .before .before .loop-test .taken) (omega (arith, long)), l .before .pre .1, l .before .pre .2, c .before .before .loop-test .taken)
 
-apply-requires : tie.Need-apply-requires Inv-loop μ-loop
-apply-requires c κs = search needs
+on-curves-requires : tie.Need-on-curves-requires Inv-loop μ-loop
+on-curves-requires c κs = search needs
 
 refused-curve-requires : tie.Need-refused-curve-requires Inv-loop μ-loop
 refused-curve-requires c κs = search needs
@@ -69,7 +69,7 @@ returns c =
     let l = c .before .before .before .before .before .before .before in
     let a = l .before .args in
     let long : length (a .t4) ≡ 12 = search needs in
-    c .refused-curve .ensures ∙ work-stops curves (a .start) (a .inputs) (a .steps) (a .t4) (l .loop .inv .0) none (c .before .before .before .before .before .before .loop-test .taken) (omega (arith, long)) (c .before .before .apply .ensures) (c .before .if1 .taken)
+    c .refused-curve .ensures ∙ work-stops curves (a .start) (a .inputs) (a .steps) (a .t4) (l .loop .inv .0) none (c .before .before .before .before .before .before .loop-test .taken) (omega (arith, long)) (c .before .before .on-curves .ensures) (c .before .if1 .taken)
 
 add-m : tie.Need-add-m Inv-loop μ-loop
 add-m c = search needs
@@ -91,8 +91,8 @@ loop-again c =
     let l = c .before .before .before .before .before .before .before in
     let a = l .before .args in
     let long : length (a .t4) ≡ 12 = search needs in (
-      work-goes-on curves (a .start) (a .inputs) (a .steps) (a .t4) (l .loop .inv .0) none (c .before .before .before .before .before .before .loop-test .taken) (omega (arith, long)) (c .before .before .apply .ensures) (c .before .if1 .left) (omega (arith, l .loop .inv .1, l .before .pre .1, l .before .pre .2)),
-      length-set (l .loop .hand) (a .inputs + l .loop .i) (c .before .before .apply .result .jet) ∙ l .loop .inv .1,
+      work-goes-on curves (a .start) (a .inputs) (a .steps) (a .t4) (l .loop .inv .0) none (c .before .before .before .before .before .before .loop-test .taken) (omega (arith, long)) (c .before .before .on-curves .ensures) (c .before .if1 .left) (omega (arith, l .loop .inv .1, l .before .pre .1, l .before .pre .2)),
+      length-set (l .loop .hand) (a .inputs + l .loop .i) (c .before .before .on-curves .result .jet) ∙ l .loop .inv .1,
     )
 
 add-last : tie.Need-add-last Inv-loop μ-loop
@@ -126,7 +126,7 @@ work-spec =
     array-copy-out-a
     mul-b
     array-copy-out-b
-    apply-requires
+    on-curves-requires
     refused-curve-requires
     returns
     add-m

@@ -32,13 +32,13 @@ returns c =
 div-requires : tie.Need-div-requires
 div-requires c κs = tt
 
-vector-from-requires : tie.Need-vector-from-requires
-vector-from-requires c κs = tt
+returned-vector-requires : tie.Need-returned-vector-requires
+returned-vector-requires c κs = tt
 
 returns-2 : tie.Need-returns-2
 returns-2 c =
     let a = c .before .before .before .before .before .before .before .args in
-    c .vector-from .ensures
+    c .returned-vector .ensures
     ∙ ap returnedVector (c .before .div .ensures)
     ∙ sym (outer (Refused 7) (returnedVector (quotient (a .a) (a .s))) (Refused 5) (sym (tested (c .before .before .before .before)) ∙ c .before .before .before .if1 .taken) (c .before .before .if2 .left))
 
@@ -56,6 +56,6 @@ vector-quotient-spec =
     both-requires
     returns
     div-requires
-    vector-from-requires
+    returned-vector-requires
     returns-2
     returns-3)

@@ -1,10 +1,10 @@
--- `roads::curves::apply` meets its contract. Assumes nothing.
+-- `roads::Operation::on_curves` meets its contract. Assumes nothing.
 use mathlib.Core.Path.{sym, ap, _∙_}
 use borrow.Author.Needs.{needs}
 use Rattle.roads.specs.declared.Operation.{Operation}
 use Rattle.roads.specs.Roads.{curves}
-use Rattle.roads.proofs.curves.apply.Statement.{statement}
-use Rattle.roads.proofs.curves.apply.Tie as tie
+use Rattle.roads.proofs.Operation.on_curves.Statement.{statement}
+use Rattle.roads.proofs.Operation.on_curves.Tie as tie
 
 enum-told : tie.Need-enum-told
 enum-told c = search needs
@@ -50,8 +50,8 @@ returns-4 c =
     let a = c .before .before .before .args in
     c .quotient .ensures ∙ sym (ap (λ (o : Operation). curves .apply o (a .a) (a .b)) (c .before .enum-told4 .given .1))
 
-pub apply-spec : {M : Type 1} → statement M
-apply-spec =
+pub on-curves-spec : {M : Type 1} → statement M
+on-curves-spec =
     tie.close
     (tie.spec
     enum-told

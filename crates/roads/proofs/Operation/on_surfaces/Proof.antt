@@ -1,10 +1,10 @@
--- `roads::surfaces::apply` meets its contract. Assumes nothing.
+-- `roads::Operation::on_surfaces` meets its contract. Assumes nothing.
 use mathlib.Core.Path.{sym, ap, _∙_}
 use borrow.Author.Needs.{needs}
 use Rattle.roads.specs.declared.Operation.{Operation}
 use Rattle.roads.specs.Roads.{surfaces}
-use Rattle.roads.proofs.surfaces.apply.Statement.{statement}
-use Rattle.roads.proofs.surfaces.apply.Tie as tie
+use Rattle.roads.proofs.Operation.on_surfaces.Statement.{statement}
+use Rattle.roads.proofs.Operation.on_surfaces.Tie as tie
 
 enum-told : tie.Need-enum-told
 enum-told c = search needs
@@ -50,8 +50,8 @@ returns-4 c =
     let a = c .before .before .before .args in
     c .quotient .ensures ∙ sym (ap (λ (o : Operation). surfaces .apply o (a .a) (a .b)) (c .before .enum-told4 .given .1))
 
-pub apply-spec : {M : Type 1} → statement M
-apply-spec =
+pub on-surfaces-spec : {M : Type 1} → statement M
+on-surfaces-spec =
     tie.close
     (tie.spec
     enum-told
