@@ -35,7 +35,8 @@
      feet              u and v on surface 0, then on surface 1: 4
      normals           of surface 0, then of surface 1: 6
 
-   A jet is its order and its list side by side (a_order, a, a_len). Orders are 0 to 20. An output has exactly the length of its answer. */
+   A jet is its order and its list side by side (a_order, a, a_len). Orders are 0 to 20. An output has exactly the length of its answer:
+   "out of 3" below says that out_len is 3. */
 #ifndef SUGAMDELY_H
 #define SUGAMDELY_H
 
@@ -81,7 +82,7 @@ uint8_t sugamdely_exact_curve_combinatorial_derivatives(size_t a_order, const in
 /* The quotient a / b, at the smaller order. */
 uint8_t sugamdely_exact_curve_quotient(size_t a_order, const int64_t *a, size_t a_len, size_t b_order, const int64_t *b, size_t b_len, int64_t *out, size_t out_len);
 
-/* ---- Exact jets of surfaces. The same, and */
+/* ---- Exact jets of surfaces. The same, and the carry along a parameter curve. */
 
 uint8_t sugamdely_exact_surface_sum(size_t a_order, const int64_t *a, size_t a_len, size_t b_order, const int64_t *b, size_t b_len, int64_t *out, size_t out_len);
 uint8_t sugamdely_exact_surface_difference(size_t a_order, const int64_t *a, size_t a_len, size_t b_order, const int64_t *b, size_t b_len, int64_t *out, size_t out_len);
@@ -175,7 +176,7 @@ uint8_t sugamdely_vector_composite_derivative(size_t a_order, const double *a, s
 /* Entries 0 to n: out of 3(n + 1). */
 uint8_t sugamdely_vector_composite_derivatives(size_t a_order, const double *a, size_t a_len, size_t c_order, const double *c, size_t c_len, size_t n, double *out, size_t out_len);
 
-/* ---- Vectors and matrices. Refusals 5, 10; 7 for a quotient, 6 for an inverse. */
+/* ---- Vectors and matrices. A vector is 3 floats, and out of 3 where nothing else is said. Refusals 5, 10; 7 for a quotient, 6 for an inverse. */
 
 /* The root of IEEE 754, rounded to nearest: out of 1. A number below zero has none: 10. */
 uint8_t sugamdely_square_root(double x, double *out, size_t out_len);
@@ -203,7 +204,7 @@ uint8_t sugamdely_matrix3_image(const double *m, size_t m_len, const double *v, 
 uint8_t sugamdely_rot_der_n(size_t x, size_t y, size_t z, size_t n, const double *axis, size_t axis_len, double s, double c, double *out, size_t out_len);
 /* The rotation itself: out of 9. */
 uint8_t sugamdely_from_axis_angle(const double *axis, size_t axis_len, double s, double c, double *out, size_t out_len);
-/* Derivative n of the contact circle by u: out of 3. */
+/* Derivative n of the contact circle by the share u of the arc: out of 3. */
 uint8_t sugamdely_contact_circle_derivative_n(size_t n, const double *circle, size_t circle_len, double s, double c, double *out, size_t out_len);
 /* How centre, contact points and their parameters move along the edge, n 0 to 19. The jets of the edge (vectors), the radius (floats) and
    both surfaces (vectors) have order n + 1 or more; what is above is cut off. The centre comes out at order n: 3(n + 1) floats. The contacts
@@ -223,7 +224,7 @@ uint8_t sugamdely_vder_info(
     size_t uv1_order, const double *uv1, size_t uv1_len, size_t radius_order, const double *radius, size_t radius_len, double angle,
     double *axis_out, size_t axis_out_len, double *angle_out, size_t angle_out_len, double *cosine_out, size_t cosine_out_len);
 /* The partials (0,1), (1,1) and (0,2) of the fillet from those jets, at the share u of the arc: out of 3. The first two need order 1 of the
-   centre, axis and angle, the last order 2; the contacts one more. */
+   centre, axis and angle, the last order 2; the contacts and their parameters one more. */
 uint8_t sugamdely_derivative_v(
     size_t center_order, const double *center, size_t center_len, size_t contact0_order, const double *contact0, size_t contact0_len,
     size_t contact1_order, const double *contact1, size_t contact1_len, size_t uv0_order, const double *uv0, size_t uv0_len,

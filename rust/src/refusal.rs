@@ -14,16 +14,27 @@ use std::fmt;
 #[derive(Clone, Copy, Debug, PartialEq, Eq, Hash)]
 #[repr(u8)]
 pub enum Refusal {
+    /// An order is above 20, or the centre's n above 19.
     OrderAbove20 = 1,
+    /// An order asked or needed exceeds a jet's, a list has the wrong length, or a jet of order 0 has no derivative.
     Shape = 2,
+    /// There are no such part lists, or the parts are not positive and nonincreasing.
     NoPartList = 3,
+    /// A recipe has no jet or more than 4, no step or more than 12, or a step that names itself or a later number.
     NoRecipe = 4,
+    /// A float handed in is not finite.
     InputNotFinite = 5,
+    /// A determinant is zero.
     ZeroDeterminant = 6,
+    /// A division by zero is due.
     DivisionByZero = 7,
+    /// An exact quotient leaves a remainder.
     Remainder = 8,
+    /// A number is formed that lies outside -2^63 to 2^63 - 1.
     OutOfRange = 9,
+    /// A float that would be returned is not finite.
     AnswerNotFinite = 10,
+    /// This pair of orders is not served.
     PairNotServed = 11,
 }
 
@@ -55,7 +66,7 @@ impl Refusal {
             OrderAbove20 => "an order is above 20, or the centre's n above 19",
             Shape => "an order asked or needed exceeds a jet's, a list has the wrong length, or a jet of order 0 has no derivative",
             NoPartList => "there are no such part lists, or the parts are not positive and nonincreasing",
-            NoRecipe => "a recipe has 1 to 4 jets and 1 to 12 steps, which name earlier numbers",
+            NoRecipe => "a recipe has no jet or more than 4, no step or more than 12, or a step that names itself or a later number",
             InputNotFinite => "a float handed in is not finite",
             ZeroDeterminant => "a determinant is zero",
             DivisionByZero => "a division by zero is due",

@@ -1,7 +1,7 @@
 //! Recipes: jets built from given ones step by step, and the two ways to bring a recipe of surfaces and a curve in their parameters together.
 //!
 //! It is proved that both ways give the same jet: where [`SurfaceRecipe::build_then_carry`] is answered, [`SurfaceRecipe::carry_then_build`] has
-//! the same answer, or forms a number outside 64 bits and is refused so.
+//! the same answer, or forms a number outside 64 bits and is refused [`Refusal::OutOfRange`].
 
 use crate::derivatives::Jet;
 use crate::exact::{CurveDerivatives, ParameterCurve, SurfaceDerivatives};

@@ -241,13 +241,14 @@ impl CenterContactDers {
 }
 
 impl VderInfo {
-    /// The partial (0, 1) at the share `u` of the arc; `s` and `c` are the sine and cosine of angle · u.
+    /// The partial (0, 1) at the share `u` of the arc; `s` and `c` are the sine and cosine of angle · u. Needs order 1 of centre, axis and angle, and 2
+    /// of contacts and parameters.
     pub fn derivative_v(&self, u: f64, s: f64, c: f64) -> Result<Vector3, Refusal> { self.partial(ffi::derivative_v, u, s, c) }
 
-    /// The partial (1, 1).
+    /// The partial (1, 1). Needs the same orders.
     pub fn derivative_uv(&self, u: f64, s: f64, c: f64) -> Result<Vector3, Refusal> { self.partial(ffi::derivative_uv, u, s, c) }
 
-    /// The partial (0, 2).
+    /// The partial (0, 2). Needs order 2 of centre, axis and angle, and 3 of contacts and parameters.
     pub fn derivative_vv(&self, u: f64, s: f64, c: f64) -> Result<Vector3, Refusal> { self.partial(ffi::derivative_vv, u, s, c) }
 
     fn partial(&self, call: Partial, u: f64, s: f64, c: f64) -> Result<Vector3, Refusal> {

@@ -37,14 +37,20 @@ pub(crate) fn vector(call: impl FnOnce(&mut [f64]) -> u8) -> Result<Vector3, Ref
 /// ```
 pub fn square_root(x: f64) -> Result<f64, Refusal> { float(|out| ffi::square_root(x, out)) }
 
+/// a + b
 pub fn vector_sum(a: Vector3, b: Vector3) -> Result<Vector3, Refusal> { vector(|out| ffi::vector_sum(&a, &b, out)) }
 
+/// a - b
 pub fn vector_difference(a: Vector3, b: Vector3) -> Result<Vector3, Refusal> { vector(|out| ffi::vector_difference(&a, &b, out)) }
 
+/// a · s
 pub fn vector_multiple(a: Vector3, s: f64) -> Result<Vector3, Refusal> { vector(|out| ffi::vector_multiple(&a, s, out)) }
 
+/// a / s
 pub fn vector_quotient(a: Vector3, s: f64) -> Result<Vector3, Refusal> { vector(|out| ffi::vector_quotient(&a, s, out)) }
 
+/// a × b
+///
 /// ```
 /// use sugamdely::vectors::vector_cross;
 ///
@@ -52,15 +58,21 @@ pub fn vector_quotient(a: Vector3, s: f64) -> Result<Vector3, Refusal> { vector(
 /// ```
 pub fn vector_cross(a: Vector3, b: Vector3) -> Result<Vector3, Refusal> { vector(|out| ffi::vector_cross(&a, &b, out)) }
 
+/// x, y and z added in turn.
 pub fn vector_dot(a: Vector3, b: Vector3) -> Result<f64, Refusal> { float(|out| ffi::vector_dot(&a, &b, out)) }
 
+/// The root of the dot product with itself.
+///
 /// ```
 /// assert_eq!(sugamdely::vectors::vector_magnitude([3.0, 4.0, 0.0]), Ok(5.0));
 /// ```
 pub fn vector_magnitude(a: Vector3) -> Result<f64, Refusal> { float(|out| ffi::vector_magnitude(&a, out)) }
 
+/// ad - bc
 pub fn matrix2_determinant(m: Matrix2) -> Result<f64, Refusal> { float(|out| ffi::matrix2_determinant(m.as_flattened(), out)) }
 
+/// (d -b; -c a), each over the determinant.
+///
 /// ```
 /// use sugamdely::{vectors::matrix2_inverse, Refusal};
 ///
@@ -71,8 +83,10 @@ pub fn matrix2_inverse(m: Matrix2) -> Result<Matrix2, Refusal> {
     written(|out| ffi::matrix2_inverse(m.as_flattened(), out)).map(|[a, b, c, d]| [[a, b], [c, d]])
 }
 
+/// c0 · (c1 × c2)
 pub fn matrix3_determinant(m: Matrix3) -> Result<f64, Refusal> { float(|out| ffi::matrix3_determinant(m.as_flattened(), out)) }
 
+/// The rows c1 × c2, c2 × c0, c0 × c1, each over the determinant.
 pub fn matrix3_inverse(m: Matrix3) -> Result<Matrix3, Refusal> { matrix3(|out| ffi::matrix3_inverse(m.as_flattened(), out)) }
 
 /// The matrix times a vector.

@@ -9,10 +9,14 @@ fn of_two(call: fn(i64, i64, &mut [i64]) -> u8, a: i64, b: i64) -> Result<i64, R
     Ok(out[0])
 }
 
+/// a + b
 pub fn sum(a: i64, b: i64) -> Result<i64, Refusal> { of_two(ffi::whole_sum, a, b) }
 
+/// a - b
 pub fn difference(a: i64, b: i64) -> Result<i64, Refusal> { of_two(ffi::whole_difference, a, b) }
 
+/// a · b
+///
 /// ```
 /// use sugamdely::{whole, Refusal};
 ///
@@ -21,7 +25,7 @@ pub fn difference(a: i64, b: i64) -> Result<i64, Refusal> { of_two(ffi::whole_di
 /// ```
 pub fn product(a: i64, b: i64) -> Result<i64, Refusal> { of_two(ffi::whole_product, a, b) }
 
-/// The exact quotient.
+/// a / b, where that is exact.
 ///
 /// ```
 /// use sugamdely::{whole, Refusal};
