@@ -185,7 +185,7 @@ def jets(name):
         faults.append(Fault(2, 'order 0', 'order a', change))
     faults.append(lent_fault())
     if not exact:
-        faults.append(value_fault(5, 'a', 0, 0, NAN, 'a 0'))
+        faults.append(value_fault(5, 'a', 0, -1 if 'absolute' in plain else 0, NAN))
         if not one:
             faults.append(value_fault(5, 'b', 1, -1, INFINITY))
         if plain.endswith('sum') or carry or 'combinatorial' in plain:
@@ -201,7 +201,7 @@ def jets(name):
 
             def change(c, alone):
                 c.lists[0][:3] = [0.0] * 3
-            faults.append(Fault(7, '', 'a 0', change))
+            faults.append(Fault(7, '', 'values 0', change))
     else:
         if plain.endswith('sum') or carry or 'combinatorial' in plain:
             faults.append(all_values(9, '', [(0, WHOLE_LARGE), (1, WHOLE_LARGE)]))
@@ -331,22 +331,28 @@ def recipes(name):
     faults = [Fault(1, 'a jet', 'orders', jet_order), count_fault(0, 'entries'), count_fault(0, 'entries more', more=True), lent_fault(),
               Fault(4, 'no input', 'orders', none), Fault(4, 'five inputs', 'orders', five), Fault(4, 'no step', 'steps', put(1, [])),
               Fault(4, '13 steps', 'steps', put(1, [0, 0, 1] * 13)), Fault(4, 'itself', 'steps', put(1, [0, 0, 2])),
-              Fault(4, 'later', 'steps', put(1, [0, 5, 1])), Fault(7, '', 'steps', first_divides(4, 0)),
+              Fault(4, 'later', 'steps', put(1, [0, 5, 1])), Fault(4, 'operation', 'steps', put(1, [4, 0, 1])),
+              Fault(2, 'steps', 'steps', put(1, [2, 0, 1, 0, 2])), Fault(7, '', 'steps', first_divides(4, 0)),
               Fault(8, '', 'steps', first_divides(5, 2)), Fault(9, '', 'values', large)]
     if roads:
-        faults += [order_fault(0, 1, 'c', 'curve', 2), order_fault(1, None, 'n'), count_fault(1, 'c')]
+        def asked(c, alone):
+            c.orders[1], c.lent = 3, [count('curve', 3)]
+        faults += [order_fault(0, 1, 'c', 'curve', 2), order_fault(1, None, 'n'), count_fault(1, 'c'), Fault(2, 'asked', 'order n', asked)]
+    no_room = {'4 five inputs', '4 13 steps', '4 operation'}
 
     def skip(few):
-        """Without an input no entries are due. Whether five inputs are carried before they are refused is not said."""
-        places = [str(f) for f in few]
-        return '4 no input' in places and any(f.number == 2 for f in few) or (
-            name == 'carry_then_build' and '9' in places and ('4 five inputs' in places or '4 13 steps' in places))
+        """Without an input no entries are due. Whether the carries of a recipe that the lists have no room for come first is not said."""
+        places = {str(f) for f in few}
+        return '4 no input' in places and any(f.number == 2 and f.where != 'asked' for f in few) or (
+            name == 'carry_then_build' and places & {'9', '2 asked'} and places & no_room)
 
     def met(few):
-        """The second road carries the inputs before it works the recipe."""
-        numbers = {f.number for f in few}
-        if name == 'carry_then_build' and 9 in numbers and numbers <= {4, 7, 8, 9} and not any(f.where == 'no input' for f in few):
+        """A road is its calls in turn: the first works the recipe before it carries, the second carries the inputs before it works the recipe."""
+        numbers, places = {f.number for f in few}, {str(f) for f in few}
+        if '4 no input' not in places and name == 'carry_then_build' and 9 in numbers and numbers <= {4, 7, 8, 9}:
             return 9
+        if '2 asked' in places and (name == 'build_then_carry' or '4 no input' in places) and numbers & {4, 7, 8, 9}:
+            return max(numbers)
         return first_checked(few)
     matrix(call(2, whole_sample), faults, met=met, skip=skip)
     for order in (0, 1, 20):
@@ -415,6 +421,26 @@ def stored(name, wanted, pick=lambda orders: True):
     raise ValueError(name)
 
 
+def place_of(items, at):
+    """Where the list stands among what is given."""
+    return [k for k, item in enumerate(items) if item != 'size'][at]
+
+
+def overflowing(call):
+    """The contact point less the centre is infinite."""
+    call.lists[0][:3], call.lists[0][7:10] = [LARGE] * 3, [-LARGE] * 3
+    return call
+
+
+def flat(call, first, at, length):
+    """The surface `at` with both tangents (length, 0, 0) and nothing else. Of length 0 its determinant is zero (6); where the square of the length
+    is infinite the determinant is not, but the cross product is zero (7)."""
+    order = call.orders[first + 2 + at]
+    tangent = [length, 0.0, 0.0]
+    rest = [0.0] * 3
+    call.lists[5 + at] = [x for i in range(order + 1) for j in range(order + 1 - i) for x in (tangent if i + j == 1 else rest)]
+
+
 def fillet(name):
     items = shape(name)
     size_names = {'rot_der_n': ['x', 'y', 'z', 'n'], 'contact_circle_derivative_n': ['n'], 'sub_center_contacts_ders': ['n'], 'sub_der_mn': ['m', 'n']}
@@ -441,7 +467,9 @@ def fillet(name):
         # floats that go in by themselves have no count
         if ',' not in where and not (name == 'vder_info' and where == 'angle'):
             faults.append(count_fault(at_list, where))
-        faults.append(value_fault(5, where, at_list, 0, NAN))
+        floats = {'axis': 3, 'circle': 13, 'feet': 4, 'normals': 6}.get(where, 1) if item != 'jet' else 1
+        parts = where.split(', ') if ',' in where else ['%s %d' % (where, k) for k in range(floats)] if floats > 1 else [where]
+        faults += [value_fault(5, part, at_list, place, NAN) for place, part in enumerate(parts)]
         at_list += 1
     if name == 'sub_center_contacts_ders':
         faults += [lent_fault(at, where) for at, where in enumerate(five)]
@@ -449,12 +477,17 @@ def fillet(name):
         faults += [lent_fault(at, where) for at, where in enumerate(['axis', 'angle', 'cosine'])]
     else:
         faults.append(lent_fault())
-    if name in ('sub_center_contacts_ders', 'sub_der_mn'):
-        first = len(size_names[name])
-        for place, where, kind, width in [(0, 'edge', 'curve', 3), (1, 'radius', 'curve', 1), (2, 's0', 'surface', 3), (3, 's1', 'surface', 3)]:
-            def needed(c, alone, place=place, kind=kind, width=width):
-                c.orders[first + place], c.lists[3 + place] = 0, c.lists[3 + place][:width]
+    # a jet of order 0 is too low wherever one is needed: the centre's own order is what is worked at for the axis and the angle
+    place = len(size_names.get(name, []))
+    for at, where in enumerate(names):
+        if items[place_of(items, at)] != 'jet':
+            continue
+        if not (name == 'vder_info' and where == 'center'):
+            def needed(c, alone, place=place, at=at, where=where):
+                c.orders[place], c.lists[at] = 0, c.lists[at][:shapes[where]]
             faults.append(Fault(2, 'needed of ' + where, 'order ' + where, needed))
+        place += 1
+    unserved = []
     if name == 'sub_der_mn':
         def pair(m, n):
             def apply(c, alone):
@@ -467,18 +500,35 @@ def fillet(name):
         for n, m in ((2, 0), (1, 1)):
             few = [f for f in faults if 'needed' in f.where or f.number in (1, 5)]
             matrix(stored(name, 0, lambda o: o[:2] == [m, n]), few, ' (%d,%d)' % (m, n), some(few))
+        # (m,0) needs no jet, but what is given counts
+        few = [f for f in small if f.where != 'm']
+        matrix(stored(name, 0, lambda o: o[:2] == [1, 0]), few, ' (1,0)', some(few))
         for m in (0, 1, 20):
             answered(stored(name, 0, lambda o: o[:2] == [m, 0]), 'order %d' % m)
+        write(overflowing(stored(name, 0, lambda o: o[:2] == [1, 0])), ['10 (1,0)'], 10)
     else:
         matrix(stored(name, 0, lambda o: name != 'sub_center_contacts_ders' or o[0] == 1), faults, '', some(faults))
-    served = {'sub_center_contacts_ders': (6, 7, 10), 'sub_der_mn': (6, 7, 10), 'vder_info': (7, 10), 'rot_der_n': (10,), 'from_axis_angle': (10,)}
+    served = {'sub_center_contacts_ders': (6, 7, 10), 'sub_der_mn': (6, 7, 10), 'vder_info': (7, 10), 'rot_der_n': (10,), 'from_axis_angle': (10,),
+              'contact_circle_derivative_n': (10,)}
     for number in served.get(name, (10,) if name.startswith('derivative') else ()):
-        base = stored(name, number, (lambda o: o[1] > 0) if name == 'sub_der_mn' else (lambda o: True))
+        if name == 'contact_circle_derivative_n':
+            base = overflowing(stored(name, 0, lambda o: o[0] == 0))
+        else:
+            base = stored(name, number, (lambda o: o[1] > 0) if name == 'sub_der_mn' else (lambda o: True))
         write(base, ['%d' % number], number)
-        for f in faults:
+        for f in faults + unserved:
             changed = copy.deepcopy(base)
             f.change(changed, False)
             write(changed, [f, '%d' % number], f.number)
+    if name in ('sub_center_contacts_ders', 'sub_der_mn'):
+        first = len(size_names[name])
+        for what, met, lengths in [('6 s0 then 7 s1', 6, (0.0, 1e200)), ('7 s0 then 6 s1', 7, (1e200, 0.0)), ('6 normals then 7 s0', 6, (1e200, 1.0))]:
+            base = stored(name, 0, lambda o: o[:first] == ([1] if first == 1 else [0, 1]))
+            for at in (0, 1):
+                flat(base, first, at, lengths[at])
+            if 'normals' in what:
+                base.lists[2] = [1.0, 0.0, 0.0] * 2
+            write(base, [what], met)
     if name == 'rot_der_n':
         for n in (0, 1, 20):
             base = stored(name, 0)
