@@ -486,16 +486,16 @@ fn roads() -> Operation {
             let mut reader = Reader::new(items);
             let (refusal, recipe) = Recipe::read(&mut reader, true);
             let (c_order, c, order) = (reader.whole(), reader.signed(), reader.whole());
-            // An order that exceeds a jet's is 2 before the recipe is looked at; so is 4 for what a recipe cannot hold.
+            // The lists are tested first, and 4 for what a recipe cannot hold; an order that exceeds a jet's is met by the carry.
             let refusal = match refusal {
                 1 => 1,
                 _ if c_order > 20 || order > 20 => 1,
                 2 => 2,
-                _ if c.len() != 2 * c_order + 2 || c_order < order || recipe.jets.iter().any(|jet| jet.order < order) => 2,
+                _ if c.len() != 2 * c_order + 2 => 2,
                 _ if !recipe.fits() => 4,
                 _ => 0,
             };
-            let along = |a: &Exact| carried(a, &c, order);
+            let along = |a: &Exact| if a.order.min(c_order) < order { Err(2) } else { carried(a, &c, order) };
             let run = |road: &dyn Fn() -> Result<Exact, u8>| outcome(if refusal == 0 { road() } else { Err(refusal) });
             let first = run(&|| along(&recipe.build()?));
             let second = run(&|| {
