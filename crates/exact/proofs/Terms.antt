@@ -1,9 +1,12 @@
 -- The coefficients of Leibniz's rule, as the table of binomials holds them, and where an entry stands. Assumes nothing.
 use mathlib.Core.Path.{_≡_, sym, ap, ap₂, _∙_, subst, fun-ext}
+use mathlib.Core.Bool.{cond}
 use Prim.Native.Nat.{ℕ, suc, _+_, _-_, _*_, _^_, _≤_, _<_}
 use native.Mathlib.Nat.{mul-le-mul, lt-of-le-of-lt, zero-add}
 use native.Mathlib.Omega.{arith}
+use lib.Dec.{ltb}
 use lib.ListN.{getD}
+use borrow.Author.Tests.{le-ltb}
 use Rattle.calculus.specs.InTurn.{inTurn}
 use Rattle.calculus.specs.Graded.{triangle, index}
 use Rattle.calculus.specs.Choose.{choose, binomialTable}
@@ -21,14 +24,12 @@ small-square n h =
     let k : n + 1 ≤ 21 = omega arith in
     mul-le-mul h k
 
-pub small-count : (n : ℕ) → n ≤ 20 → (n + 1) * (n + 2) ≤ 462
-small-count n h =
-    let k : n + 1 ≤ 21 = omega arith in
-    let l : n + 2 ≤ 22 = omega arith in
-    mul-le-mul k l
-
 pub term-place : (m i : ℕ) → i ≤ m → m ≤ 20 → index i (m - i) < 231
 term-place m i h l = index-231 i (m - i) (omega arith)
+
+-- how many entries a list has for a surface, as `calculus::surface_count` answers
+pub counted : {n r : ℕ} → n ≤ 20 → r ≡ cond (ltb 20 n) 0 (triangle (suc n)) → r ≡ triangle (suc n)
+counted {n} h e = e ∙ rw (le-ltb 20 n h)
 
 -- the product of two coefficients whose orders total at most 20 fits 32 bits
 pub small-product : {x y : ℕ} (m n i j : ℕ) → x ≡ choose m i → y ≡ choose n j → m + n ≤ 20 → x * y < 2 ^ 32

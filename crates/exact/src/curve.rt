@@ -132,7 +132,7 @@ fn on_two(f: CurveFormula, a: CurveDerivatives, b: CurveDerivatives) -> CurveAns
     }
     let x = a.entries;
     let y = b.entries;
-    entries(f, &x, &y, crate::smaller(m, n))
+    entries(f, &x, &y, calculus::smaller(m, n))
 }
 
 // The derivative, of the order n.
@@ -258,7 +258,7 @@ impl CurveDerivatives {
         if 20 < order {
             return Whole::Refused(1);
         }
-        if crate::smaller(m, n) < order {
+        if calculus::smaller(m, n) < order {
             return Whole::Refused(2);
         }
         let c = calculus::binomials();

@@ -215,7 +215,7 @@ fn on_two(f: SurfaceFormula, a: SurfaceDerivatives, b: SurfaceDerivatives) -> Su
     }
     let x = a.entries;
     let y = b.entries;
-    entries(f, &x, &y, crate::smaller(m, n))
+    entries(f, &x, &y, calculus::smaller(m, n))
 }
 
 // The derivative p times by u and q times by v, of the order n.
@@ -245,12 +245,20 @@ fn shifted(a: &[i64; 231], n: usize, p: usize, q: usize) -> SurfaceAnswer
     }
 }
 
-// How many entries there are up to the order n.
-fn count(n: usize) -> usize
-    requires { ⌜ n ≤ 20 ⌝ }
-    ensures { λ r. ⌜ r ≡ triangle (suc n) ⌝ }
+// The derivative once by u or once by v.
+fn derivative(a: SurfaceDerivatives, p: usize, q: usize) -> SurfaceAnswer
+    requires { ⌜ p + q ≡ 1 ⌝ }
+    ensures { λ r. ⌜ r ≡ surfaceDerivative (λ s i j. s (i + p) (j + q)) a ⌝ }
 {
-    (n + 1) * (n + 2) / 2
+    let n = a.order;
+    if 20 < n {
+        return crate::refused_surface(1);
+    }
+    if n == 0 {
+        return crate::refused_surface(2);
+    }
+    let x = a.entries;
+    shifted(&x, n - 1, p, q)
 }
 
 // The entries of a list: i rising, then j.
@@ -307,7 +315,7 @@ impl SurfaceDerivatives {
         if 20 < order {
             return crate::refused_surface(1);
         }
-        if list.len() == count(order) {
+        if list.len() == calculus::surface_count(order) {
             read(list, order)
         } else {
             crate::refused_surface(2)
@@ -321,7 +329,7 @@ impl SurfaceDerivatives {
         if 20 < n {
             return 1;
         }
-        if out.len() == count(n) {
+        if out.len() == calculus::surface_count(n) {
             let a = self.entries;
             write(&a, n, out);
             0
@@ -345,29 +353,13 @@ impl SurfaceDerivatives {
     pub fn derivative_u(self) -> SurfaceAnswer
         ensures { λ r. ⌜ r ≡ surfaceDerivative derivativeU self ⌝ }
     {
-        let n = self.order;
-        if 20 < n {
-            return crate::refused_surface(1);
-        }
-        if n == 0 {
-            return crate::refused_surface(2);
-        }
-        let a = self.entries;
-        shifted(&a, n - 1, 1, 0)
+        derivative(self, 1, 0)
     }
 
     pub fn derivative_v(self) -> SurfaceAnswer
         ensures { λ r. ⌜ r ≡ surfaceDerivative derivativeV self ⌝ }
     {
-        let n = self.order;
-        if 20 < n {
-            return crate::refused_surface(1);
-        }
-        if n == 0 {
-            return crate::refused_surface(2);
-        }
-        let a = self.entries;
-        shifted(&a, n - 1, 0, 1)
+        derivative(self, 0, 1)
     }
 
     // One entry of the product: [m][n].
@@ -391,7 +383,7 @@ impl SurfaceDerivatives {
         if 20 < m + n {
             return Whole::Refused(1);
         }
-        if crate::smaller(k, l) < m + n {
+        if calculus::smaller(k, l) < m + n {
             return Whole::Refused(2);
         }
         let c = calculus::binomials();
