@@ -11,7 +11,7 @@ use mir.Facts.{toZ-ofZ}
 use Rattle.whole.specs.declared.Whole.{Whole}
 use Rattle.whole.specs.declared.Whole.the-variants.{Value, Refused}
 use Rattle.calculus.specs.Graded.{index}
-use Rattle.calculus.proofs.Graded.{room-231, index-231}
+use Rattle.calculus.proofs.Graded.{room-231}
 use Rattle.calculus.proofs.Filling.{CurveStored, curve-none, curve-more, curve-all}
 use Rattle.calculus.proofs.SurfaceFilling.{SurfaceStored, surface-none, surface-more, surface-next, surface-all}
 use Rattle.exact.specs.declared.CurveAnswer.{CurveAnswer}
@@ -19,6 +19,7 @@ use Rattle.exact.specs.declared.SurfaceAnswer.{SurfaceAnswer}
 use Rattle.calculus.specs.Order.{curveEntries, surfaceEntries}
 use Rattle.exact.specs.Answer.{valueOf, refusedCurve, refusedSurface, answeredCurve, answeredSurface, unlessRefused, curveAnswer, surfaceAnswer}
 use Rattle.calculus.proofs.Left as order
+use Rattle.exact.proofs.Terms.{in-array}
 use Rattle.exact.proofs.Work as work
 
 abbrev curve : ℕ → List ℤ → CurveAnswer
@@ -100,7 +101,7 @@ module _ {f : ℕ → ℕ → Whole} {n i j : ℕ} {r : List ℤ} (p : SurfacePr
   entry-inside = p .inside .1
 
   pub entry-place : {k : ℕ} → i ≤ n → k ≡ index i j → k < 231
-  entry-place h e = rw e (index-231 i j (omega (arith, entry-inside h, p .high)))
+  entry-place h e = in-array i j e (omega (arith, entry-inside h, p .high))
 
   module _ {v : ℤ} (h : i ≤ n) (fv : SFits w64 v) (e : f i j ≡ Value v) where
     kept : SurfaceFilled f (p .high) i (j + 1) (set r (index i j) (toZ w64 (ofZ w64 v)))

@@ -1,6 +1,7 @@
 -- The coefficients of Leibniz's rule, as the table of binomials holds them, and where an entry stands. Assumes nothing.
 use mathlib.Core.Path.{_≡_, sym, ap, ap₂, _∙_, subst, fun-ext}
 use mathlib.Core.Bool.{cond}
+use mathlib.Core.List.{List}
 use Prim.Native.Nat.{ℕ, suc, _+_, _-_, _*_, _^_, _≤_, _<_}
 use native.Mathlib.Nat.{mul-le-mul, lt-of-le-of-lt, zero-add}
 use native.Mathlib.Omega.{arith}
@@ -13,19 +14,25 @@ use Rattle.calculus.specs.Choose.{choose, binomialTable}
 use Rattle.calculus.proofs.Graded.{index-is, index-231}
 use Rattle.calculus.proofs.Pascal.{binomial-at, choose-small}
 
-pub coefficient : (m i : ℕ) → i ≤ m → m ≤ 20 → getD binomialTable (index i (m - i)) 0 ≡ choose m i
-coefficient m i h l =
-    let e : i + (m - i) ≡ m = omega arith in
-    ap (λ (k : ℕ). getD binomialTable k 0) (index-is i (m - i) ∙ ap (λ (x : ℕ). triangle x + i) e) ∙ binomial-at m i h l
+-- where [i][j] stands, as the code works it out, is a place of the array
+pub in-array : {k : ℕ} (i j : ℕ) → k ≡ index i j → i + j ≤ 20 → k < 231
+in-array i j e h = rw e (index-231 i j h)
+
+-- the coefficient of the i-th term at the order m, as the table holds it
+module _ {k : ℕ} (m i : ℕ) (e : k ≡ index i (m - i)) (h : i ≤ m) (l : m ≤ 20) where
+  pub in-table : k < 231
+  in-table = in-array i (m - i) e (omega arith)
+
+  pub coefficient : {c : List ℕ} → c ≡ binomialTable → getD c k 0 ≡ choose m i
+  coefficient t =
+      let d : i + (m - i) ≡ m = omega arith in
+      ap₂ (λ (l : List ℕ) (x : ℕ). getD l x 0) t (e ∙ index-is i (m - i) ∙ ap (λ (x : ℕ). triangle x + i) d) ∙ binomial-at m i h l
 
 -- an order that is at most 20, times the next
 pub small-square : (n : ℕ) → n ≤ 20 → n * (n + 1) ≤ 420
 small-square n h =
     let k : n + 1 ≤ 21 = omega arith in
     mul-le-mul h k
-
-pub term-place : (m i : ℕ) → i ≤ m → m ≤ 20 → index i (m - i) < 231
-term-place m i h l = index-231 i (m - i) (omega arith)
 
 -- how many entries a list has for a surface, as `calculus::surface_count` answers
 pub counted : {n r : ℕ} → n ≤ 20 → r ≡ cond (ltb 20 n) 0 (triangle (suc n)) → r ≡ triangle (suc n)

@@ -15,10 +15,9 @@ use Rattle.whole.specs.declared.Whole.the-variants.{Value}
 use Rattle.calculus.specs.Kind.{regular}
 use Rattle.calculus.specs.InTurn.{inTurn, inRows}
 use Rattle.calculus.specs.Surface.{leibniz}
-use Rattle.calculus.proofs.Graded.{index-231}
 use Rattle.exact.specs.Kinds.{checked}
 use Rattle.exact.specs.Answer.{surfaceValues}
-use Rattle.exact.proofs.Terms.{from-zero, from-one}
+use Rattle.exact.proofs.Terms.{in-array, from-zero, from-one}
 use Rattle.exact.proofs.surface.owed.Statement.{statement}
 use Rattle.exact.proofs.surface.owed.Tie as tie
 
@@ -33,10 +32,10 @@ index-requires : tie.Need-index-requires Inv-loop μ-loop
 index-requires c κs = search needs
 
 mul-x : tie.Need-mul-x Inv-loop μ-loop
-mul-x c = omega (arith, c .index .ensures, index-231 (c .before .args .m) (c .before .args .n) (c .before .pre .0))
+mul-x c = omega (arith, in-array (c .before .args .m) (c .before .args .n) (c .index .ensures) (c .before .pre .0))
 
 element-copy-out-x : tie.Need-element-copy-out-x Inv-loop μ-loop
-element-copy-out-x c = omega (arith, c .index .ensures, index-231 (c .before .args .m) (c .before .args .n) (c .before .pre .0))
+element-copy-out-x c = omega (arith, in-array (c .before .args .m) (c .before .args .n) (c .index .ensures) (c .before .pre .0))
 
 owed-row-requires : tie.Need-owed-row-requires Inv-loop μ-loop
 owed-row-requires c κs = (omega arith, omega arith, c .before .before .pre .0, c .before .before .pre .1)

@@ -9,7 +9,7 @@ use lib.ListN.{getD}
 use mir.Syntax.{w64}
 use mir.Val.{SFits}
 use Rattle.whole.specs.declared.Whole.the-variants.{Value}
-use Rattle.calculus.proofs.Graded.{index-231}
+use Rattle.exact.proofs.Terms.{in-array}
 use Rattle.exact.specs.Answer.{surfaceNumbers}
 use Rattle.exact.proofs.Progress.{SurfaceProgress, surface-begins, entry-inside, entry-place, surface-goes-on, surface-turns, surface-is}
 use Rattle.exact.proofs.surface.shifted.Statement.{statement}
@@ -43,7 +43,7 @@ read-place : (c : tie.After-index2 Inv-loop μ-loop) → c .index2 .result < 231
 read-place c =
     let t = c .before .before in
     let a = t .before .before .args in
-    rw (c .index2 .ensures) (index-231 (t .before .loop .i + a .p) (t .before .loop .j + a .q) (omega (arith, entry-inside (t .before .loop .inv) (t .loop-test .taken))))
+    in-array (t .before .loop .i + a .p) (t .before .loop .j + a .q) (c .index2 .ensures) (omega (arith, entry-inside (t .before .loop .inv) (t .loop-test .taken)))
 
 mul-r : tie.Need-mul-r Inv-loop μ-loop
 mul-r c = omega (arith, read-place c)

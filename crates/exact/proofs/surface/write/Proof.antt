@@ -9,8 +9,9 @@ use lib.ListN.{length, getD, set}
 use mir.Syntax.{w64}
 use mir.Val.{SFits, toZ, ofZ}
 use mir.Facts.{toZ-ofZ}
-use Rattle.calculus.proofs.Graded.{index-231, room-231}
+use Rattle.calculus.proofs.Graded.{room-231}
 use Rattle.calculus.specs.Order.{surfaceEntries}
+use Rattle.exact.proofs.Terms.{in-array}
 use Rattle.exact.specs.Answer.{surfaceNumbers}
 use Rattle.calculus.proofs.Left.{Inside, surfaceLeft, surface-start, surface-next, surface-row, surface-end}
 use Rattle.calculus.proofs.Writing.{Writing, writing-begins, in-list, writing-goes-on, writing-turns, writing-ends, rows-length}
@@ -35,7 +36,7 @@ index-requires c κs = omega (arith, c .before .loop .inv .1 .1 (c .loop-test .t
 place : (c : tie.After-index Inv-loop μ-loop) → c .index .result < 231
 place c =
     let l = c .before .before in
-    rw (c .index .ensures) (index-231 (l .loop .i) (l .loop .j) (omega (arith, l .loop .inv .1 .1 (c .before .loop-test .taken))))
+    in-array (l .loop .i) (l .loop .j) (c .index .ensures) (omega (arith, l .loop .inv .1 .1 (c .before .loop-test .taken)))
 
 in-out : (c : tie.After-index Inv-loop μ-loop) → c .before .before .loop .l < length (c .before .before .loop .out)
 in-out c =
