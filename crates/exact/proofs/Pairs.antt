@@ -1,6 +1,5 @@
 -- How long the list of a parameter curve is. Assumes nothing.
 use mathlib.Core.Path.{_≡_, refl, ap}
-use mathlib.Core.List.{List}
 use Prim.Native.Nat.{ℕ, zero, suc, _+_, _*_}
 use native.Mathlib.Numerals.{add-one}
 use native.Mathlib.Omega.{arith}

@@ -1,6 +1,5 @@
 -- `exact::curve::entry` meets its contract. By which formula it is. Assumes nothing.
-use mathlib.Core.Path.{sym, ap, ap₂, _∙_}
-use Prim.Native.Nat.{_+_, _-_}
+use mathlib.Core.Path.{ap, ap₂, _∙_}
 use denote.Ref.{now}
 use borrow.Author.Needs.{needs}
 use lib.IntN.{pos, _+ℤ_, _-ℤ_}
@@ -9,9 +8,6 @@ use mir.Syntax.{w64}
 use mir.Val.{SFits}
 use mir.Facts.{toZ-ofZ}
 use Rattle.whole.specs.Checked.{formed}
-use Rattle.exact.specs.declared.curve.CurveFormula.{CurveFormula}
-use Rattle.exact.specs.Answer.{curveValues}
-use Rattle.exact.specs.Formula.{curveFormula}
 use Rattle.exact.proofs.curve.entry.Statement.{statement}
 use Rattle.exact.proofs.curve.entry.Tie as tie
 

@@ -1,5 +1,5 @@
 -- `exact::curve::read` meets its contract. The invariant: the entries passed stand in the array. Assumes nothing.
-use mathlib.Core.Path.{refl, _∙_}
+use mathlib.Core.Path.{refl}
 use Prim.Native.Nat.{suc, _-_}
 use denote.Ref.{now}
 use borrow.Author.Needs.{needs}

@@ -1,5 +1,5 @@
 -- `exact::parameter::halves` meets its contract. The invariant: the numbers passed stand in the array. Assumes nothing.
-use mathlib.Core.Path.{refl, ap, _∙_}
+use mathlib.Core.Path.{refl, ap}
 use Prim.Native.Nat.{suc, _+_, _-_, _*_}
 use native.Mathlib.Omega.{arith}
 use denote.Ref.{now}

@@ -1,5 +1,5 @@
 -- `exact::surface::entry` meets its contract. By which formula it is. Assumes nothing.
-use mathlib.Core.Path.{sym, ap, ap₂, _∙_}
+use mathlib.Core.Path.{ap, ap₂, _∙_}
 use Prim.Native.Nat.{_<_}
 use native.Mathlib.Omega.{arith}
 use denote.Ref.{now}
@@ -11,9 +11,6 @@ use mir.Val.{SFits}
 use mir.Facts.{toZ-ofZ}
 use Rattle.whole.specs.Checked.{formed}
 use Rattle.exact.proofs.Terms.{in-array}
-use Rattle.exact.specs.declared.surface.SurfaceFormula.{SurfaceFormula}
-use Rattle.exact.specs.Answer.{surfaceValues}
-use Rattle.exact.specs.Formula.{surfaceFormula}
 use Rattle.exact.proofs.surface.entry.Statement.{statement}
 use Rattle.exact.proofs.surface.entry.Tie as tie
 

@@ -79,8 +79,7 @@ returns : tie.Need-returns Inv-loop μ-loop
 returns c =
     let s = c .before .before .before .before .before .args in
     let e : c .before .loop .i ≡ s .m = omega arith in
-    c .before .loop .inv .0
-    ∙ ap (λ (k : ℕ). inRows (checked .minus) (inTurn (checked .minus) (surfaceValues (now (s .num)) (s .m) (s .n)) (λ j. leibniz (regular checked) (checked .times) (surfaceValues (now (s .d))) (surfaceValues (now (s .q))) (s .m) (s .n) 0 (suc j)) (s .n)) (λ i. leibniz (regular checked) (checked .times) (surfaceValues (now (s .d))) (surfaceValues (now (s .q))) (s .m) (s .n) (suc i)) k (suc (s .n))) e
+    rw e at (c .before .loop .inv .0)
 
 pub owed-spec : {M : Type 1} → statement M
 owed-spec = tie.close (tie.spec Inv-loop μ-loop index-requires mul-x element-copy-out-x owed-row-requires loop-holds add-k owed-row-requires-2 add-i loop-less loop-again returns)

@@ -1,5 +1,5 @@
 -- `exact::surface::read` meets its contract. The invariant: the entries passed stand in the array. Assumes nothing.
-use mathlib.Core.Path.{_≡_, refl, sym, ap, _∙_}
+use mathlib.Core.Path.{_≡_, refl, sym, ap}
 use Prim.Native.Nat.{ℕ, suc, _+_, _-_, _*_, _<_}
 use native.Mathlib.Omega.{arith}
 use denote.Ref.{now}
