@@ -17,7 +17,7 @@ use Rattle.calculus.specs.Kind.{Kind, regular, plain}
 use Rattle.calculus.specs.Array.{listed}
 use Rattle.calculus.specs.Curve
 use Rattle.calculus.specs.Surface
-use Rattle.calculus.proofs.Related.{Related, RelatedModules, regulars}
+use Rattle.calculus.proofs.Related.{Related, RelatedModules, regulars, CurvesAlike, SurfacesAlike}
 use Rattle.calculus.proofs.Alike.{sum-alike, difference-alike, product-alike, quotient-alike, surface-sum-alike, surface-difference-alike, surface-product-alike, surface-quotient-alike}
 use Rattle.exact.specs.Kinds.{checked, traced}
 use Rattle.calculus.specs.Order.{rows, curveEntries, surfaceEntries}
@@ -191,85 +191,56 @@ curve-exact n f g a s v =
     (verdict-exact (histories (curveEntries g n)) (exact-listed g 0 (suc n) (λ x l. v (0 + x) (omega arith) .1)))
     ∙ zero-or-nine refusedCurve (answeredCurve n a) (every inRange (numbers (histories (curveEntries g n))))
 
--- ---- the formulas, on jets of given numbers
+-- ---- a formula that keeps what the kinds' operations keep, on jets of given numbers
+module _ (n : ℕ) (f : (A : Type 0) → Kind A → (ℕ → A) → (ℕ → A) → ℕ → A)
+    (alike : (A B : Type 0) (R : A → B → Type 0) (K : Kind A) (L : Kind B) → Related R K L → (a c : ℕ → A) (b d : ℕ → B) →
+    CurvesAlike R n a b → CurvesAlike R n c d → CurvesAlike R n (f A K a c) (f B L b d)) (a b : ℕ → ℤ) where
+  formula-judged : curveAnswer (f Whole checked (λ m. Value (a m)) (λ m. Value (b m))) n ≡ judgedCurve (f Traced traced (λ m. given (a m)) (λ m. given (b m))) (f ℤ plain a b) n
+  formula-judged =
+      curve-judged n _ (f Traced traced (λ m. given (a m)) (λ m. given (b m))) _
+      (alike Traced Whole Settled traced checked settled _ _ (λ m. Value (a m)) (λ m. Value (b m)) (λ m l. settle-given (a m)) (λ m l. settle-given (b m)))
+      (alike Traced ℤ Valued traced plain valued _ _ a b (λ m l. refl) (λ m l. refl))
+
+module _ (n : ℕ) (f : (A : Type 0) → Kind A → (ℕ → ℕ → A) → (ℕ → ℕ → A) → ℕ → ℕ → A)
+    (alike : (A B : Type 0) (R : A → B → Type 0) (K : Kind A) (L : Kind B) → Related R K L → (a c : ℕ → ℕ → A) (b d : ℕ → ℕ → B) →
+    SurfacesAlike R n a b → SurfacesAlike R n c d → SurfacesAlike R n (f A K a c) (f B L b d)) (a b : ℕ → ℕ → ℤ) where
+  surface-formula-judged : surfaceAnswer (f Whole checked (λ i j. Value (a i j)) (λ i j. Value (b i j))) n
+      ≡ judgedSurface (f Traced traced (λ i j. given (a i j)) (λ i j. given (b i j))) (f ℤ plain a b) n
+  surface-formula-judged =
+      surface-judged n _ (f Traced traced (λ i j. given (a i j)) (λ i j. given (b i j))) _
+      (alike Traced Whole Settled traced checked settled _ _ (λ i j. Value (a i j)) (λ i j. Value (b i j)) (λ i j l. settle-given (a i j)) (λ i j l. settle-given (b i j)))
+      (alike Traced ℤ Valued traced plain valued _ _ a b (λ i j l. refl) (λ i j l. refl))
+
 module _ (a b : ℕ → ℤ) (n : ℕ) where
-  abbrev cs : (ℕ → ℤ) → ℕ → Whole
-  cs x m = Value (x m)
-
-  abbrev ts : (ℕ → ℤ) → ℕ → Traced
-  ts x m = given (x m)
-
-  given-settles : (x : ℕ → ℤ) (m : ℕ) → m ≤ n → Settled (ts x m) (cs x m)
-  given-settles x m l = settle-given (x m)
-
-  given-values : (x : ℕ → ℤ) (m : ℕ) → m ≤ n → Valued (ts x m) (x m)
-  given-values x m l = refl
-
   pub sum-judged : curveAnswer (Curve.sum (regular checked) (λ m. Value (a m)) (λ m. Value (b m))) n
       ≡ judgedCurve (Curve.sum (regular traced) (λ m. given (a m)) (λ m. given (b m))) (Curve.sum (regular plain) a b) n
-  sum-judged =
-      curve-judged n (Curve.sum (regular checked) (cs a) (cs b)) (Curve.sum (regular traced) (ts a) (ts b)) (Curve.sum (regular plain) a b)
-      (sum-alike Settled Settled (regular traced) (regular checked) (regulars settled) n (given-settles a) (given-settles b))
-      (sum-alike Valued Valued (regular traced) (regular plain) (regulars valued) n {a = ts a} {c = ts b} (given-values a) (given-values b))
+  sum-judged = formula-judged n (λ A K. Curve.sum (regular K)) (λ A B R K L r a c b d p q. sum-alike R R (regular K) (regular L) (regulars r) n p q) a b
 
   pub difference-judged : curveAnswer (Curve.difference (regular checked) (λ m. Value (a m)) (λ m. Value (b m))) n
       ≡ judgedCurve (Curve.difference (regular traced) (λ m. given (a m)) (λ m. given (b m))) (Curve.difference (regular plain) a b) n
-  difference-judged =
-      curve-judged n (Curve.difference (regular checked) (cs a) (cs b)) (Curve.difference (regular traced) (ts a) (ts b)) (Curve.difference (regular plain) a b)
-      (difference-alike Settled Settled (regular traced) (regular checked) (regulars settled) n (given-settles a) (given-settles b))
-      (difference-alike Valued Valued (regular traced) (regular plain) (regulars valued) n {a = ts a} {c = ts b} (given-values a) (given-values b))
+  difference-judged = formula-judged n (λ A K. Curve.difference (regular K)) (λ A B R K L r a c b d p q. difference-alike R R (regular K) (regular L) (regulars r) n p q) a b
 
   pub product-judged : curveAnswer (Curve.product checked (λ m. Value (a m)) (λ m. Value (b m))) n
       ≡ judgedCurve (Curve.product traced (λ m. given (a m)) (λ m. given (b m))) (Curve.product plain a b) n
-  product-judged =
-      curve-judged n (Curve.product checked (cs a) (cs b)) (Curve.product traced (ts a) (ts b)) (Curve.product plain a b)
-      (product-alike Settled traced checked settled n (ts a) (ts b) (cs a) (cs b) (given-settles a) (given-settles b))
-      (product-alike Valued traced plain valued n (ts a) (ts b) a b (given-values a) (given-values b))
+  product-judged = formula-judged n (λ A K. Curve.product K) (λ A B R K L r. product-alike R K L r n) a b
 
   pub quotient-judged : curveAnswer (Curve.quotient checked (λ m. Value (a m)) (λ m. Value (b m))) n
       ≡ judgedCurve (Curve.quotient traced (λ m. given (a m)) (λ m. given (b m))) (Curve.quotient plain a b) n
-  quotient-judged =
-      curve-judged n (Curve.quotient checked (cs a) (cs b)) (Curve.quotient traced (ts a) (ts b)) (Curve.quotient plain a b)
-      (quotient-alike Settled traced checked settled n (ts a) (ts b) (cs a) (cs b) (given-settles a) (given-settles b))
-      (quotient-alike Valued traced plain valued n (ts a) (ts b) a b (given-values a) (given-values b))
+  quotient-judged = formula-judged n (λ A K. Curve.quotient K) (λ A B R K L r. quotient-alike R K L r n) a b
 
 module _ (a b : ℕ → ℕ → ℤ) (n : ℕ) where
-  abbrev css : (ℕ → ℕ → ℤ) → ℕ → ℕ → Whole
-  css x i j = Value (x i j)
-
-  abbrev tss : (ℕ → ℕ → ℤ) → ℕ → ℕ → Traced
-  tss x i j = given (x i j)
-
-  all-settle : (x : ℕ → ℕ → ℤ) (i j : ℕ) → i + j ≤ n → Settled (tss x i j) (css x i j)
-  all-settle x i j l = settle-given (x i j)
-
-  all-values : (x : ℕ → ℕ → ℤ) (i j : ℕ) → i + j ≤ n → Valued (tss x i j) (x i j)
-  all-values x i j l = refl
-
   pub surface-sum-judged : surfaceAnswer (Surface.sum (regular checked) (λ i j. Value (a i j)) (λ i j. Value (b i j))) n
       ≡ judgedSurface (Surface.sum (regular traced) (λ i j. given (a i j)) (λ i j. given (b i j))) (Surface.sum (regular plain) a b) n
-  surface-sum-judged =
-      surface-judged n (Surface.sum (regular checked) (css a) (css b)) (Surface.sum (regular traced) (tss a) (tss b)) (Surface.sum (regular plain) a b)
-      (surface-sum-alike Settled Settled (regular traced) (regular checked) (regulars settled) n (all-settle a) (all-settle b))
-      (surface-sum-alike Valued Valued (regular traced) (regular plain) (regulars valued) n {a = tss a} {c = tss b} (all-values a) (all-values b))
+  surface-sum-judged = surface-formula-judged n (λ A K. Surface.sum (regular K)) (λ A B R K L r a c b d p q. surface-sum-alike R R (regular K) (regular L) (regulars r) n p q) a b
 
   pub surface-difference-judged : surfaceAnswer (Surface.difference (regular checked) (λ i j. Value (a i j)) (λ i j. Value (b i j))) n
       ≡ judgedSurface (Surface.difference (regular traced) (λ i j. given (a i j)) (λ i j. given (b i j))) (Surface.difference (regular plain) a b) n
-  surface-difference-judged =
-      surface-judged n (Surface.difference (regular checked) (css a) (css b)) (Surface.difference (regular traced) (tss a) (tss b)) (Surface.difference (regular plain) a b)
-      (surface-difference-alike Settled Settled (regular traced) (regular checked) (regulars settled) n (all-settle a) (all-settle b))
-      (surface-difference-alike Valued Valued (regular traced) (regular plain) (regulars valued) n {a = tss a} {c = tss b} (all-values a) (all-values b))
+  surface-difference-judged = surface-formula-judged n (λ A K. Surface.difference (regular K)) (λ A B R K L r a c b d p q. surface-difference-alike R R (regular K) (regular L) (regulars r) n p q) a b
 
   pub surface-product-judged : surfaceAnswer (Surface.product checked (λ i j. Value (a i j)) (λ i j. Value (b i j))) n
       ≡ judgedSurface (Surface.product traced (λ i j. given (a i j)) (λ i j. given (b i j))) (Surface.product plain a b) n
-  surface-product-judged =
-      surface-judged n (Surface.product checked (css a) (css b)) (Surface.product traced (tss a) (tss b)) (Surface.product plain a b)
-      (surface-product-alike Settled traced checked settled n (tss a) (tss b) (css a) (css b) (all-settle a) (all-settle b))
-      (surface-product-alike Valued traced plain valued n (tss a) (tss b) a b (all-values a) (all-values b))
+  surface-product-judged = surface-formula-judged n (λ A K. Surface.product K) (λ A B R K L r. surface-product-alike R K L r n) a b
 
   pub surface-quotient-judged : surfaceAnswer (Surface.quotient checked (λ i j. Value (a i j)) (λ i j. Value (b i j))) n
       ≡ judgedSurface (Surface.quotient traced (λ i j. given (a i j)) (λ i j. given (b i j))) (Surface.quotient plain a b) n
-  surface-quotient-judged =
-      surface-judged n (Surface.quotient checked (css a) (css b)) (Surface.quotient traced (tss a) (tss b)) (Surface.quotient plain a b)
-      (surface-quotient-alike Settled traced checked settled n (tss a) (tss b) (css a) (css b) (all-settle a) (all-settle b))
-      (surface-quotient-alike Valued traced plain valued n (tss a) (tss b) a b (all-values a) (all-values b))
+  surface-quotient-judged = surface-formula-judged n (λ A K. Surface.quotient K) (λ A B R K L r. surface-quotient-alike R K L r n) a b

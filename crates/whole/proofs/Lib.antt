@@ -2,6 +2,5 @@ pub mod Range
 pub mod Sums
 pub mod Products
 pub mod Quotients
-pub mod Sticky
 pub mod Answers
 pub mod History
