@@ -14,6 +14,7 @@ pub mod Filling
 pub mod SurfaceFilling
 pub mod Rows
 pub mod Pascal
+pub mod Table
 -- the integers: a ring, finite sums, exact division
 pub mod Ints
 pub mod Ring

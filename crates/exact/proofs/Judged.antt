@@ -19,6 +19,7 @@ use Rattle.calculus.specs.Curve
 use Rattle.calculus.specs.Surface
 use Rattle.calculus.proofs.Related.{Related, RelatedModules, regulars, CurvesAlike, SurfacesAlike}
 use Rattle.calculus.proofs.Alike.{sum-alike, difference-alike, product-alike, quotient-alike, surface-sum-alike, surface-difference-alike, surface-product-alike, surface-quotient-alike}
+use Rattle.exact.specs.declared.SurfaceAnswer.{SurfaceAnswer}
 use Rattle.exact.specs.Kinds.{checked, traced}
 use Rattle.calculus.specs.Order.{rows, curveEntries, surfaceEntries}
 use Rattle.exact.specs.Answer.{valueOf, refusedCurve, refusedSurface, answeredCurve, answeredSurface, unlessRefused, curveAnswer, surfaceAnswer}
@@ -134,7 +135,7 @@ rows-verdict g i (suc k) e (suc x) y l = rw (add-suc i x, ← (suc-add i x)) (ro
 curve-verdict : (g : ℕ → Traced) (n : ℕ) → verdict (histories (curveEntries g n)) ≡ 0 → (m : ℕ) → m ≤ n → verdict (g m .history) ≡ 0
 curve-verdict g n e m l = rw (← (zero-add m)) (listed-verdict g 0 (suc n) e m (omega arith))
 
-pub surface-verdict : (g : ℕ → ℕ → Traced) (n : ℕ) → verdict (histories (surfaceEntries g n)) ≡ 0 → (i j : ℕ) → i + j ≤ n → verdict (g i j .history) ≡ 0
+surface-verdict : (g : ℕ → ℕ → Traced) (n : ℕ) → verdict (histories (surfaceEntries g n)) ≡ 0 → (i j : ℕ) → i + j ≤ n → verdict (g i j .history) ≡ 0
 surface-verdict g n e i j l = rw (← (zero-add i)) (rows-verdict g 0 (suc n) e i j (omega arith))
 
 number-of : (v : ℕ) (z : ℤ) → v ≡ 0 → valueOf (settleBy v z) ≡ z
@@ -190,6 +191,19 @@ curve-exact n f g a s v =
     ∙ ap (λ (w : ℕ). byVerdict refusedCurve w (answeredCurve n a))
     (verdict-exact (histories (curveEntries g n)) (exact-listed g 0 (suc n) (λ x l. v (0 + x) (omega arith) .1)))
     ∙ zero-or-nine refusedCurve (answeredCurve n a) (every inRange (numbers (histories (curveEntries g n))))
+
+-- ---- where a surface is answered, no entry was refused
+pub surface-answered : (n : ℕ) (f : ℕ → ℕ → Whole) (g : ℕ → ℕ → Traced) (a : ℕ → ℕ → ℤ) → ((i j : ℕ) → i + j ≤ n → Settled (g i j) (f i j)) →
+    ((i j : ℕ) → i + j ≤ n → Valued (g i j) (a i j)) → surfaceAnswer f n .refusal ≡ 0 →
+    (surfaceAnswer f n ≡ answeredSurface n a) × ((i j : ℕ) → i + j ≤ n → verdict (g i j .history) ≡ 0)
+surface-answered n f g a s v e =
+    let is = surface-judged n f g a s v in
+    let w : verdict (histories (surfaceEntries g n)) ≡ 0 = none (verdict (histories (surfaceEntries g n))) (sym (ap (λ (x : SurfaceAnswer). x .refusal) is) ∙ e) in
+    (is ∙ ap (λ (x : ℕ). byVerdict refusedSurface x (answeredSurface n a)) w, surface-verdict g n w)
+  where
+    none : (x : ℕ) → byVerdict refusedSurface x (answeredSurface n a) .refusal ≡ 0 → x ≡ 0
+    none zero e = refl
+    none (suc x) e = e
 
 -- ---- a formula that keeps what the kinds' operations keep, on jets of given numbers
 module _ (n : ℕ) (f : (A : Type 0) → Kind A → (ℕ → A) → (ℕ → A) → ℕ → A)

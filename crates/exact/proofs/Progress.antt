@@ -19,7 +19,7 @@ use Rattle.exact.specs.declared.SurfaceAnswer.{SurfaceAnswer}
 use Rattle.calculus.specs.Order.{curveEntries, surfaceEntries}
 use Rattle.exact.specs.Answer.{valueOf, refusedCurve, refusedSurface, answeredCurve, answeredSurface, unlessRefused, curveAnswer, surfaceAnswer}
 use Rattle.calculus.proofs.Left as order
-use Rattle.exact.proofs.Terms.{in-array}
+use Rattle.calculus.proofs.Table.{in-array}
 use Rattle.exact.proofs.Work as work
 
 abbrev curve : ℕ → List ℤ → CurveAnswer

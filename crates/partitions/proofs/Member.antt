@@ -12,7 +12,7 @@ use Rattle.partitions.specs.Walk.{same, from}
 use Rattle.partitions.specs.Count.{falls, isList}
 use Rattle.partitions.proofs.Tests.{by-leb, by-eqb, eqb-yes, eqb-no}
 use Rattle.partitions.proofs.Down.{Down, none, one}
-use Rattle.partitions.proofs.Lists.{Every, nil, and, every-weaken, Is, sound, complete, Greater, sooner, later}
+use Rattle.partitions.proofs.Lists.{Every, nil, and, head-of, every-weaken, Is, sound, complete, Greater, sooner, later}
 
 -- ---- `same` is equality
 pub same-refl : (l : List ℕ) → same l l ≡ true
@@ -137,10 +137,7 @@ unlisted-total n k l t = unlisted n k l (λ i. t (i .sums))
 
 -- what stands from l on begins with l and is one of the lists
 pub from-is : (k m n : ℕ) (l x : List ℕ) (r : List (List ℕ)) → from l (parts k m n) ≡ x ∷ r → Is k m n x
-from-is k m n l x r e = head (subst (Every (Is k m n)) e (from-every l (sound k m n)))
-  where
-    head : Every (Is k m n) (x ∷ r) → Is k m n x
-    head (and p ps) = p
+from-is k m n l x r e = head-of (subst (Every (Is k m n)) e (from-every l (sound k m n)))
 
 pub from-head : (l x : List ℕ) (r xs : List (List ℕ)) → from l xs ≡ x ∷ r → l ≡ x
 unfolding from

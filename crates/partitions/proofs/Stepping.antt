@@ -1,19 +1,17 @@
 -- What the code of a start and of a step finds, by the walk's definition. Assumes nothing.
-use mathlib.Core.Path.{_≡_, refl, sym, ap, ap₂, subst, _∙_}
-use mathlib.Core.Bool.{Bool, true, false, cond}
-use mathlib.Core.List.{List, [], _∷_, _++_}
-use Prim.Native.Nat.{ℕ, zero, suc, _+_, _-_, _≤_, _<_, min}
+use mathlib.Core.Path.{_≡_, refl, sym, ap, ap₂, _∙_}
+use mathlib.Core.Bool.{Bool, true, false}
+use mathlib.Core.List.{List, _++_}
+use Prim.Native.Nat.{ℕ, zero, suc, _+_, _-_, _≤_, min}
 use native.Mathlib.Nat.{zero-add}
 use native.Mathlib.Omega.{arith}
 use lib.ListN.{length, take, drop, replicate, take-append-drop}
 use lib.Seq.{length-take-le}
-use Rattle.partitions.specs.Parts.{total, lists}
+use Rattle.partitions.specs.Parts.{total}
 use Rattle.partitions.specs.Count.{falls}
 use Rattle.partitions.specs.Steps.{greatest, hasNext, nextOf}
 use Rattle.partitions.specs.Walk.{padded, refusal, blank, started, startedBy, refused, atEnd, stepped}
 use Rattle.partitions.specs.declared.CompositionIter.{CompositionIter}
-use Rattle.partitions.specs.declared.Started.{Started}
-use Rattle.partitions.specs.declared.Stepped.{Stepped}
 use Rattle.partitions.proofs.Member.{listed, unlisted-falls, unlisted-total}
 use Rattle.partitions.proofs.Successor.{greatest-length, next-same}
 use Rattle.partitions.proofs.Moves.{falls-wider}

@@ -17,7 +17,7 @@ use Rattle.exact.specs.Kinds.{checked}
 use Rattle.exact.specs.Answer.{surfaceValues}
 use Rattle.calculus.proofs.Bits.{masks-le, masks-shift}
 use Rattle.exact.proofs.Masks.{termOf, entry-at}
-use Rattle.exact.proofs.Terms.{small-square}
+use Rattle.calculus.proofs.Table.{small-square}
 use Prim.Native.Nat.{_+_, _-_, _≤_, _<_}
 use native.Mathlib.Omega.{arith}
 use borrow.Author.Needs.{needs}

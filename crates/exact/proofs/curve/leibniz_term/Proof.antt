@@ -11,7 +11,7 @@ use mir.Val.{SFits}
 use mir.Facts.{toZ-ofZ}
 use Rattle.whole.specs.declared.Whole.the-variants.{Value}
 use Rattle.exact.specs.Kinds.{checked}
-use Rattle.exact.proofs.Terms.{in-table, coefficient}
+use Rattle.calculus.proofs.Table.{in-table, coefficient}
 use Rattle.exact.proofs.curve.leibniz_term.Statement.{statement}
 use Rattle.exact.proofs.curve.leibniz_term.Tie as tie
 

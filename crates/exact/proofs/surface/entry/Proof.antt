@@ -10,7 +10,7 @@ use mir.Syntax.{w64}
 use mir.Val.{SFits}
 use mir.Facts.{toZ-ofZ}
 use Rattle.whole.specs.Checked.{formed}
-use Rattle.exact.proofs.Terms.{in-array}
+use Rattle.calculus.proofs.Table.{in-array}
 use Rattle.exact.proofs.surface.entry.Statement.{statement}
 use Rattle.exact.proofs.surface.entry.Tie as tie
 

@@ -12,7 +12,7 @@ use mir.Facts.{toZ-ofZ}
 use Rattle.whole.specs.declared.Whole.the-variants.{Value}
 use Rattle.calculus.specs.Choose.{choose}
 use Rattle.exact.specs.Kinds.{checked}
-use Rattle.exact.proofs.Terms.{in-array, in-table, coefficient, small-product}
+use Rattle.calculus.proofs.Table.{in-array, in-table, coefficient, small-product}
 use Rattle.exact.proofs.surface.leibniz_term.Statement.{statement}
 use Rattle.exact.proofs.surface.leibniz_term.Tie as tie
 

@@ -17,7 +17,8 @@ use Rattle.calculus.specs.InTurn.{inTurn, inRows}
 use Rattle.calculus.specs.Surface.{leibniz}
 use Rattle.exact.specs.Kinds.{checked}
 use Rattle.exact.specs.Answer.{surfaceValues}
-use Rattle.exact.proofs.Terms.{in-array, from-zero, from-one}
+use Rattle.calculus.proofs.Table.{in-array}
+use Rattle.exact.proofs.Terms.{from-zero, from-one}
 use Rattle.exact.proofs.surface.owed.Statement.{statement}
 use Rattle.exact.proofs.surface.owed.Tie as tie
 

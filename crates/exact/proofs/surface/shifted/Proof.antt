@@ -9,7 +9,7 @@ use lib.ListN.{getD}
 use mir.Syntax.{w64}
 use mir.Val.{SFits}
 use Rattle.whole.specs.declared.Whole.the-variants.{Value}
-use Rattle.exact.proofs.Terms.{in-array}
+use Rattle.calculus.proofs.Table.{in-array}
 use Rattle.exact.specs.Answer.{surfaceNumbers}
 use Rattle.exact.proofs.Progress.{SurfaceProgress, surface-begins, entry-inside, entry-place, surface-goes-on, surface-turns, surface-is}
 use Rattle.exact.proofs.surface.shifted.Statement.{statement}

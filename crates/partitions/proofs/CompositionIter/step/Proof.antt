@@ -1,6 +1,6 @@
 -- A step: the refusals, the end, and the list that is handed out with the next or the end in its place. Assumes nothing.
-use mathlib.Core.Path.{_≡_, refl, sym, ap, _∙_}
-use Prim.Native.Nat.{ℕ, _+_, _-_, _≤_, _<_}
+use mathlib.Core.Path.{_≡_, sym, _∙_}
+use Prim.Native.Nat.{ℕ, _≤_}
 use native.Mathlib.Omega.{arith}
 use lib.ListN.{length}
 use borrow.Author.Needs.{needs}
@@ -10,15 +10,6 @@ use Rattle.partitions.specs.Walk.{refusal as refusalOf}
 use Rattle.partitions.proofs.Stepping.{step-refused, range, step-ended, step-sum, step-falls, sum-is, held-falls, step-next, step-last}
 use Rattle.partitions.proofs.CompositionIter.step.Statement.{statement}
 use Rattle.partitions.proofs.CompositionIter.step.Tie as tie
-use Rattle.partitions.proofs.CompositionIter.step.Reads as reads
-use Rattle.partitions.proofs.CompositionIter.step.Lts as lts
-use Rattle.partitions.proofs.ended.Reads as ended-reads
-use Rattle.partitions.proofs.inner.falls.Reads as falls-reads
-use Rattle.partitions.proofs.inner.next.Reads as next-reads
-use Rattle.partitions.proofs.inner.pad.Reads as pad-reads
-use Rattle.partitions.proofs.inner.total.Reads as total-reads
-use Rattle.partitions.proofs.refusal.Reads as refusal-reads
-use Rattle.partitions.proofs.refused.Reads as refused-reads
 
 -- the array has 20 parts, so that the first len of them are there
 long : (c : tie.Start) → length (c .args .self .current) ≡ 20

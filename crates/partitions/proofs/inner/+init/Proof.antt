@@ -2,7 +2,7 @@
 -- Assumes nothing.
 use lib.ListN.{length, set, length-set}
 use Rattle.partitions.proofs.Tail.{tailOf, tail-length, put-length, none-left, first-then}
-use mathlib.Core.Path.{_≡_, refl, sym, ap, _∙_}
+use mathlib.Core.Path.{_≡_, ap, _∙_}
 use native.Mathlib.Omega.{arith}
 use borrow.Author.Needs.{needs}
 use Prim.Native.Nat.{ℕ, _-_, _<_}

@@ -1,8 +1,8 @@
-use mathlib.Core.Path.{_≡_, refl, sym, ap, _∙_}
+use mathlib.Core.Path.{sym, _∙_}
 use native.Mathlib.Omega.{arith}
 use borrow.Author.Needs.{needs}
-use Prim.Native.Nat.{ℕ, _+_, _-_, _≤_, _<_}
-use lib.ListN.{length, set, length-set}
+use Prim.Native.Nat.{ℕ, _+_, _<_}
+use lib.ListN.{length}
 use Rattle.partitions.proofs.Tail.{tailOf, tail-length, put-length}
 use Rattle.partitions.proofs.Moves.{no-tail, head-positive, head-small, tail-falls, tail-total, length-le, moved-tail, moved-none, moved-anew, sum-is, lowered, lowered-length}
 use borrow.Fn.Kinds.{In}

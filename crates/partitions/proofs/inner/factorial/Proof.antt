@@ -8,8 +8,6 @@ use native.Mathlib.Omega.{arith}
 use borrow.Author.Needs.{needs}
 use Rattle.partitions.proofs.inner.factorial.Statement.{statement}
 use Rattle.partitions.proofs.inner.factorial.Tie as tie
-use Rattle.partitions.proofs.inner.factorial.Reads as reads
-use Rattle.partitions.proofs.inner.factorial.Lts as lts
 
 abbrev Inv-loop : tie.InvT-loop
 Inv-loop n f₀ i₀ f i = (i ≤ n) × (f ≡ fact i)
