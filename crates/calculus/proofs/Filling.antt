@@ -17,11 +17,6 @@ use Rattle.calculus.proofs.Rising.{before-below, before-above}
 
 -- ---- what `listed` is
 module _ {X : Type 0} where
-  pub listed-length : (g : ℕ → X) (i n : ℕ) → length (listed g i n) ≡ n
-  unfolding listed
-  listed-length g i zero = refl
-  listed-length g i (suc n) = ap suc (listed-length g (suc i) n)
-
   pub listed-same : (f g : ℕ → X) (i k n : ℕ) → ((x : ℕ) → x < n → f (i + x) ≡ g (k + x)) → listed f i n ≡ listed g k n
   unfolding listed
   listed-same f g i k zero h = refl
@@ -30,6 +25,11 @@ module _ {X : Type 0} where
       (listed-same f g (suc i) (suc k) n (λ x l. ap f (suc-add i x ∙ sym (add-suc i x)) ∙ h (suc x) (omega arith) ∙ ap g (add-suc k x ∙ sym (suc-add k x))))
 
 module _ {X : Type 0} (d : X) where
+  pub listed-length : (g : ℕ → X) (i n : ℕ) → length (listed g i n) ≡ n
+  unfolding listed
+  listed-length g i zero = refl
+  listed-length g i (suc n) = ap suc (listed-length g (suc i) n)
+
   pub listed-at : (g : ℕ → X) (i n k : ℕ) → k < n → getD (listed g i n) k d ≡ g (i + k)
   unfolding listed
   listed-at g i zero k h = absurd (not-suc-le-zero h)
@@ -38,7 +38,7 @@ module _ {X : Type 0} (d : X) where
 
 module _ {X : Type 0} (w : ℕ) (d blank : X) where
   pub filled-length : (g : ℕ → X) (n : ℕ) → length (filled w blank g n) ≡ w
-  filled-length g n = listed-length (λ k. cond (ltb k n) (g k) blank) 0 w
+  filled-length g n = listed-length d (λ k. cond (ltb k n) (g k) blank) 0 w
 
   pub filled-at : (g : ℕ → X) (n k : ℕ) → k < w → getD (filled w blank g n) k d ≡ cond (ltb k n) (g k) blank
   filled-at g n k h = listed-at d (λ k. cond (ltb k n) (g k) blank) 0 w k h ∙ ap (λ (j : ℕ). cond (ltb j n) (g j) blank) (zero-add k)

@@ -52,5 +52,5 @@ module _ {X : Type 0} where
   unfolding rows triangle
   rows-length s i zero = refl
   rows-length s i (suc k) =
-      length-append (listed (s i) 0 (suc k)) (rows s (suc i) k) ∙ ap₂ _+_ (listed-length (s i) 0 (suc k)) (rows-length s (suc i) k)
+      length-append (listed (s i) 0 (suc k)) (rows s (suc i) k) ∙ ap₂ _+_ (listed-length (s i 0) (s i) 0 (suc k)) (rows-length s (suc i) k)
       ∙ omega (arith, triangle-suc k)
