@@ -1,4 +1,4 @@
--- the laws of the formulas at the integers, and document 01's figures
+-- the laws of the formulas at the integers, and small figures
 pub mod Laws
 pub mod Figures
 -- a relation that the operations keep, the formulas keep: over any two kinds of number; and at equality
@@ -7,7 +7,7 @@ pub mod Rising
 pub mod Alike
 pub mod CarryAlike
 pub mod UpTo
--- the graded index; arrays that are filled in turn; rows of binomial coefficients
+-- the graded index; arrays that are filled in turn; binomial coefficients, by rows and in their table
 pub mod Layers
 pub mod Graded
 pub mod Filling

@@ -11,7 +11,8 @@ use lib.ListN.{length}
 use Rattle.partitions.specs.Parts.{total, parts}
 use Rattle.partitions.specs.Steps.{greatest, canInit, hasNext, nextOf}
 use Rattle.partitions.specs.Walk.{from}
-use Rattle.partitions.proofs.Tests.{by-leb, by-eqb, eqb-yes}
+use borrow.Author.Tests.{eq-eqb}
+use Rattle.partitions.proofs.Tests.{by-leb, by-eqb}
 use Rattle.partitions.proofs.Down.{Down, none, one, long}
 use Rattle.partitions.proofs.Lists.{Every, nil, and, head-of, tail-of, every-weaken, Is, sound, complete, Falling, end, then, falling, Greater}
 use Rattle.partitions.proofs.Member.{by-same, greater-not, from-here, from-there, from-every, from-member}
@@ -91,7 +92,7 @@ first-below k m n r h e =
 -- where k ≤ n ≤ m k, the greatest is there and is the first
 pub first : (k m n : ℕ) → k ≤ n → n ≤ m * k → (r : List (List ℕ)) × (parts k m n ≡ greatest k n m ∷ r)
 unfolding parts greatest
-first zero m n h g = ([], ap (λ b. cond b ([] ∷ []) []) (eqb-yes n 0 (omega arith)))
+first zero m n h g = ([], ap (λ b. cond b ([] ∷ []) []) (eq-eqb n 0 (omega arith)))
 first (suc k) zero n h g = absurd (omega arith)
 first (suc k) (suc m) n h g =
     by-leb (suc m + k) n (λ b. (r : List (List ℕ)) × (parts (suc k) (suc m) n ≡ greatest (suc k) n (suc m) ∷ r))
