@@ -1,4 +1,4 @@
-// Exact jets of surfaces.
+// Exact jets of surfaces. In the loops, c is the table of the binomial coefficients.
 ghost use mathlib.Core.Path.{_≡_};
 ghost use mathlib.Core.List.{List};
 ghost use Prim.Native.Nat.{ℕ, suc, _+_, _-_, _≤_};
@@ -18,6 +18,7 @@ use crate::SurfaceAnswer;
 use crate::SurfaceDerivatives;
 use whole::Whole;
 
+// The term [i][j] of Leibniz's rule at [m][n].
 fn leibniz_term(
     a: &[i64; 231],
     b: &[i64; 231],
@@ -167,7 +168,7 @@ fn entry(
     }
 }
 
-// Entries are formed with i rising, then j.
+// The jet that a formula forms, entry by entry, i rising, then j; the first refusal ends it.
 fn entries(f: SurfaceFormula, a: &[i64; 231], b: &[i64; 231], n: usize) -> SurfaceAnswer
     requires { ⌜ n ≤ 20 ⌝ }
     ensures { λ r. ⌜ r ≡ surfaceAnswer (risingRows (checked .nought) (surfaceFormula f (surfaceValues (now (a .entry))) (surfaceValues (now (b .entry))))) n ⌝ }
@@ -202,6 +203,7 @@ fn entries(f: SurfaceFormula, a: &[i64; 231], b: &[i64; 231], n: usize) -> Surfa
     }
 }
 
+// A formula on two jets, at the smaller order.
 fn on_two(f: SurfaceFormula, a: SurfaceDerivatives, b: SurfaceDerivatives) -> SurfaceAnswer
     ensures { λ r. ⌜ r ≡ onSurfaces (λ x y. risingRows (checked .nought) (surfaceFormula f x y)) a b ⌝ }
 {
@@ -289,6 +291,7 @@ fn read(list: &[i64], n: usize) -> SurfaceAnswer
     }
 }
 
+// The entries into such a list.
 fn write(a: &[i64; 231], n: usize, out: &mut [i64])
     requires { ⌜ (n ≤ 20) × (length (now out) ≡ triangle (suc n)) ⌝ }
     ensures { λ _. ⌜ now (out .exit) ≡ surfaceEntries (surfaceNumbers (now (a .entry))) n ⌝ }
@@ -309,6 +312,7 @@ fn write(a: &[i64; 231], n: usize, out: &mut [i64])
 }
 
 impl SurfaceDerivatives {
+    // From a list of the entries [i][j], i rising, then j.
     pub fn from_list(order: usize, list: &[i64]) -> SurfaceAnswer
         ensures { λ r. ⌜ r ≡ surfaceFromList order (now (list .entry)) ⌝ }
     {
@@ -322,6 +326,7 @@ impl SurfaceDerivatives {
         }
     }
 
+    // Into such a list: 0, or the number of the refusal.
     pub fn into_list(self, out: &mut [i64]) -> u8
         ensures { λ r. ⌜ _≡_ {A = ℕ × List ℤ} (r, now (out .exit)) (surfaceIntoList self (now (out .entry))) ⌝ }
     {
@@ -392,6 +397,7 @@ impl SurfaceDerivatives {
         product_entry(&x, &y, &c, m, n)
     }
 
+    // The product, by Leibniz's rule.
     pub fn combinatorial_derivatives(self, other: SurfaceDerivatives) -> SurfaceAnswer
         ensures { λ r. ⌜ r ≡ onSurfaces (product checked) self other ⌝ }
     {

@@ -1,4 +1,4 @@
--- A factorial up to 20, or refusal 1. Assumes nothing.
+-- `partitions::factorial` meets its contract. Assumes nothing.
 use borrow.Author.Tests.{lt-ltb, le-ltb}
 use Rattle.partitions.specs.Count.{factorialOf}
 use borrow.Author.Needs.{needs}

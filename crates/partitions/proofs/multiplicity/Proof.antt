@@ -1,4 +1,4 @@
--- The multiplicity of a list that is handed in, or its refusal. Assumes nothing.
+-- `partitions::multiplicity` meets its contract: by the tests of a list that is handed in. Assumes nothing.
 use mathlib.Core.Bool.{true, false}
 use mathlib.Core.Path.{_≡_, sym, ap, _∙_}
 use Prim.Native.Nat.{ℕ}

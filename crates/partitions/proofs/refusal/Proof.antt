@@ -1,4 +1,4 @@
--- The refusals of an order and a len, in the definition's order. Assumes nothing.
+-- `partitions::refusal` meets its contract: by the first test that holds. Assumes nothing.
 use borrow.Author.Tests.{lt-ltb, le-ltb, eq-eqb, ne-eqb}
 use Rattle.partitions.proofs.refusal.Statement.{statement}
 use Rattle.partitions.proofs.refusal.Tie as tie

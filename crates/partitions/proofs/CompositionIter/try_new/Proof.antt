@@ -1,4 +1,4 @@
--- The start of a walk: the refusals, or the first list. Assumes nothing.
+-- `partitions::CompositionIter::try_new` meets its contract: the refusals, or the first list. Assumes nothing.
 use mathlib.Core.Path.{_≡_, sym, ap, _∙_}
 use Prim.Native.Nat.{ℕ, _≤_}
 use native.Mathlib.Omega.{arith}

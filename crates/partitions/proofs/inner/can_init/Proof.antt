@@ -1,4 +1,4 @@
--- `can_init`: the two tests of the definition. Assumes nothing.
+-- `partitions::inner::can_init` meets its contract, by its two tests. Assumes nothing.
 use mathlib.Core.Path.{sym, ap}
 use borrow.Author.Tests.{le-leb, lt-leb}
 use mathlib.Core.Bool.{Bool, false, cond}

@@ -1,4 +1,4 @@
--- `factorial`: after i turns the product is that of the numbers up to i. Assumes nothing.
+-- `partitions::inner::factorial` meets its contract. The invariant: the product is that of the numbers up to i. Assumes nothing.
 use mathlib.Core.Path.{_≡_, refl, sym, ap, subst, _∙_}
 use Rattle.partitions.specs.Parts.{fact}
 use Rattle.partitions.proofs.Exact.{fact-fits}

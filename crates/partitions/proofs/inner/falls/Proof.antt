@@ -1,4 +1,4 @@
--- `falls` goes on as the definition does: the test of the whole list is the test of the parts from i on. Assumes nothing.
+-- `partitions::inner::falls` meets its contract. The invariant: the test of the parts from i on is the test of all. Assumes nothing.
 use mathlib.Core.Path.{_≡_, refl, sym, _∙_}
 use lib.ListN.{length, drop}
 use Rattle.partitions.specs.Count as Count

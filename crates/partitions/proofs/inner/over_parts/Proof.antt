@@ -1,4 +1,4 @@
--- `over_parts`: what is left to divide by, from i on, gives what the whole list gives. Assumes nothing.
+-- `partitions::inner::over_parts` meets its contract. The invariant: what is left, divided from i on, is the whole. Assumes nothing.
 use mathlib.Core.Path.{_≡_, refl, sym, ap, _∙_}
 use lib.ListN.{length, drop}
 use Rattle.partitions.specs.Parts.{divide}

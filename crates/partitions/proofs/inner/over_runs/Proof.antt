@@ -1,4 +1,5 @@
--- `over_runs`: the run that stands before i, with the runs from i on, gives what the whole list gives. Assumes nothing.
+-- `partitions::inner::over_runs` meets its contract. The invariant: what is left, divided by the run before i and those after it, is the whole.
+-- Assumes nothing.
 use mathlib.Core.Path.{_≡_, sym, ap, _∙_}
 use lib.ListN.{length, getD, drop}
 use Rattle.partitions.specs.Parts.{divide, runsFrom, runs}

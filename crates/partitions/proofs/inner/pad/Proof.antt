@@ -1,4 +1,4 @@
--- `pad`: after i turns the first i parts are copied. Assumes nothing.
+-- `partitions::inner::pad` meets its contract. The invariant: the first i parts are copied. Assumes nothing.
 use mathlib.Core.Path.{_≡_, ap, _∙_}
 use mathlib.Core.List.{List}
 use Prim.Native.Nat.{ℕ, _-_, _≤_}

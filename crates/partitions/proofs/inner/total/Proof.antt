@@ -1,4 +1,4 @@
--- `total` is the sum of the parts, or 21. The loop: what was added, with the parts from i on, is the whole sum. Assumes nothing.
+-- `partitions::inner::total` meets its contract. The invariant: what was added, with the parts from i on, is the whole sum. Assumes nothing.
 use mathlib.Core.Path.{_≡_}
 use Prim.Native.Nat.{_+_, _-_, _≤_}
 use native.Mathlib.Omega.{arith}

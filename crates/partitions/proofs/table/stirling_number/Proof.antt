@@ -1,4 +1,4 @@
--- The entry of the triangle, whose rule is proved once over the whole table (Triangle.antt). Assumes nothing.
+-- `partitions::table::stirling_number` meets its contract: the table's rule is proved once over all of it (Triangle.antt). Assumes nothing.
 use mathlib.Core.Path.{ap, _∙_}
 use Prim.Native.Nat.{_+_, _*_, _/_, _≤_, _<_}
 use native.Mathlib.Nat.{lt-of-le-of-lt, mul-le-mul}
