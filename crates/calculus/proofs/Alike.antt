@@ -54,9 +54,6 @@ module _ {S T A B : Type 0} (P : S → T → Type 0) (R : A → B → Type 0) (M
 
 -- ---- products and quotients of numbers
 module _ {A B : Type 0} (R : A → B → Type 0) (K : Kind A) (L : Kind B) (r : Related R K L) (n : ℕ) where
-  minus : (a c : A) (b d : B) → R a b → R c d → R (K .minus a c) (L .minus b d)
-  minus = r .minus
-
   module _ (a c : ℕ → A) (b d : ℕ → B) (p : CurvesAlike R n a b) (q : CurvesAlike R n c d) where
     pub product-alike : CurvesAlike R n (Curve.product K a c) (Curve.product L b d)
     product-alike = productBy-alike R R (regular K) (regular L) (regulars r) n R R (K .times) (L .times) (r .times) a c b d p q
@@ -64,7 +61,7 @@ module _ {A B : Type 0} (R : A → B → Type 0) (K : Kind A) (L : Kind B) (r : 
     -- what is left for an entry of the quotient, where the entries before it are related
     pub owed-alike : (m : ℕ) → m ≤ n → (f : ℕ → A) (g : ℕ → B) → ((i : ℕ) → i < m → R (f i) (g i)) → R (Curve.owed K a c f m) (Curve.owed L b d g m)
     owed-alike m l f g h =
-        inTurn-alike R R (K .minus) (L .minus) minus
+        inTurn-alike R R (K .minus) (L .minus) (r .minus)
         (λ i. Curve.leibniz (regular K) (K .times) c f m (suc i)) (λ i. Curve.leibniz (regular L) (L .times) d g m (suc i)) m (p m l)
         (λ i k. r .times _ _ _ _ (r .times _ _ _ _ (q (suc i) (omega arith)) (h (m - suc i) (omega arith))) (r .ofNat (choose m (suc i))))
 
@@ -87,9 +84,9 @@ module _ {A B : Type 0} (R : A → B → Type 0) (K : Kind A) (L : Kind B) (r : 
     pub surface-owed-alike : (m k : ℕ) → m + k ≤ n → (f : ℕ → ℕ → A) (g : ℕ → ℕ → B) →
         ((i j : ℕ) → i < m → i + j ≤ n → R (f i j) (g i j)) → ((j : ℕ) → j < k → R (f m j) (g m j)) → R (Surface.owed K a c f m k) (Surface.owed L b d g m k)
     surface-owed-alike m k l f g above left =
-        inRows-alike R R (K .minus) (L .minus) minus
+        inRows-alike R R (K .minus) (L .minus) (r .minus)
         (λ i. Surface.leibniz (regular K) (K .times) c f m k (suc i)) (λ i. Surface.leibniz (regular L) (L .times) d g m k (suc i)) m (suc k)
-        (inTurn-alike R R (K .minus) (L .minus) minus
+        (inTurn-alike R R (K .minus) (L .minus) (r .minus)
         (λ j. Surface.leibniz (regular K) (K .times) c f m k 0 (suc j)) (λ j. Surface.leibniz (regular L) (L .times) d g m k 0 (suc j)) k (p m k l)
         (λ j w. term 0 (suc j) (omega arith) (omega arith) (in-row (k - suc j) (omega arith))))
         (λ i j v w. term (suc i) j (omega arith) (omega arith) (above (m - suc i) (k - j) (omega arith) (omega arith)))

@@ -8,16 +8,12 @@ use lib.IntN.{ℤ, pos}
 use Rattle.calculus.proofs.Ints.{_⊕_, _⊗_, sum}
 use Rattle.calculus.specs.Choose.{choose as binom}
 use Rattle.calculus.proofs.Ring.{sums, zeros, mul-add, mul-one, add-comm, add-left-comm, pos-add}
+use Rattle.calculus.proofs.Rows.{choose-first}
 use Rattle.calculus.proofs.Sums.{sum-cong, sum-front, sum-linear, Linear}
 
 unfoldable pub leib : (ℕ → ℕ → ℤ) → ℕ → ℤ
 leib X zero = X 0 0
 leib X (suc m) = leib (λ i j. X (suc i) j) m ⊕ leib (λ i j. X i (suc j)) m
-
-pub binom-zero : (n : ℕ) → binom n 0 ≡ 1
-unfolding binom
-binom-zero zero = refl
-binom-zero (suc n) = refl
 
 pub binom-above : (n k : ℕ) → n < k → binom n k ≡ 0
 unfolding binom
@@ -52,7 +48,7 @@ module _ (X : ℕ → ℕ → ℤ) (m : ℕ) where
   pascal =
       sum-front (suc m) (λ i. X i (suc m - i) ⊗ pos (binom (suc m) i))
       ∙ ap (λ x. X 0 (suc m - 0) ⊗ pos (binom (suc m) 0) ⊕ x) (sum-cong (suc m) (λ i h. split i) ∙ sum-linear (suc m) .plus left right)
-      ∙ ap (λ (n : ℕ). X 0 (suc m - 0) ⊗ pos n ⊕ (sum (suc m) left ⊕ sum (suc m) right)) (binom-zero (suc m) ∙ sym (binom-zero m))
+      ∙ ap (λ (n : ℕ). X 0 (suc m - 0) ⊗ pos n ⊕ (sum (suc m) left ⊕ sum (suc m) right)) (choose-first (suc m) ∙ sym (choose-first m))
       ∙ add-left-comm (whole 0) (sum (suc m) left) (sum (suc m) right)
       ∙ ap (λ x. sum (suc m) left ⊕ x)
       (sym (sum-front (suc m) whole) ∙ top ∙ sum-cong (suc m) (λ i h. ap (λ n. X i n ⊗ pos (binom m i)) (lower i h)))

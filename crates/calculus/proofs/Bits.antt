@@ -7,9 +7,9 @@ use native.Mathlib.Nat.{pow-suc, one-mul, mod-eq-of-lt}
 use lib.Pow.{pow-mono}
 use native.Mathlib.Omega.{arith}
 use lib.Count as Count
-use lib.ListN.{length, drop, getD}
-use Rattle.partitions.proofs.Slices.{drop-at, drop-past}
-use Rattle.partitions.proofs.Tests.{eqb-yes, eqb-no}
+use lib.ListN.{length, drop, getD, drop-of-length-le}
+use Rattle.partitions.proofs.Slices.{drop-at}
+use borrow.Author.Tests.{eq-eqb, ne-eqb}
 use Rattle.calculus.specs.Kind.{Kind}
 use Rattle.calculus.specs.Carry.{digits, factors, ones, coordinates, surfaceEntry}
 use Rattle.calculus.specs.Graded.{index}
@@ -23,7 +23,7 @@ module _ {S : Type 0} (K : Kind S) (d : ℕ) (c : ℕ → ℕ → S) where
 
   pub factors-past : (x : S) (l : List ℕ) (p mask : ℕ) → length l ≤ p → factors K d c x (drop p l) mask ≡ x
   unfolding factors
-  factors-past x l p mask h = ap (λ r. factors K d c x r mask) (drop-past l p h)
+  factors-past x l p mask h = ap (λ r. factors K d c x r mask) (drop-of-length-le l h)
 
 -- the ones count of a mask with a bit for each part
 pub ones-digits : (l : List ℕ) (mask : ℕ) → mask < 2 ^ length l → Count.ones mask ≡ ones (digits 2 l mask)
@@ -38,10 +38,10 @@ ones-digits (a ∷ l) mask h = Count.ones-step mask ∙ ap (λ n. mask % 2 + n) 
 -- the bit of a part names its coordinate
 module _ {S : Type 0} (u v : ℕ → S) (bit a : ℕ) (x : S) where
   pub by-u : bit ≡ 0 → x ≡ u a → x ≡ coordinates u v bit a
-  by-u h e = rw (eqb-yes bit 0 h) e
+  by-u h e = rw (eq-eqb bit 0 h) e
 
   pub by-v : ¬ (bit ≡ 0) → x ≡ v a → x ≡ coordinates u v bit a
-  by-v h e = rw (eqb-no bit 0 h) e
+  by-v h e = rw (ne-eqb bit 0 h) e
 
 -- a mask with t ones names the entry that stands t places before the last of its total order
 pub entry-at : {A : Type 0} (at : ℕ → A) (l : List ℕ) (mask : ℕ) → mask < 2 ^ length l →

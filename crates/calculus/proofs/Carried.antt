@@ -15,7 +15,8 @@ use Rattle.calculus.proofs.Ring.{zero-add, mul-zero, mul-one, mul-assoc
 use Rattle.calculus.proofs.Sums.{sum-cong, sum-front, sum-linear, through-sum, times-right, Linear}
 use Rattle.calculus.proofs.Binom.{leib, leib-linear, leib-cong}
 use Rattle.calculus.proofs.Curves.{_·_, D}
-use Rattle.partitions.proofs.Tests.{by-eqb, eqb-no}
+use borrow.Author.Tests.{ne-eqb}
+use Rattle.partitions.proofs.Tests.{by-eqb}
 use Rattle.calculus.proofs.Desc.{desc, of-total, desc-linear, desc-cong, over-parts}
 use Rattle.partitions.proofs.Out.{weight}
 use Rattle.calculus.proofs.Mult.{mult, multiplicity-is}
@@ -54,7 +55,7 @@ module _ (S : Space) (c : ℕ → Curve) where
       ∙ desc-cong (suc k) (suc n) (λ l d e.
       ap₂ (λ (x : ℤ) (m : ℕ). cond (eqb (total l) (suc n)) (x ⊗ pos m) (pos 0)) (tensor-is S c s l) (multiplicity-is d)))
       ∙ sym (sum-front (suc n) (λ k. desc k (suc n) (of-total (suc n) (summand s)))
-      ∙ ap (λ b. cond b (summand s []) (pos 0) ⊕ sum (suc n) (λ k. desc (suc k) (suc n) (of-total (suc n) (summand s)))) (eqb-no 0 (suc n) (λ e. omega arith))
+      ∙ ap (λ b. cond b (summand s []) (pos 0) ⊕ sum (suc n) (λ k. desc (suc k) (suc n) (of-total (suc n) (summand s)))) (ne-eqb 0 (suc n) (λ e. omega arith))
       ∙ zero-add _)
 
   module _ (commute : (j k : ℕ) (s : S .Field) → S .∂ j (S .∂ k s) ≡ S .∂ k (S .∂ j s)) where

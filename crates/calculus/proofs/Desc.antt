@@ -13,7 +13,8 @@ use Rattle.partitions.specs.Parts.{total, parts}
 use Rattle.partitions.proofs.Down.{Down, none, one, wider, long}
 use Rattle.calculus.proofs.Ring.{middle, zeros, mul-add, zero-add, add-zero, add-assoc}
 use Rattle.calculus.proofs.Sums.{Linear, at-zero}
-use Rattle.partitions.proofs.Tests.{by-leb, by-eqb, eqb-yes, eqb-no, eqb-iff}
+use borrow.Author.Tests.{eq-eqb, ne-eqb}
+use Rattle.partitions.proofs.Tests.{by-leb, by-eqb, eqb-iff}
 
 -- the sum of f over the nonincreasing lists of k parts from 1 to m
 unfoldable pub desc : ℕ → ℕ → (List ℕ → ℤ) → ℤ
@@ -66,7 +67,7 @@ no-large zero m w f h = refl
 no-large (suc k) zero w f h = refl
 no-large (suc k) (suc m) w f h =
     ap₂ (λ x y. x ⊕ y)
-    (ap (desc k (suc m)) (fun-ext (λ l. ap (λ b. cond b (f l) (without (suc w) l (λ r. f (suc m ∷ r)))) (eqb-no (suc m) (suc w) (λ e. omega arith))))
+    (ap (desc k (suc m)) (fun-ext (λ l. ap (λ b. cond b (f l) (without (suc w) l (λ r. f (suc m ∷ r)))) (ne-eqb (suc m) (suc w) (λ e. omega arith))))
     ∙ no-large k (suc m) w (λ r. f (suc m ∷ r)) h)
     (no-large (suc k) m w f (omega arith))
     ∙ zero-add (pos 0)
@@ -103,8 +104,8 @@ pub over-parts : (k m n : ℕ) (f : List ℕ → ℤ) → over (parts k m n) f �
 unfolding over desc parts total
 over-parts zero m n f =
     by-eqb n 0 (λ b. over (cond b ([] ∷ []) []) f ≡ of-total n f [])
-    (λ e. add-zero (f []) ∙ ap (λ b. cond b (f []) (pos 0)) (sym (eqb-yes 0 n (sym e))))
-    (λ ne. ap (λ b. cond b (f []) (pos 0)) (sym (eqb-no 0 n (λ e. ne (sym e)))))
+    (λ e. add-zero (f []) ∙ ap (λ b. cond b (f []) (pos 0)) (sym (eq-eqb 0 n (sym e))))
+    (λ ne. ap (λ b. cond b (f []) (pos 0)) (sym (ne-eqb 0 n (λ e. ne (sym e)))))
 over-parts (suc k) zero n f = refl
 over-parts (suc k) (suc m) n f =
     over-append (cond (leb (suc m) n) (map (λ l. suc m ∷ l) (parts k (suc m) (n - suc m))) []) (parts (suc k) m n) f
@@ -114,7 +115,7 @@ over-parts (suc k) (suc m) n f =
     ∙ over-parts k (suc m) (n - suc m) (λ l. f (suc m ∷ l))
     ∙ ap (desc k (suc m)) (fun-ext (λ l. ap (λ b. cond b (f (suc m ∷ l)) (pos 0)) (same l h))))
     (λ h. sym (at-zero (desc k (suc m)) (desc-linear k (suc m)))
-    ∙ ap (desc k (suc m)) (fun-ext (λ l. ap (λ b. cond b (f (suc m ∷ l)) (pos 0)) (sym (eqb-no (suc m + total l) n (λ e. omega arith)))))))
+    ∙ ap (desc k (suc m)) (fun-ext (λ l. ap (λ b. cond b (f (suc m ∷ l)) (pos 0)) (sym (ne-eqb (suc m + total l) n (λ e. omega arith)))))))
     (over-parts (suc k) m n f)
   where
     same : (l : List ℕ) → suc m ≤ n → eqb (total l) (n - suc m) ≡ eqb (suc m + total l) n
@@ -129,7 +130,7 @@ desc-cong (suc k) (suc m) h =
 
 -- a list with the sum n has no part above n, and at most n of them
 of-total-no : (n : ℕ) (f : List ℕ → ℤ) (l : List ℕ) → ¬ (total l ≡ n) → of-total n f l ≡ pos 0
-of-total-no n f l h = ap (λ b. cond b (f l) (pos 0)) (eqb-no (total l) n h)
+of-total-no n f l h = ap (λ b. cond b (f l) (pos 0)) (ne-eqb (total l) n h)
 
 pub too-long : (k m n : ℕ) (f : List ℕ → ℤ) → n < k → desc k m (of-total n f) ≡ pos 0
 too-long k m n f h =

@@ -13,7 +13,8 @@ use Rattle.partitions.specs.Parts.{total}
 use Rattle.calculus.proofs.Ring.{zero-add, add-zero, zero-mul, mul-assoc}
 use Rattle.calculus.proofs.Sums.{sum-cong, sum-front, sum-linear, times-right, through-sum, at-zero}
 use Rattle.calculus.proofs.Binom.{leib, leib-is}
-use Rattle.partitions.proofs.Tests.{by-eqb, by-leb, eqb-yes, eqb-no}
+use borrow.Author.Tests.{eq-eqb, ne-eqb}
+use Rattle.partitions.proofs.Tests.{by-eqb, by-leb}
 use Rattle.calculus.proofs.Desc.{desc, without, of-total, reindex, desc-linear, without-linear, desc-cong, narrow, too-long}
 use Rattle.partitions.proofs.Out.{Out, Pos, down-pos, out-total}
 use Rattle.calculus.proofs.Out.{without-cong}
@@ -50,14 +51,14 @@ module _ (T : List ℕ → ℤ) (symm : (v : ℕ) (l r : List ℕ) → Out v l r
       by-eqb (total l) (suc n) (λ b. cond b (T l ⊗ pos (mult l)) (pos 0) ≡ sum (suc n) (λ w. without (suc w) l (one-part w)))
       (λ t. sym (sum-cong (suc n) (λ w h.
       without-cong (suc w) l (λ r o.
-      ap (λ b. cond b (T (suc w ∷ r) ⊗ pos (mult r)) (pos 0) ⊗ pos (binom n w)) (eqb-yes (total r) (n - w) (omega (arith, out-total o)))
+      ap (λ b. cond b (T (suc w ∷ r) ⊗ pos (mult r)) (pos 0) ⊗ pos (binom n w)) (eq-eqb (total r) (n - w) (omega (arith, out-total o)))
       ∙ ap (λ x. (x ⊗ pos (mult r)) ⊗ pos (binom n w)) (sym (symm (suc w) l r o)) ∙ mul-assoc _ _ _)
       ∙ without-linear (suc w) l .times (T l) (λ r. pos (mult r) ⊗ pos (binom n w)))
       ∙ sum-linear (suc n) .times (T l) (λ w. without (suc w) l (λ r. pos (mult r) ⊗ pos (binom n w)))
       ∙ ap (λ x. T l ⊗ x) (split-is n l p t)))
       (λ t. sym (sum-cong (suc n) (λ w h.
       without-cong (suc w) l (λ r o.
-      ap (λ b. cond b (T (suc w ∷ r) ⊗ pos (mult r)) (pos 0) ⊗ pos (binom n w)) (eqb-no (total r) (n - w) (λ e. omega (arith, out-total o)))
+      ap (λ b. cond b (T (suc w ∷ r) ⊗ pos (mult r)) (pos 0) ⊗ pos (binom n w)) (ne-eqb (total r) (n - w) (λ e. omega (arith, out-total o)))
       ∙ zero-mul _)
       ∙ at-zero (without (suc w) l) (without-linear (suc w) l))
       ∙ at-zero (sum (suc n)) (sum-linear (suc n))))
@@ -79,7 +80,7 @@ module _ (T : List ℕ → ℤ) (symm : (v : ℕ) (l r : List ℕ) → Out v l r
   unfolding faa desc total
   key-sum =
       sum-front (suc n) (λ k. desc k (suc n) (of-total (suc n) (λ l. T l ⊗ pos (mult l))))
-      ∙ ap (λ b. cond b (T [] ⊗ pos (mult [])) (pos 0) ⊕ sum (suc n) (λ k. desc (suc k) (suc n) (of-total (suc n) (λ l. T l ⊗ pos (mult l))))) (eqb-no 0 (suc n) (λ e. omega arith))
+      ∙ ap (λ b. cond b (T [] ⊗ pos (mult [])) (pos 0) ⊕ sum (suc n) (λ k. desc (suc k) (suc n) (of-total (suc n) (λ l. T l ⊗ pos (mult l))))) (ne-eqb 0 (suc n) (λ e. omega arith))
       ∙ zero-add _
       ∙ sum-cong (suc n) (λ k h. by-length k)
       ∙ through-sum (sum (suc n)) (sum-linear (suc n)) (suc n) (λ w k. desc k (suc n) (one-part w))

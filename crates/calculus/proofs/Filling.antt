@@ -1,8 +1,8 @@
 -- A loop that stores entries in an array of w, which is blank before it: one law for every kind of number and every order of storing.
 -- `has k v` says that v is the entry at the place k, and d is what the logic reads past a list's end. Assumes nothing.
-use mathlib.Core.Path.{_≡_, refl, sym, ap, _∙_, subst}
+use mathlib.Core.Path.{_≡_, refl, sym, ap, ap₂, _∙_, subst}
 use mathlib.Core.Bool.{Bool, true, false, cond}
-use mathlib.Core.List.{List}
+use mathlib.Core.List.{List, _∷_}
 use Prim.Native.Nat.{ℕ, zero, suc, _+_, _<_}
 use native.Mathlib.Nat.{add-zero, add-suc, suc-add, zero-add, le-of-suc-le-suc, not-suc-le-zero}
 use native.Mathlib.Decide.{ℕ-discrete}
@@ -16,6 +16,14 @@ use Rattle.calculus.specs.Array.{listed, filled}
 use Rattle.calculus.proofs.Rising.{before-below, before-above}
 
 -- ---- what `listed` is
+module _ {X : Type 0} where
+  pub listed-same : (f g : ℕ → X) (i k n : ℕ) → ((x : ℕ) → x < n → f (i + x) ≡ g (k + x)) → listed f i n ≡ listed g k n
+  unfolding listed
+  listed-same f g i k zero h = refl
+  listed-same f g i k (suc n) h =
+      ap₂ _∷_ (ap f (sym (add-zero i)) ∙ h 0 (omega arith) ∙ ap g (add-zero k))
+      (listed-same f g (suc i) (suc k) n (λ x l. ap f (suc-add i x ∙ sym (add-suc i x)) ∙ h (suc x) (omega arith) ∙ ap g (add-suc k x ∙ sym (suc-add k x))))
+
 module _ {X : Type 0} (d : X) where
   pub listed-length : (g : ℕ → X) (i n : ℕ) → length (listed g i n) ≡ n
   unfolding listed

@@ -1,4 +1,4 @@
--- the laws of the formulas at the integers, and document 01's figures
+-- the laws of the formulas at the integers, and small figures
 pub mod Laws
 pub mod Figures
 -- a relation that the operations keep, the formulas keep: over any two kinds of number; and at equality
@@ -7,13 +7,14 @@ pub mod Rising
 pub mod Alike
 pub mod CarryAlike
 pub mod UpTo
--- the graded index; arrays that are filled in turn; rows of binomial coefficients
+-- the graded index; arrays that are filled in turn; binomial coefficients, by rows and in their table
 pub mod Layers
 pub mod Graded
 pub mod Filling
 pub mod SurfaceFilling
 pub mod Rows
 pub mod Pascal
+pub mod Table
 -- the integers: a ring, finite sums, exact division
 pub mod Ints
 pub mod Ring

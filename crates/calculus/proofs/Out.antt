@@ -1,9 +1,9 @@
 -- A sum that goes through a list without one of its parts, and the parts of a list added by their values, over the integers.
 -- Assumes nothing.
-use mathlib.Core.Path.{_≡_, refl, sym, _∙_, ap, ap₂, subst}
+use mathlib.Core.Path.{_≡_, refl, sym, _∙_, ap, subst}
 use mathlib.Core.Bool.{cond}
 use mathlib.Core.List.{List, [], _∷_}
-use Prim.Native.Nat.{ℕ, zero, suc, _+_, _*_, _≤_, _<_}
+use Prim.Native.Nat.{ℕ, zero, suc, _+_, _*_, _≤_}
 use native.Mathlib.Omega.{arith}
 use native.Mathlib.Nat.{zero-add as nat-zero-add}
 use lib.Dec.{eqb}
@@ -13,7 +13,8 @@ use Rattle.partitions.specs.Parts.{total}
 use Rattle.partitions.proofs.Out.{Out, here, there, Pos, count, sum as natural, by-value as by-values}
 use Rattle.calculus.proofs.Ring.{mul-zero, pos-add, pos-mul}
 use Rattle.calculus.proofs.Sums.{sum-cong}
-use Rattle.partitions.proofs.Tests.{by-eqb, eqb-no}
+use borrow.Author.Tests.{ne-eqb}
+use Rattle.partitions.proofs.Tests.{by-eqb}
 use Rattle.calculus.proofs.Desc.{without}
 
 pub without-cong : (v : ℕ) (l : List ℕ) {f g : List ℕ → ℤ} → ((r : List ℕ) → Out v l r → f r ≡ g r) → without v l f ≡ without v l g
@@ -30,7 +31,7 @@ unfolding without count
 constant v [] y = refl
 constant v (a ∷ l) y =
     by-eqb a v (λ b. cond b y (without v l (λ r. y)) ≡ cond (eqb (cond b 1 0 + count v l) 0) (pos 0) y)
-    (λ e. ap (λ b. cond b (pos 0) y) (sym (eqb-no (1 + count v l) 0 (λ z. omega arith))))
+    (λ e. ap (λ b. cond b (pos 0) y) (sym (ne-eqb (1 + count v l) 0 (λ z. omega arith))))
     (λ n. constant v l y ∙ ap (λ k. cond (eqb k 0) (pos 0) y) (sym (nat-zero-add (count v l))))
 
 pub without-count : (v : ℕ) (l : List ℕ) (x : ℤ) → without v l (λ r. x ⊗ pos (count v l)) ≡ x ⊗ pos (count v l)

@@ -2,27 +2,21 @@
 -- Assumes nothing.
 use mathlib.Core.Path.{_≡_, refl, sym, ap, ap₂, _∙_, subst}
 use mathlib.Core.List.{List, [], _∷_, _++_}
-use Prim.Native.Nat.{ℕ, zero, suc, _+_, _-_, _*_, _^_, _≤_, _<_}
-use native.Mathlib.Nat.{add-zero, add-suc, suc-add, zero-add, pow-suc, le-trans, mul-le-mul}
+use Prim.Native.Nat.{ℕ, zero, suc, _+_, _-_, _*_, _≤_, _<_}
+use native.Mathlib.Nat.{add-zero, add-suc, suc-add, zero-add, le-trans, mul-le-mul}
 use native.Mathlib.Omega.{arith}
 use lib.ListN.{getD}
-use lib.Pow.{pow-mono, pow-pos, pow-add}
+use lib.Pow.{pow-mono, pow-add}
 use Rattle.calculus.specs.Array.{listed}
 use Rattle.calculus.specs.Graded.{triangle, index, graded}
 use Rattle.calculus.specs.Choose.{choose, binomialTable}
 use Rattle.calculus.proofs.Binom.{binom-above}
 use Rattle.calculus.proofs.Graded.{triangle-suc, index-is, index-231, place-first, place-second}
-use Rattle.calculus.proofs.Filling.{listed-at}
+use Rattle.calculus.proofs.Filling.{listed-same, listed-at}
+use Rattle.calculus.proofs.Rows.{choose-bounded}
 
--- ---- lists of values
+-- ---- a list of values in two parts
 module _ {X : Type 0} where
-  listed-same : (f g : ℕ → X) (i k n : ℕ) → ((x : ℕ) → x < n → f (i + x) ≡ g (k + x)) → listed f i n ≡ listed g k n
-  unfolding listed
-  listed-same f g i k zero h = refl
-  listed-same f g i k (suc n) h =
-      ap₂ _∷_ (ap f (sym (add-zero i)) ∙ h 0 (omega arith) ∙ ap g (add-zero k))
-      (listed-same f g (suc i) (suc k) n (λ x l. ap f (suc-add i x ∙ sym (add-suc i x)) ∙ h (suc x) (omega arith) ∙ ap g (add-suc k x ∙ sym (suc-add k x))))
-
   listed-split : (f : ℕ → X) (i m n : ℕ) → listed f i (m + n) ≡ listed f i m ++ listed f (i + m) n
   unfolding listed
   listed-split f i zero n = ap₂ (listed f) (sym (add-zero i)) (zero-add n)
@@ -86,14 +80,7 @@ binomial-at m i h l =
     listed-at 0 entry 0 231 (triangle m + i) b ∙ ap entry (zero-add (triangle m + i)) ∙ sym (in-place m i h)
 
 -- ---- bounds: a coefficient of the order m is at most 2^m, so a product of two whose orders total at most 20 is at most 2^20
-choose-pow : (m i : ℕ) → choose m i ≤ 2 ^ m
-unfolding choose
-choose-pow zero zero = omega arith
-choose-pow zero (suc i) = omega arith
-choose-pow (suc m) zero = pow-pos (suc m)
-choose-pow (suc m) (suc i) = omega (arith, choose-pow m i, choose-pow m (suc i), pow-suc 2 m)
-
 pub choose-small : (m n i j : ℕ) → m + n ≤ 20 → choose m i * choose n j ≤ 1048576
 choose-small m n i j h =
-    le-trans (mul-le-mul (choose-pow m i) (choose-pow n j))
+    le-trans (mul-le-mul (choose-bounded m i) (choose-bounded n j))
     (subst (λ (x : ℕ). x ≤ 1048576) (pow-add 2 m n) (pow-mono {i = m + n} {j = 20} h))

@@ -14,7 +14,7 @@ use Rattle.calculus.specs.Surface
 use Rattle.calculus.proofs.Ints.{_⊕_, _⊗_, neg, sum}
 use Rattle.calculus.proofs.Ring.{add-assoc, add-comm, add-neg, add-zero, mul-one, mul-comm, neg-add}
 use Rattle.calculus.proofs.Sums.{sum-front}
-use Rattle.calculus.proofs.Binom.{binom-zero}
+use Rattle.calculus.proofs.Rows.{choose-first}
 use Rattle.calculus.proofs.Related.{same}
 use Rattle.calculus.proofs.Rising.{before-below, rising-alike, earlier-row, same-row, risingRows-alike}
 use Rattle.calculus.proofs.Alike.{owed-alike, surface-owed-alike}
@@ -40,7 +40,7 @@ module _ (d q : ℕ → ℤ) (m : ℕ) where
 
   term-zero : term 0 ≡ q m ⊗ d 0
   unfolding term _⊗_
-  term-zero = ap₂ (λ (x y : ℕ). (d 0 *ℤ q x) *ℤ pos y) (sub-zero m) (binom-zero m) ∙ mul-one (d 0 *ℤ q m) ∙ mul-comm (d 0) (q m)
+  term-zero = ap₂ (λ (x y : ℕ). (d 0 *ℤ q x) *ℤ pos y) (sub-zero m) (choose-first m) ∙ mul-one (d 0 *ℤ q m) ∙ mul-comm (d 0) (q m)
 
   product-is : Curve.product plain d q m ≡ q m ⊗ d 0 ⊕ rest
   unfolding term rest
@@ -93,7 +93,7 @@ module _ (d q : ℕ → ℕ → ℤ) (m n : ℕ) where
   unfolding surface-term _⊗_
   surface-term-zero =
       ap₂ (λ (x y : ℕ). (d 0 0 *ℤ q x y) *ℤ pos (choose m 0 * choose n 0)) (sub-zero m) (sub-zero n)
-      ∙ ap₂ (λ (x y : ℕ). (d 0 0 *ℤ q m n) *ℤ pos (x * y)) (binom-zero m) (binom-zero n)
+      ∙ ap₂ (λ (x y : ℕ). (d 0 0 *ℤ q m n) *ℤ pos (x * y)) (choose-first m) (choose-first n)
       ∙ mul-one (d 0 0 *ℤ q m n) ∙ mul-comm (d 0 0) (q m n)
 
   surface-product-is : Surface.product plain d q m n ≡ q m n ⊗ d 0 0 ⊕ surface-rest

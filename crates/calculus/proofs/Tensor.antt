@@ -2,9 +2,9 @@
 -- Assumes nothing.
 use mathlib.Core.Path.{_≡_, refl, sym, _∙_, ap, ap₂}
 use mathlib.Core.List.{List, [], _∷_}
-use Prim.Native.Nat.{ℕ, zero, suc, _+_, _*_, _/_, _%_, _^_, _<_}
-use native.Mathlib.Omega.{arith}
-use native.Mathlib.Nat.{pow-zero, pow-suc, mul-add-mod-self-right, mul-add-div-right, div-eq-of-lt, mod-eq-of-lt, add-suc, add-zero as nat-add-zero}
+use Prim.Native.Nat.{ℕ, zero, suc, _+_, _*_, _^_}
+use native.Mathlib.Nat.{pow-zero, pow-suc, zero-mul, suc-mul, add-suc, add-zero as nat-add-zero}
+use lib.Arith.{digits-div, digits-mod}
 use lib.ListN.{length}
 use lib.IntN.{ℤ}
 use Rattle.calculus.proofs.Ints.{_⊕_, _⊗_, sum}
@@ -23,20 +23,8 @@ sum-split a (suc b) f =
 
 by-digit : (N d : ℕ) (f : ℕ → ℤ) → sum (N * d) f ≡ sum N (λ m. sum d (λ k. f (m * d + k)))
 unfolding sum
-by-digit zero d f = ap (λ x. sum x f) zero-is
-  where
-    zero-is : 0 * d ≡ 0
-    zero-is = omega arith
-by-digit (suc N) d f = ap (λ x. sum x f) suc-is ∙ sum-split (N * d) d f ∙ ap (λ x. x ⊕ sum d (λ k. f (N * d + k))) (by-digit N d f)
-  where
-    suc-is : suc N * d ≡ N * d + d
-    suc-is = omega arith
-
-digit : (m d k : ℕ) → k < d → (m * d + k) % d ≡ k
-digit m d k h = mul-add-mod-self-right m d k ∙ mod-eq-of-lt h
-
-higher : (m d k : ℕ) → k < d → (m * d + k) / d ≡ m
-higher m d k h = mul-add-div-right {m = d} (omega arith) m k ∙ ap (λ x. m + x) (div-eq-of-lt h) ∙ nat-add-zero m
+by-digit zero d f = ap (λ x. sum x f) (zero-mul d)
+by-digit (suc N) d f = ap (λ x. sum x f) (suc-mul N d) ∙ sum-split (N * d) d f ∙ ap (λ x. x ⊕ sum d (λ k. f (N * d + k))) (by-digit N d f)
 
 module _ (S : Space) (c : ℕ → Curve) where
   unfoldable pub T : S .Field → List ℕ → ℤ
@@ -50,7 +38,7 @@ module _ (S : Space) (c : ℕ → Curve) where
       ap (λ N. sum N (term S c s (a ∷ l))) (pow-suc (S .dim) (length l))
       ∙ by-digit (S .dim ^ length l) (S .dim) (term S c s (a ∷ l))
       ∙ sum-cong (S .dim ^ length l) (λ m h. sum-cong (S .dim) (λ k g.
-      ap₂ (λ (x y : ℕ). c x a ⊗ term S c (S .∂ x s) l y) (digit m (S .dim) k g) (higher m (S .dim) k g)))
+      ap₂ (λ (x y : ℕ). c x a ⊗ term S c (S .∂ x s) l y) (digits-mod m g) (digits-div m g)))
       ∙ through-sum (sum (S .dim ^ length l)) (sum-linear (S .dim ^ length l)) (S .dim) (λ k m. c k a ⊗ term S c (S .∂ k s) l m)
       ∙ sum-cong (S .dim) (λ k g.
       sum-linear (S .dim ^ length l) .times (c k a) (term S c (S .∂ k s) l) ∙ ap (λ x. c k a ⊗ x) (tensor-is (S .∂ k s) l))

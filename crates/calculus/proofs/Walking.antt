@@ -1,12 +1,13 @@
 -- A walk over the part lists that is stepped to its end: what each step hands out, and what is left. Assumes nothing.
 use mathlib.Core.Path.{_≡_, refl, sym, _∙_, ap, ap₂, subst}
 use mathlib.Core.Bool.{true, false, cond, true≢false}
-use mathlib.Core.List.{List, [], _∷_, _++_, nil≢cons}
-use Prim.Native.Nat.{ℕ, zero, suc, _-_, _*_, _^_, _≤_, _<_}
+use mathlib.Core.List.{List, [], _∷_, nil≢cons}
+use Prim.Native.Nat.{ℕ, _-_, _^_, _≤_, _<_}
 use native.Mathlib.Nat.{le-trans, lt-of-le-of-lt}
 use native.Mathlib.Omega.{arith}
 use lib.Dec.{lit<}
 use lib.ListN.{length, take, replicate}
+use lib.Seq.{take-at}
 use Rattle.partitions.specs.Parts.{total, fact, lists, multiplicity}
 use Rattle.partitions.specs.Count.{isList, counted}
 use Rattle.partitions.specs.Walk.{refusal, started, stepped, remaining, moved}
@@ -14,11 +15,11 @@ use Rattle.partitions.specs.declared.CompositionIter.{CompositionIter}
 use Rattle.partitions.specs.declared.Stepped.{Stepped}
 use Rattle.partitions.specs.declared.Count.the-variants as Counts
 use Rattle.partitions.proofs.Down.{long}
-use Rattle.partitions.proofs.Lists.{Every, and, Is, sound}
+use Rattle.partitions.proofs.Lists.{Every, head-of, tail-of, Is, sound}
 use Rattle.partitions.proofs.Member.{list-down, down-list}
 use Rattle.partitions.proofs.Successor.{first}
 use Rattle.partitions.proofs.Exact.{fact-most, divide-most}
-use Rattle.partitions.proofs.Walked.{in-range, started-is, started-remains, stepped-first, stepped-end, moved-remains}
+use Rattle.partitions.proofs.Walked.{in-range, least-times, started-is, started-remains, stepped-first, stepped-end, moved-remains, moved-end}
 use borrow.Author.Tests.{le-ltb}
 
 -- ---- how often a list counts
@@ -45,12 +46,6 @@ pub record Walks (order len : ℕ) (w : CompositionIter) : Type 0 where
 abbrev pub pending : ℕ → Stepped → List (List ℕ)
 pending len s = cond (s .item .ended) [] (take len (s .item .parts) ∷ remaining (s .walk))
 
-take-front : (n : ℕ) (xs ys : List ℕ) → length xs ≡ n → take n (xs ++ ys) ≡ xs
-take-front zero [] ys e = refl
-take-front zero (x ∷ xs) ys e = absurd (omega arith)
-take-front (suc n) [] ys e = absurd (omega arith)
-take-front (suc n) (x ∷ xs) ys e = ap (λ z. x ∷ z) (take-front n xs ys (omega arith))
-
 -- after a step
 pub record Steps (order len : ℕ) (ls : List (List ℕ)) (s : Stepped) : Type 0 where
   pub holds : pending len s ≡ ls
@@ -69,23 +64,13 @@ module _ (order len : ℕ) (h : 0 < len) (g : len ≤ order) (f : order ≤ 20) 
   moved-len w [] = refl
   moved-len w (l ∷ ls) = refl
 
-  moved-ends : (w : CompositionIter) (ls : List (List ℕ)) → ls ≡ [] → moved w ls .end ≡ true
-  moved-ends w [] e = refl
-  moved-ends w (l ∷ ls) e = absurd (nil≢cons (sym e))
-
-  head : {l : List ℕ} {ls : List (List ℕ)} → Every (Is len order order) (l ∷ ls) → Is len order order l
-  head (and p ps) = p
-
-  tail : {l : List ℕ} {ls : List (List ℕ)} → Every (Is len order order) (l ∷ ls) → Every (Is len order order) ls
-  tail (and p ps) = ps
-
   by : (w : CompositionIter) → Walks order len w → (rs : List (List ℕ)) → remaining w ≡ rs → Steps order len rs (stepped w)
   by w k [] e =
       subst (Steps order len []) (sym (stepped-end w (range w k) (k .ends e)))
       (record { holds = refl; walks = k; list = λ z. absurd (true≢false z) })
   by w k (l ∷ ls) e =
       let all = subst (Every (Is len order order)) e (k .all) in
-      let front = take-front len l (replicate (20 - length l) 0) (head all .long) in
+      let front = take-at l (replicate (20 - length l) 0) len (head-of all .long) in
       let left = moved-remains w l ls e in
       subst (Steps order len (l ∷ ls)) (sym (stepped-first w l ls (range w k) e))
       (record {
@@ -93,20 +78,16 @@ module _ (order len : ℕ) (h : 0 < len) (g : len ≤ order) (f : order ≤ 20) 
         walks = record {
           of-order = moved-order w ls ∙ k .of-order;
           of-len = moved-len w ls ∙ k .of-len;
-          all = subst (Every (Is len order order)) (sym left) (tail all);
-          ends = λ z. moved-ends w ls (sym left ∙ z);
+          all = subst (Every (Is len order order)) (sym left) (tail-of all);
+          ends = λ z. moved-end w ls (sym left ∙ z);
         };
-        list = λ z. subst (Is len order order) (sym front) (head all);
+        list = λ z. subst (Is len order order) (sym front) (head-of all);
       })
 
   pub steps : (w : CompositionIter) → Walks order len w → Steps order len (remaining w) (stepped w)
   steps w k = by w k (remaining w) refl
 
   -- the start
-  least-times : (n k : ℕ) → 0 < k → n ≤ n * k
-  least-times n zero z = absurd (omega arith)
-  least-times n (suc k) z = omega arith
-
   pub starts : Walks order len (started order len .walk)
   starts =
       let e = in-range order len h g f in
@@ -138,3 +119,7 @@ pending-some len s e = ap (λ b. cond b [] (take len (s .item .parts) ∷ remain
 
 pub pending-none : (len : ℕ) (s : Stepped) → s .item .ended ≡ true → pending len s ≡ []
 pending-none len s e = ap (λ b. cond b [] (take len (s .item .parts) ∷ remaining (s .walk))) e
+
+-- what is left is shorter by the list that is taken
+pub shorter : {x : List ℕ} {xs ys zs : List (List ℕ)} → ys ≡ xs → zs ≡ x ∷ xs → length ys < length zs
+shorter p q = omega (arith, ap length p, ap length q)

@@ -1,8 +1,8 @@
 -- A loop that writes a list in turn: what it holds so far, and what is left to write. Assumes nothing.
 use mathlib.Core.Path.{_≡_, refl, sym, ap, ap₂, _∙_}
-use mathlib.Core.List.{List, [], _∷_, _++_, append-assoc}
-use Prim.Native.Nat.{ℕ, zero, suc, _+_, _<_, _≤_}
-use native.Mathlib.Nat.{add-zero, zero-add, add-suc, suc-add}
+use mathlib.Core.List.{List, [], _∷_, _++_, append-assoc, append-nil}
+use Prim.Native.Nat.{ℕ, zero, suc, _+_, _<_}
+use native.Mathlib.Nat.{zero-add, add-suc, suc-add}
 use native.Mathlib.Numerals.{add-one}
 use native.Mathlib.Omega.{arith}
 use lib.ListN.{length, take, set, length-set, length-append}
@@ -11,6 +11,7 @@ use Rattle.calculus.specs.Array.{listed}
 use Rattle.calculus.specs.Graded.{triangle}
 use Rattle.calculus.proofs.Graded.{triangle-suc}
 use Rattle.calculus.specs.Order.{rows}
+use Rattle.calculus.proofs.Filling.{listed-length}
 
 module _ {X : Type 0} (all : List X) where
   -- the first k are written, and `left` is left
@@ -44,21 +45,12 @@ module _ {X : Type 0} (all : List X) where
     writing-ends e =
         let z : length left ≡ 0 = ap length e in
         sym (take-all k out (omega (arith, w .room))) ∙ sym (append-nil (take k out)) ∙ ap (λ (l : List X). take k out ++ l) (sym e) ∙ w .begun
-      where
-        append-nil : (l : List X) → l ++ [] ≡ l
-        append-nil [] = refl
-        append-nil (x ∷ l) = ap (λ (r : List X). x ∷ r) (append-nil l)
 
--- ---- how long the lists are
+-- ---- how long a surface's list is
 module _ {X : Type 0} where
-  pub listed-length : (f : ℕ → X) (i n : ℕ) → length (listed f i n) ≡ n
-  unfolding listed
-  listed-length f i zero = refl
-  listed-length f i (suc n) = ap suc (listed-length f (suc i) n)
-
   pub rows-length : (s : ℕ → ℕ → X) (i k : ℕ) → length (rows s i k) ≡ triangle k
   unfolding rows triangle
   rows-length s i zero = refl
   rows-length s i (suc k) =
-      length-append (listed (s i) 0 (suc k)) (rows s (suc i) k) ∙ ap₂ _+_ (listed-length (s i) 0 (suc k)) (rows-length s (suc i) k)
+      length-append (listed (s i) 0 (suc k)) (rows s (suc i) k) ∙ ap₂ _+_ (listed-length (s i 0) (s i) 0 (suc k)) (rows-length s (suc i) k)
       ∙ omega (arith, triangle-suc k)

@@ -1,20 +1,18 @@
 -- The carry by histories: its answer is the verdict on all the numbers that it forms, in the order of work, beside the integers' own values; and as
 -- it divides nothing, it is refused exactly where a number that it forms is out of range, and then by 9. Assumes nothing.
-use mathlib.Core.Path.{_≡_, refl, sym, ap, ap₂, _∙_}
-use mathlib.Core.Bool.{Bool, true, false, cond}
-use mathlib.Core.List.{List, [], _∷_}
-use Prim.Native.Nat.{ℕ, zero, suc}
+use mathlib.Core.Path.{_≡_, refl, sym, ap}
+use mathlib.Core.Bool.{cond}
+use Prim.Native.Nat.{ℕ, _≤_}
 use native.Mathlib.Nat.{le-refl}
-use lib.IntN.{ℤ, _+ℤ_, _-ℤ_, _*ℤ_}
+use lib.IntN.{ℤ}
 use Rattle.whole.specs.declared.Whole.{Whole}
 use Rattle.whole.specs.declared.Whole.the-variants.{Value, Refused}
 use Rattle.whole.specs.Checked.{inRange}
-use Rattle.whole.specs.History.{Traced, forms, given, verdict, settle, numbers, every, exact}
-use Rattle.whole.proofs.History.{settle-given, verdict-exact, exact-append, exact-then}
+use Rattle.whole.specs.History.{Traced, given, settle, numbers, every}
+use Rattle.whole.proofs.History.{settle-given}
 use Rattle.calculus.specs.Kind.{regular, plain}
-use Rattle.calculus.specs.Array.{listed}
 use Rattle.calculus.specs.Carry.{compositeDerivative, compositeDerivatives}
-use Rattle.calculus.proofs.Related.{RelatedModules, regulars}
+use Rattle.calculus.proofs.Related.{regulars}
 use Rattle.calculus.proofs.CarryAlike.{compositeDerivative-alike, compositeDerivatives-alike}
 use Rattle.exact.specs.declared.SurfaceDerivatives.{SurfaceDerivatives}
 use Rattle.exact.specs.declared.ParameterCurve.{ParameterCurve}
@@ -22,35 +20,9 @@ use Rattle.exact.specs.declared.CurveAnswer.{CurveAnswer}
 use Rattle.exact.specs.Kinds.{checked, traced}
 use Rattle.calculus.specs.Order.{curveEntries}
 use Rattle.exact.specs.Answer.{curveNumbers, surfaceNumbers, refusedCurve, answeredCurve, curveAnswer}
-use Rattle.exact.specs.Judged.{histories, byVerdict, judgedCurve}
+use Rattle.exact.specs.Judged.{histories, judgedCurve}
 use Rattle.exact.specs.Composite.{withinOrders, alongCurveAt, alongCurve}
-use Rattle.exact.proofs.Judged.{Settled, settled, Valued, valued, curve-judged}
-
--- ---- entries that divide nothing
-abbrev Exact : Traced → Traced → Type 0
-Exact t s = exact (t .history) ≡ true
-
-exacts : RelatedModules Exact Exact (regular traced) (regular traced)
-unfolding exact
-exacts = record {
-  nought = refl;
-  plus = λ a c b d p q. exact-then _+ℤ_ (λ x y. forms (x +ℤ y) ∷ []) a c p q refl;
-  minus = λ a c b d p q. exact-then _-ℤ_ (λ x y. forms (x -ℤ y) ∷ []) a c p q refl;
-  scale = λ a c b d p q. exact-then _*ℤ_ (λ x y. forms (x *ℤ y) ∷ []) a c p q refl;
-  one = refl;
-  times = λ a c b d p q. exact-then _*ℤ_ (λ x y. forms (x *ℤ y) ∷ []) a c p q refl;
-  ofNat = λ n. refl;
-}
-
-exact-listed : (g : ℕ → Traced) → ((m : ℕ) → exact (g m .history) ≡ true) → (i n : ℕ) → exact (histories (listed g i n)) ≡ true
-unfolding listed histories exact
-exact-listed g h i zero = refl
-exact-listed g h i (suc n) =
-    exact-append (g i .history) (histories (listed g (suc i) n)) ∙ ap₂ (λ (x y : Bool). cond x y false) (h i) (exact-listed g h (suc i) n)
-
-zero-or-nine : {A : Type 0} (refused : ℕ → A) (a : A) (b : Bool) → byVerdict refused (cond b 0 9) a ≡ cond b a (refused 9)
-zero-or-nine refused a true = refl
-zero-or-nine refused a false = refl
+use Rattle.exact.proofs.Judged.{Settled, settled, Valued, valued, Sound, exact-none, soundModule, curve-judged, curve-exact}
 
 -- ---- the carry of a jet of given numbers
 module _ (u v : ℕ → ℤ) (s : ℕ → ℕ → ℤ) where
@@ -68,29 +40,26 @@ module _ (u v : ℕ → ℤ) (s : ℕ → ℕ → ℤ) where
       compositeDerivative-alike Valued Valued (regular traced) (regular plain) (regulars valued) m (λ m. given (u m)) (λ m. given (v m)) u v
       (λ i j. given (s i j)) s (λ i l. refl) (λ i l. refl) (λ i j l. refl) m (le-refl m)
 
+  carry-settles : (n m : ℕ) → m ≤ n → Settled (carriedTraces m) (compositeDerivatives (regular checked) (λ m. Value (u m)) (λ m. Value (v m)) (λ i j. Value (s i j)) m)
+  carry-settles n =
+      compositeDerivatives-alike Settled Settled (regular traced) (regular checked) (regulars settled) n (λ m. given (u m)) (λ m. given (v m)) (λ m. Value (u m)) (λ m. Value (v m))
+      (λ i j. given (s i j)) (λ i j. Value (s i j)) (λ i l. settle-given (u i)) (λ i l. settle-given (v i)) (λ i j l. settle-given (s i j))
+
   pub carry-judged : (n : ℕ) → curveAnswer (compositeDerivatives (regular checked) (λ m. Value (u m)) (λ m. Value (v m)) (λ i j. Value (s i j))) n
       ≡ judgedCurve carriedTraces (compositeDerivatives (regular plain) u v s) n
   carry-judged n =
       curve-judged n (compositeDerivatives (regular checked) (λ m. Value (u m)) (λ m. Value (v m)) (λ i j. Value (s i j))) carriedTraces (compositeDerivatives (regular plain) u v s)
-      (compositeDerivatives-alike Settled Settled (regular traced) (regular checked) (regulars settled) n (λ m. given (u m)) (λ m. given (v m)) (λ m. Value (u m)) (λ m. Value (v m))
-      (λ i j. given (s i j)) (λ i j. Value (s i j)) (λ i l. settle-given (u i)) (λ i l. settle-given (v i)) (λ i j l. settle-given (s i j)))
+      (carry-settles n)
       (compositeDerivatives-alike Valued Valued (regular traced) (regular plain) (regulars valued) n (λ m. given (u m)) (λ m. given (v m)) u v
       (λ i j. given (s i j)) s (λ i l. refl) (λ i l. refl) (λ i j l. refl))
 
-  pub carry-exact : (m : ℕ) → exact (carriedTraces m .history) ≡ true
-  unfolding exact
-  carry-exact m =
-      compositeDerivatives-alike Exact Exact (regular traced) (regular traced) exacts m (λ m. given (u m)) (λ m. given (v m)) (λ m. given (u m)) (λ m. given (v m))
-      (λ i j. given (s i j)) (λ i j. given (s i j)) (λ i l. refl) (λ i l. refl) (λ i j l. refl) m (le-refl m)
-
-  -- the integers' own values, or 9 where a number that is formed is out of range
+  -- it divides nothing: the integers' own values, or 9 where a number that is formed is out of range
   pub carry-in-range : (n : ℕ) → curveAnswer (compositeDerivatives (regular checked) (λ m. Value (u m)) (λ m. Value (v m)) (λ i j. Value (s i j))) n
       ≡ cond (every inRange (numbers (histories (curveEntries carriedTraces n)))) (answeredCurve n (compositeDerivatives (regular plain) u v s)) (refusedCurve 9)
   carry-in-range n =
-      carry-judged n
-      ∙ ap (λ (w : ℕ). byVerdict refusedCurve w (answeredCurve n (compositeDerivatives (regular plain) u v s)))
-      (verdict-exact (histories (curveEntries carriedTraces n)) (exact-listed carriedTraces carry-exact 0 (suc n)))
-      ∙ zero-or-nine refusedCurve (answeredCurve n (compositeDerivatives (regular plain) u v s)) (every inRange (numbers (histories (curveEntries carriedTraces n))))
+      curve-exact n (compositeDerivatives (regular checked) (λ m. Value (u m)) (λ m. Value (v m)) (λ i j. Value (s i j))) carriedTraces (compositeDerivatives (regular plain) u v s)
+      (carry-settles n) (compositeDerivatives-alike Sound Sound (regular traced) (regular plain) soundModule n (λ m. given (u m)) (λ m. given (v m)) u v
+      (λ i j. given (s i j)) s (λ i l. (refl, exact-none)) (λ i l. (refl, exact-none)) (λ i j l. (refl, exact-none)))
 
 -- ---- the public functions
 module _ (s : SurfaceDerivatives) (c : ParameterCurve) (n : ℕ) where

@@ -1,22 +1,25 @@
 -- What is answered is the verdict on all that was formed and divided, in the order of work, beside the integers' own values. For any entries
 -- with their histories, and then for sums, differences, products and quotients of curves and surfaces. Assumes nothing.
 use mathlib.Core.Path.{_≡_, refl, sym, ap, ap₂, _∙_}
-use mathlib.Core.List.{List, [], _∷_, _++_, map}
+use mathlib.Core.Bool.{Bool, true, false, cond}
+use mathlib.Core.List.{List, [], _∷_, _++_, map, append-assoc}
 use Prim.Native.Nat.{ℕ, zero, suc, _+_, _≤_, _<_}
-use native.Mathlib.Nat.{suc-ne-zero, not-suc-le-zero, zero-add, add-zero, add-suc, suc-add}
+use native.Mathlib.Nat.{not-suc-le-zero, le-of-suc-le-suc, zero-add, add-zero, add-suc, suc-add}
 use native.Mathlib.Omega.{arith}
 use lib.IntN.{ℤ, pos}
 use Rattle.whole.specs.declared.Whole.{Whole}
 use Rattle.whole.specs.declared.Whole.the-variants.{Value}
 use Rattle.whole.specs.Checked as checks
-use Rattle.whole.specs.History.{Traced, orElse, verdict, settleBy, settle, given}
-use Rattle.whole.proofs.History.{verdict-append, settle-given, settle-plus, settle-minus, settle-times, settle-over, settle-ofNat}
-use Rattle.calculus.specs.Kind.{regular, plain}
+use Rattle.whole.specs.Checked.{inRange}
+use Rattle.whole.specs.History.{Event, forms, Traced, orElse, verdict, settleBy, settle, given, then, numbers, every, exact}
+use Rattle.whole.proofs.History.{verdict-append, verdict-parts, verdict-exact, exact-append, exact-then, exact-one, settle-given, settle-plus, settle-minus, settle-times, settle-over, settle-ofNat}
+use Rattle.calculus.specs.Kind.{Kind, regular, plain}
 use Rattle.calculus.specs.Array.{listed}
 use Rattle.calculus.specs.Curve
 use Rattle.calculus.specs.Surface
-use Rattle.calculus.proofs.Related.{Related, regulars}
+use Rattle.calculus.proofs.Related.{Related, RelatedModules, regulars, CurvesAlike, SurfacesAlike}
 use Rattle.calculus.proofs.Alike.{sum-alike, difference-alike, product-alike, quotient-alike, surface-sum-alike, surface-difference-alike, surface-product-alike, surface-quotient-alike}
+use Rattle.exact.specs.declared.SurfaceAnswer.{SurfaceAnswer}
 use Rattle.exact.specs.Kinds.{checked, traced}
 use Rattle.calculus.specs.Order.{rows, curveEntries, surfaceEntries}
 use Rattle.exact.specs.Answer.{valueOf, refusedCurve, refusedSurface, answeredCurve, answeredSurface, unlessRefused, curveAnswer, surfaceAnswer}
@@ -24,7 +27,7 @@ use Rattle.exact.specs.Judged.{histories, byVerdict, judgedCurve, judged
 use Rattle.exact.proofs.Work.{map-listed, map-rows}
 use Rattle.exact.proofs.Same.{curve-same, surface-same, curve-answer-same, surface-answer-same}
 
--- ---- the two pairs of kinds
+-- ---- what a number with its history is to a checked one, and to an integer
 abbrev pub Settled : Traced → Whole → Type 0
 Settled t w = settle t ≡ w
 
@@ -53,6 +56,42 @@ valued = record {
   ofNat = λ n. refl;
 }
 
+-- the value is the integer, and every division that was taken is exact: kept by every operation but the division
+abbrev pub Sound : Traced → ℤ → Type 0
+Sound t z = (t .value ≡ z) × (exact (t .history) ≡ true)
+
+pub exact-none : exact [] ≡ true
+unfolding exact
+exact-none = refl
+
+sound-by : (f : ℤ → ℤ → ℤ) (s t : Traced) (x y : ℤ) → Sound s x → Sound t y → Sound (then f (λ x y. forms (f x y) ∷ []) s t) (f x y)
+sound-by f s t x y p q = (ap₂ f (p .0) (q .0), exact-then f (λ x y. forms (f x y) ∷ []) s t (p .1) (q .1) (exact-one (f (s .value) (t .value))))
+
+abbrev undivided : {A : Type 0} → Kind A → Kind A
+undivided K = record { nought = K .nought; one = K .one; plus = K .plus; minus = K .minus; times = K .times; over = K .times; ofNat = K .ofNat }
+
+pub sound : Related Sound (undivided traced) (undivided plain)
+sound = record {
+  nought = (refl, exact-none);
+  one = (refl, exact-none);
+  plus = sound-by (plain .plus);
+  minus = sound-by (plain .minus);
+  times = sound-by (plain .times);
+  over = sound-by (plain .times);
+  ofNat = λ n. (refl, exact-one (pos n));
+}
+
+pub soundModule : RelatedModules Sound Sound (regular traced) (regular plain)
+soundModule = record {
+  nought = sound .nought;
+  plus = sound .plus;
+  minus = sound .minus;
+  scale = sound .times;
+  one = sound .one;
+  times = sound .times;
+  ofNat = sound .ofNat;
+}
+
 -- ---- a list of entries: the first refusal is the verdict on their histories
 module _ {A : Type 0} (refused : ℕ → A) (a : A) where
   one-more : (v u : ℕ) (z : ℤ) (ws : List Whole) → unlessRefused refused ws a ≡ byVerdict refused u a →
@@ -69,52 +108,38 @@ module _ {A : Type 0} (refused : ℕ → A) (a : A) where
       ∙ ap (λ (v : ℕ). byVerdict refused v a) (sym (verdict-append (t .history) (histories ts)))
 
 -- ---- where the verdict is 0, it is 0 on each entry
-data Good : List Traced → Type 0 where
-  none : Good []
-  more : {t : Traced} {ts : List Traced} → verdict (t .history) ≡ 0 → Good ts → Good (t ∷ ts)
+listed-verdict : (g : ℕ → Traced) (i n : ℕ) → verdict (histories (listed g i n)) ≡ 0 → (x : ℕ) → x < n → verdict (g (i + x) .history) ≡ 0
+unfolding listed histories
+listed-verdict g i zero e x l = absurd (not-suc-le-zero l)
+listed-verdict g i (suc n) e zero l = rw (add-zero i) (verdict-parts (g i .history) (histories (listed g (suc i) n)) e .0)
+listed-verdict g i (suc n) e (suc x) l =
+    rw (add-suc i x, ← (suc-add i x)) (listed-verdict g (suc i) n (verdict-parts (g i .history) (histories (listed g (suc i) n)) e .1) x (le-of-suc-le-suc l))
 
-none-first : (v u : ℕ) → orElse v u ≡ 0 → v ≡ 0
-none-first zero u e = refl
-none-first (suc v) u e = e
-
-none-second : (v u : ℕ) → orElse v u ≡ 0 → u ≡ 0
-none-second zero u e = e
-none-second (suc v) u e = absurd (suc-ne-zero v e)
-
-good : (ts : List Traced) → verdict (histories ts) ≡ 0 → Good ts
+histories-append : (s t : List Traced) → histories (s ++ t) ≡ histories s ++ histories t
 unfolding histories
-good [] e = none
-good (t ∷ ts) e =
-    let s = sym (verdict-append (t .history) (histories ts)) ∙ e in
-    more (none-first (verdict (t .history)) (verdict (histories ts)) s) (good ts (none-second (verdict (t .history)) (verdict (histories ts)) s))
+histories-append [] t = refl
+histories-append (x ∷ s) t = ap (λ (l : List Event). x .history ++ l) (histories-append s t) ∙ sym (append-assoc (x .history) (histories s) (histories t))
 
-good-listed : (g : ℕ → Traced) (i n : ℕ) → Good (listed g i n) → (x : ℕ) → x < n → verdict (g (i + x) .history) ≡ 0
-unfolding listed
-good-listed g i zero p x h = absurd (not-suc-le-zero h)
-good-listed g i (suc n) (more e p) zero h = ap (λ (k : ℕ). verdict (g k .history)) (add-zero i) ∙ e
-good-listed g i (suc n) (more e p) (suc x) h =
-    ap (λ (k : ℕ). verdict (g k .history)) (add-suc i x ∙ sym (suc-add i x)) ∙ good-listed g (suc i) n p x (omega arith)
+row-verdict : (g : ℕ → ℕ → Traced) (i k : ℕ) → verdict (histories (listed (g i) 0 (suc k) ++ rows g (suc i) k)) ≡ 0 →
+    (verdict (histories (listed (g i) 0 (suc k))) ≡ 0) × (verdict (histories (rows g (suc i) k)) ≡ 0)
+row-verdict g i k e =
+    verdict-parts (histories (listed (g i) 0 (suc k))) (histories (rows g (suc i) k))
+    (ap verdict (sym (histories-append (listed (g i) 0 (suc k)) (rows g (suc i) k))) ∙ e)
 
-left-part : (ts us : List Traced) → Good (ts ++ us) → Good ts
-left-part [] us p = none
-left-part (t ∷ ts) us (more e p) = more e (left-part ts us p)
-
-right-part : (ts us : List Traced) → Good (ts ++ us) → Good us
-right-part [] us p = p
-right-part (t ∷ ts) us (more e p) = right-part ts us p
-
-good-rows : (g : ℕ → ℕ → Traced) (i k : ℕ) → Good (rows g i k) → (x y : ℕ) → x + y < k → verdict (g (i + x) y .history) ≡ 0
+rows-verdict : (g : ℕ → ℕ → Traced) (i k : ℕ) → verdict (histories (rows g i k)) ≡ 0 → (x y : ℕ) → x + y < k → verdict (g (i + x) y .history) ≡ 0
 unfolding rows
-good-rows g i zero p x y h = absurd (not-suc-le-zero h)
-good-rows g i (suc k) p zero y h =
-    ap₂ (λ (v w : ℕ). verdict (g v w .history)) (add-zero i) (sym (zero-add y))
-    ∙ good-listed (g i) 0 (suc k) (left-part (listed (g i) 0 (suc k)) (rows g (suc i) k) p) y (omega arith)
-good-rows g i (suc k) p (suc x) y h =
-    ap (λ (v : ℕ). verdict (g v y .history)) (add-suc i x ∙ sym (suc-add i x))
-    ∙ good-rows g (suc i) k (right-part (listed (g i) 0 (suc k)) (rows g (suc i) k) p) x y (omega arith)
+rows-verdict g i zero e x y l = absurd (not-suc-le-zero l)
+rows-verdict g i (suc k) e zero y l = rw (add-zero i, ← (zero-add y)) (listed-verdict (g i) 0 (suc k) (row-verdict g i k e .0) y (omega arith))
+rows-verdict g i (suc k) e (suc x) y l = rw (add-suc i x, ← (suc-add i x)) (rows-verdict g (suc i) k (row-verdict g i k e .1) x y (omega arith))
+
+curve-verdict : (g : ℕ → Traced) (n : ℕ) → verdict (histories (curveEntries g n)) ≡ 0 → (m : ℕ) → m ≤ n → verdict (g m .history) ≡ 0
+curve-verdict g n e m l = rw (← (zero-add m)) (listed-verdict g 0 (suc n) e m (omega arith))
+
+surface-verdict : (g : ℕ → ℕ → Traced) (n : ℕ) → verdict (histories (surfaceEntries g n)) ≡ 0 → (i j : ℕ) → i + j ≤ n → verdict (g i j .history) ≡ 0
+surface-verdict g n e i j l = rw (← (zero-add i)) (rows-verdict g 0 (suc n) e i j (omega arith))
 
 number-of : (v : ℕ) (z : ℤ) → v ≡ 0 → valueOf (settleBy v z) ≡ z
-number-of v z e = ap (λ (k : ℕ). valueOf (settleBy k z)) e
+number-of v z e = rw e
 
 -- ---- any entries with their histories
 pub curve-judged : (n : ℕ) (f : ℕ → Whole) (g : ℕ → Traced) (a : ℕ → ℤ) → ((m : ℕ) → m ≤ n → Settled (g m) (f m)) → ((m : ℕ) → m ≤ n → Valued (g m) (a m)) →
@@ -128,8 +153,7 @@ curve-judged n f g a s v =
     go : (w : ℕ) → verdict (histories (curveEntries g n)) ≡ w → byVerdict refusedCurve w (answeredCurve n (λ m. valueOf (settle (g m)))) ≡ byVerdict refusedCurve w (answeredCurve n a)
     go zero e =
         curve-same n (λ m l.
-        number-of (verdict (g m .history)) (g m .value)
-        (ap (λ (k : ℕ). verdict (g k .history)) (sym (zero-add m)) ∙ good-listed g 0 (suc n) (good (curveEntries g n) e) m (omega arith)) ∙ v m l)
+        number-of (verdict (g m .history)) (g m .value) (curve-verdict g n e m l) ∙ v m l)
     go (suc w) e = refl
 
 pub surface-judged : (n : ℕ) (f : ℕ → ℕ → Whole) (g : ℕ → ℕ → Traced) (a : ℕ → ℕ → ℤ) → ((i j : ℕ) → i + j ≤ n → Settled (g i j) (f i j)) →
@@ -144,89 +168,93 @@ surface-judged n f g a s v =
         byVerdict refusedSurface w (answeredSurface n (λ i j. valueOf (settle (g i j)))) ≡ byVerdict refusedSurface w (answeredSurface n a)
     go zero e =
         surface-same n (λ i j l.
-        number-of (verdict (g i j .history)) (g i j .value)
-        (ap (λ (k : ℕ). verdict (g k j .history)) (sym (zero-add i)) ∙ good-rows g 0 (suc n) (good (surfaceEntries g n) e) i j (omega arith)) ∙ v i j l)
+        number-of (verdict (g i j .history)) (g i j .value) (surface-verdict g n e i j l) ∙ v i j l)
     go (suc w) e = refl
 
--- ---- the formulas, on jets of given numbers
+-- ---- entries whose divisions are all exact: the integers' own values, or 9 where a number that is formed is out of range
+exact-listed : (g : ℕ → Traced) (i n : ℕ) → ((x : ℕ) → x < n → exact (g (i + x) .history) ≡ true) → exact (histories (listed g i n)) ≡ true
+unfolding listed histories exact
+exact-listed g i zero h = refl
+exact-listed g i (suc n) h =
+    exact-append (g i .history) (histories (listed g (suc i) n))
+    ∙ ap₂ (λ (x y : Bool). cond x y false) (rw (add-zero i) at (h 0 (omega arith)))
+    (exact-listed g (suc i) n (λ x l. rw (suc-add i x, ← (add-suc i x)) (h (suc x) (omega arith))))
+
+zero-or-nine : {A : Type 0} (refused : ℕ → A) (a : A) (b : Bool) → byVerdict refused (cond b 0 9) a ≡ cond b a (refused 9)
+zero-or-nine refused a true = refl
+zero-or-nine refused a false = refl
+
+pub curve-exact : (n : ℕ) (f : ℕ → Whole) (g : ℕ → Traced) (a : ℕ → ℤ) → ((m : ℕ) → m ≤ n → Settled (g m) (f m)) → ((m : ℕ) → m ≤ n → Sound (g m) (a m)) →
+    curveAnswer f n ≡ cond (every inRange (numbers (histories (curveEntries g n)))) (answeredCurve n a) (refusedCurve 9)
+curve-exact n f g a s v =
+    curve-judged n f g a s (λ m l. v m l .0)
+    ∙ ap (λ (w : ℕ). byVerdict refusedCurve w (answeredCurve n a))
+    (verdict-exact (histories (curveEntries g n)) (exact-listed g 0 (suc n) (λ x l. v (0 + x) (omega arith) .1)))
+    ∙ zero-or-nine refusedCurve (answeredCurve n a) (every inRange (numbers (histories (curveEntries g n))))
+
+-- ---- where a surface is answered, no entry was refused
+pub surface-answered : (n : ℕ) (f : ℕ → ℕ → Whole) (g : ℕ → ℕ → Traced) (a : ℕ → ℕ → ℤ) → ((i j : ℕ) → i + j ≤ n → Settled (g i j) (f i j)) →
+    ((i j : ℕ) → i + j ≤ n → Valued (g i j) (a i j)) → surfaceAnswer f n .refusal ≡ 0 →
+    (surfaceAnswer f n ≡ answeredSurface n a) × ((i j : ℕ) → i + j ≤ n → verdict (g i j .history) ≡ 0)
+surface-answered n f g a s v e =
+    let is = surface-judged n f g a s v in
+    let w : verdict (histories (surfaceEntries g n)) ≡ 0 = none (verdict (histories (surfaceEntries g n))) (sym (ap (λ (x : SurfaceAnswer). x .refusal) is) ∙ e) in
+    (is ∙ ap (λ (x : ℕ). byVerdict refusedSurface x (answeredSurface n a)) w, surface-verdict g n w)
+  where
+    none : (x : ℕ) → byVerdict refusedSurface x (answeredSurface n a) .refusal ≡ 0 → x ≡ 0
+    none zero e = refl
+    none (suc x) e = e
+
+-- ---- a formula that keeps what the kinds' operations keep, on jets of given numbers
+module _ (n : ℕ) (f : (A : Type 0) → Kind A → (ℕ → A) → (ℕ → A) → ℕ → A)
+    (alike : (A B : Type 0) (R : A → B → Type 0) (K : Kind A) (L : Kind B) → Related R K L → (a c : ℕ → A) (b d : ℕ → B) →
+    CurvesAlike R n a b → CurvesAlike R n c d → CurvesAlike R n (f A K a c) (f B L b d)) (a b : ℕ → ℤ) where
+  formula-judged : curveAnswer (f Whole checked (λ m. Value (a m)) (λ m. Value (b m))) n ≡ judgedCurve (f Traced traced (λ m. given (a m)) (λ m. given (b m))) (f ℤ plain a b) n
+  formula-judged =
+      curve-judged n _ (f Traced traced (λ m. given (a m)) (λ m. given (b m))) _
+      (alike Traced Whole Settled traced checked settled _ _ (λ m. Value (a m)) (λ m. Value (b m)) (λ m l. settle-given (a m)) (λ m l. settle-given (b m)))
+      (alike Traced ℤ Valued traced plain valued _ _ a b (λ m l. refl) (λ m l. refl))
+
+module _ (n : ℕ) (f : (A : Type 0) → Kind A → (ℕ → ℕ → A) → (ℕ → ℕ → A) → ℕ → ℕ → A)
+    (alike : (A B : Type 0) (R : A → B → Type 0) (K : Kind A) (L : Kind B) → Related R K L → (a c : ℕ → ℕ → A) (b d : ℕ → ℕ → B) →
+    SurfacesAlike R n a b → SurfacesAlike R n c d → SurfacesAlike R n (f A K a c) (f B L b d)) (a b : ℕ → ℕ → ℤ) where
+  surface-formula-judged : surfaceAnswer (f Whole checked (λ i j. Value (a i j)) (λ i j. Value (b i j))) n
+      ≡ judgedSurface (f Traced traced (λ i j. given (a i j)) (λ i j. given (b i j))) (f ℤ plain a b) n
+  surface-formula-judged =
+      surface-judged n _ (f Traced traced (λ i j. given (a i j)) (λ i j. given (b i j))) _
+      (alike Traced Whole Settled traced checked settled _ _ (λ i j. Value (a i j)) (λ i j. Value (b i j)) (λ i j l. settle-given (a i j)) (λ i j l. settle-given (b i j)))
+      (alike Traced ℤ Valued traced plain valued _ _ a b (λ i j l. refl) (λ i j l. refl))
+
 module _ (a b : ℕ → ℤ) (n : ℕ) where
-  abbrev cs : (ℕ → ℤ) → ℕ → Whole
-  cs x m = Value (x m)
-
-  abbrev ts : (ℕ → ℤ) → ℕ → Traced
-  ts x m = given (x m)
-
-  given-settles : (x : ℕ → ℤ) (m : ℕ) → m ≤ n → Settled (ts x m) (cs x m)
-  given-settles x m l = settle-given (x m)
-
-  given-values : (x : ℕ → ℤ) (m : ℕ) → m ≤ n → Valued (ts x m) (x m)
-  given-values x m l = refl
-
   pub sum-judged : curveAnswer (Curve.sum (regular checked) (λ m. Value (a m)) (λ m. Value (b m))) n
       ≡ judgedCurve (Curve.sum (regular traced) (λ m. given (a m)) (λ m. given (b m))) (Curve.sum (regular plain) a b) n
-  sum-judged =
-      curve-judged n (Curve.sum (regular checked) (cs a) (cs b)) (Curve.sum (regular traced) (ts a) (ts b)) (Curve.sum (regular plain) a b)
-      (sum-alike Settled Settled (regular traced) (regular checked) (regulars settled) n (given-settles a) (given-settles b))
-      (sum-alike Valued Valued (regular traced) (regular plain) (regulars valued) n {a = ts a} {c = ts b} (given-values a) (given-values b))
+  sum-judged = formula-judged n (λ A K. Curve.sum (regular K)) (λ A B R K L r a c b d p q. sum-alike R R (regular K) (regular L) (regulars r) n p q) a b
 
   pub difference-judged : curveAnswer (Curve.difference (regular checked) (λ m. Value (a m)) (λ m. Value (b m))) n
       ≡ judgedCurve (Curve.difference (regular traced) (λ m. given (a m)) (λ m. given (b m))) (Curve.difference (regular plain) a b) n
-  difference-judged =
-      curve-judged n (Curve.difference (regular checked) (cs a) (cs b)) (Curve.difference (regular traced) (ts a) (ts b)) (Curve.difference (regular plain) a b)
-      (difference-alike Settled Settled (regular traced) (regular checked) (regulars settled) n (given-settles a) (given-settles b))
-      (difference-alike Valued Valued (regular traced) (regular plain) (regulars valued) n {a = ts a} {c = ts b} (given-values a) (given-values b))
+  difference-judged = formula-judged n (λ A K. Curve.difference (regular K)) (λ A B R K L r a c b d p q. difference-alike R R (regular K) (regular L) (regulars r) n p q) a b
 
   pub product-judged : curveAnswer (Curve.product checked (λ m. Value (a m)) (λ m. Value (b m))) n
       ≡ judgedCurve (Curve.product traced (λ m. given (a m)) (λ m. given (b m))) (Curve.product plain a b) n
-  product-judged =
-      curve-judged n (Curve.product checked (cs a) (cs b)) (Curve.product traced (ts a) (ts b)) (Curve.product plain a b)
-      (product-alike Settled traced checked settled n (ts a) (ts b) (cs a) (cs b) (given-settles a) (given-settles b))
-      (product-alike Valued traced plain valued n (ts a) (ts b) a b (given-values a) (given-values b))
+  product-judged = formula-judged n (λ A K. Curve.product K) (λ A B R K L r. product-alike R K L r n) a b
 
   pub quotient-judged : curveAnswer (Curve.quotient checked (λ m. Value (a m)) (λ m. Value (b m))) n
       ≡ judgedCurve (Curve.quotient traced (λ m. given (a m)) (λ m. given (b m))) (Curve.quotient plain a b) n
-  quotient-judged =
-      curve-judged n (Curve.quotient checked (cs a) (cs b)) (Curve.quotient traced (ts a) (ts b)) (Curve.quotient plain a b)
-      (quotient-alike Settled traced checked settled n (ts a) (ts b) (cs a) (cs b) (given-settles a) (given-settles b))
-      (quotient-alike Valued traced plain valued n (ts a) (ts b) a b (given-values a) (given-values b))
+  quotient-judged = formula-judged n (λ A K. Curve.quotient K) (λ A B R K L r. quotient-alike R K L r n) a b
 
 module _ (a b : ℕ → ℕ → ℤ) (n : ℕ) where
-  abbrev css : (ℕ → ℕ → ℤ) → ℕ → ℕ → Whole
-  css x i j = Value (x i j)
-
-  abbrev tss : (ℕ → ℕ → ℤ) → ℕ → ℕ → Traced
-  tss x i j = given (x i j)
-
-  all-settle : (x : ℕ → ℕ → ℤ) (i j : ℕ) → i + j ≤ n → Settled (tss x i j) (css x i j)
-  all-settle x i j l = settle-given (x i j)
-
-  all-values : (x : ℕ → ℕ → ℤ) (i j : ℕ) → i + j ≤ n → Valued (tss x i j) (x i j)
-  all-values x i j l = refl
-
   pub surface-sum-judged : surfaceAnswer (Surface.sum (regular checked) (λ i j. Value (a i j)) (λ i j. Value (b i j))) n
       ≡ judgedSurface (Surface.sum (regular traced) (λ i j. given (a i j)) (λ i j. given (b i j))) (Surface.sum (regular plain) a b) n
-  surface-sum-judged =
-      surface-judged n (Surface.sum (regular checked) (css a) (css b)) (Surface.sum (regular traced) (tss a) (tss b)) (Surface.sum (regular plain) a b)
-      (surface-sum-alike Settled Settled (regular traced) (regular checked) (regulars settled) n (all-settle a) (all-settle b))
-      (surface-sum-alike Valued Valued (regular traced) (regular plain) (regulars valued) n {a = tss a} {c = tss b} (all-values a) (all-values b))
+  surface-sum-judged = surface-formula-judged n (λ A K. Surface.sum (regular K)) (λ A B R K L r a c b d p q. surface-sum-alike R R (regular K) (regular L) (regulars r) n p q) a b
 
   pub surface-difference-judged : surfaceAnswer (Surface.difference (regular checked) (λ i j. Value (a i j)) (λ i j. Value (b i j))) n
       ≡ judgedSurface (Surface.difference (regular traced) (λ i j. given (a i j)) (λ i j. given (b i j))) (Surface.difference (regular plain) a b) n
-  surface-difference-judged =
-      surface-judged n (Surface.difference (regular checked) (css a) (css b)) (Surface.difference (regular traced) (tss a) (tss b)) (Surface.difference (regular plain) a b)
-      (surface-difference-alike Settled Settled (regular traced) (regular checked) (regulars settled) n (all-settle a) (all-settle b))
-      (surface-difference-alike Valued Valued (regular traced) (regular plain) (regulars valued) n {a = tss a} {c = tss b} (all-values a) (all-values b))
+  surface-difference-judged = surface-formula-judged n (λ A K. Surface.difference (regular K)) (λ A B R K L r a c b d p q. surface-difference-alike R R (regular K) (regular L) (regulars r) n p q) a b
 
   pub surface-product-judged : surfaceAnswer (Surface.product checked (λ i j. Value (a i j)) (λ i j. Value (b i j))) n
       ≡ judgedSurface (Surface.product traced (λ i j. given (a i j)) (λ i j. given (b i j))) (Surface.product plain a b) n
-  surface-product-judged =
-      surface-judged n (Surface.product checked (css a) (css b)) (Surface.product traced (tss a) (tss b)) (Surface.product plain a b)
-      (surface-product-alike Settled traced checked settled n (tss a) (tss b) (css a) (css b) (all-settle a) (all-settle b))
-      (surface-product-alike Valued traced plain valued n (tss a) (tss b) a b (all-values a) (all-values b))
+  surface-product-judged = surface-formula-judged n (λ A K. Surface.product K) (λ A B R K L r. surface-product-alike R K L r n) a b
 
   pub surface-quotient-judged : surfaceAnswer (Surface.quotient checked (λ i j. Value (a i j)) (λ i j. Value (b i j))) n
       ≡ judgedSurface (Surface.quotient traced (λ i j. given (a i j)) (λ i j. given (b i j))) (Surface.quotient plain a b) n
-  surface-quotient-judged =
-      surface-judged n (Surface.quotient checked (css a) (css b)) (Surface.quotient traced (tss a) (tss b)) (Surface.quotient plain a b)
-      (surface-quotient-alike Settled traced checked settled n (tss a) (tss b) (css a) (css b) (all-settle a) (all-settle b))
-      (surface-quotient-alike Valued traced plain valued n (tss a) (tss b) a b (all-values a) (all-values b))
+  surface-quotient-judged = surface-formula-judged n (λ A K. Surface.quotient K) (λ A B R K L r. surface-quotient-alike R K L r n) a b

@@ -1,33 +1,15 @@
--- The tests of the orders of a carry: the answer by the first test that holds, and by the number of the refusal. Assumes nothing.
+-- The tests of the orders of a carry: the answer where all pass, and the outcome by the number of the refusal. Assumes nothing.
 use mathlib.Core.Path.{_≡_, refl}
 use mathlib.Core.Bool.{Bool, true, false, cond}
-use Prim.Native.Nat.{ℕ, suc, _≤_, _<_}
+use Prim.Native.Nat.{ℕ, suc, _≤_}
 use native.Mathlib.Nat.{suc-ne-zero}
 use lib.Dec.{ltb}
-use borrow.Author.Tests.{lt-ltb, le-ltb, ltb-false}
+use borrow.Author.Tests.{le-ltb, ltb-false}
 use Rattle.exact.specs.Composite.{withinOrders}
 
 module _ {A : Type 0} (refused : ℕ → A) (a : A) (s c n : ℕ) where
-  pub surface-high : 20 < s → refused 1 ≡ withinOrders refused a s c n
-  surface-high h = rw (lt-ltb 20 s h)
-
-  module _ (hs : s ≤ 20) where
-    pub curve-high : 20 < c → refused 1 ≡ withinOrders refused a s c n
-    curve-high h = rw (le-ltb 20 s hs, lt-ltb 20 c h)
-
-    module _ (hc : c ≤ 20) where
-      pub order-high : 20 < n → refused 1 ≡ withinOrders refused a s c n
-      order-high h = rw (le-ltb 20 s hs, le-ltb 20 c hc, lt-ltb 20 n h)
-
-      module _ (hn : n ≤ 20) where
-        pub surface-low : s < n → refused 2 ≡ withinOrders refused a s c n
-        surface-low h = rw (le-ltb 20 s hs, le-ltb 20 c hc, le-ltb 20 n hn, lt-ltb s n h)
-
-        pub curve-low : n ≤ s → c < n → refused 2 ≡ withinOrders refused a s c n
-        curve-low g h = rw (le-ltb 20 s hs, le-ltb 20 c hc, le-ltb 20 n hn, le-ltb s n g, lt-ltb c n h)
-
-        pub within : n ≤ s → n ≤ c → a ≡ withinOrders refused a s c n
-        within g h = rw (le-ltb 20 s hs, le-ltb 20 c hc, le-ltb 20 n hn, le-ltb s n g, le-ltb c n h)
+  pub within : s ≤ 20 → c ≤ 20 → n ≤ 20 → n ≤ s → n ≤ c → a ≡ withinOrders refused a s c n
+  within hs hc hn g h = rw (le-ltb 20 s hs, le-ltb 20 c hc, le-ltb 20 n hn, le-ltb s n g, le-ltb c n h)
 
   -- the outcome x beside the number m
   record Says (x : A) (m : ℕ) : Type 0 where

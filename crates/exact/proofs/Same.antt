@@ -1,9 +1,9 @@
 -- Jets that agree up to the order have the same entries, the same array and the same answer. Assumes nothing.
 use mathlib.Core.Path.{_≡_, refl, sym, ap, ap₂, _∙_, fun-ext}
 use mathlib.Core.Bool.{Bool, true, false, cond}
-use mathlib.Core.List.{List, _∷_, _++_}
+use mathlib.Core.List.{List, _++_}
 use Prim.Native.Nat.{ℕ, zero, suc, _+_, _≤_, _<_}
-use native.Mathlib.Nat.{add-zero, add-suc, suc-add, zero-add}
+use native.Mathlib.Nat.{zero-add}
 use native.Mathlib.Omega.{arith}
 use lib.Dec.{ltb}
 use lib.IntN.{ℤ, pos}
@@ -12,25 +12,19 @@ use Rattle.whole.specs.declared.Whole.{Whole}
 use Rattle.calculus.specs.Graded.{triangle, place, graded}
 use Rattle.calculus.specs.Array.{listed, filled}
 use Rattle.calculus.proofs.Graded.{place-order}
+use Rattle.calculus.proofs.Filling.{listed-same}
 use Rattle.calculus.specs.Order.{rows, curveEntries, surfaceEntries}
 use Rattle.exact.specs.Answer.{valueOf, refusedCurve, refusedSurface, answeredCurve, answeredSurface, unlessRefused, curveAnswer, surfaceAnswer}
 
 module _ {X : Type 0} where
-  listed-same : (f g : ℕ → X) (i n : ℕ) → ((x : ℕ) → x < n → f (i + x) ≡ g (i + x)) → listed f i n ≡ listed g i n
-  unfolding listed
-  listed-same f g i zero h = refl
-  listed-same f g i (suc n) h =
-      ap₂ _∷_ (ap f (sym (add-zero i)) ∙ h 0 (omega arith) ∙ ap g (add-zero i))
-      (listed-same f g (suc i) n (λ x l. ap f (suc-add i x ∙ sym (add-suc i x)) ∙ h (suc x) (omega arith) ∙ ap g (add-suc i x ∙ sym (suc-add i x))))
-
   pub curve-entries-same : (n : ℕ) {f g : ℕ → X} → ((m : ℕ) → m ≤ n → f m ≡ g m) → curveEntries f n ≡ curveEntries g n
-  curve-entries-same n {f} {g} h = listed-same f g 0 (suc n) (λ x l. ap f (zero-add x) ∙ h x (omega arith) ∙ ap g (sym (zero-add x)))
+  curve-entries-same n {f} {g} h = listed-same f g 0 0 (suc n) (λ x l. ap f (zero-add x) ∙ h x (omega arith) ∙ ap g (sym (zero-add x)))
 
   rows-same : (s t : ℕ → ℕ → X) (i k : ℕ) → ((x y : ℕ) → x + y < i + k → i ≤ x → s x y ≡ t x y) → rows s i k ≡ rows t i k
   unfolding rows
   rows-same s t i zero h = refl
   rows-same s t i (suc k) h =
-      ap₂ _++_ (listed-same (s i) (t i) 0 (suc k) (λ y l. ap (s i) (zero-add y) ∙ h i y (omega arith) (omega arith) ∙ ap (t i) (sym (zero-add y))))
+      ap₂ _++_ (listed-same (s i) (t i) 0 0 (suc k) (λ y l. ap (s i) (zero-add y) ∙ h i y (omega arith) (omega arith) ∙ ap (t i) (sym (zero-add y))))
       (rows-same s t (suc i) k (λ x y l b. h x y (omega arith) (omega arith)))
 
   pub surface-entries-same : (n : ℕ) {s t : ℕ → ℕ → X} → ((i j : ℕ) → i + j ≤ n → s i j ≡ t i j) → surfaceEntries s n ≡ surfaceEntries t n

@@ -1,39 +1,10 @@
--- The coefficients of Leibniz's rule, as the table of binomials holds them, and where an entry stands. Assumes nothing.
-use mathlib.Core.Path.{_≡_, sym, ap, ap₂, _∙_, subst, fun-ext}
-use Prim.Native.Nat.{ℕ, suc, _+_, _-_, _*_, _^_, _≤_, _<_}
-use native.Mathlib.Nat.{mul-le-mul, lt-of-le-of-lt, zero-add}
+-- The terms that a row of Leibniz's rule takes in. Assumes nothing.
+use mathlib.Core.Path.{_≡_, ap, ap₂, fun-ext}
+use Prim.Native.Nat.{ℕ, suc, _+_, _-_}
+use native.Mathlib.Nat.{zero-add}
+use native.Mathlib.Numerals.{one-add}
 use native.Mathlib.Omega.{arith}
-use lib.ListN.{getD}
 use Rattle.calculus.specs.InTurn.{inTurn}
-use Rattle.calculus.specs.Graded.{triangle, index}
-use Rattle.calculus.specs.Choose.{choose, binomialTable}
-use Rattle.calculus.proofs.Graded.{index-is, index-231}
-use Rattle.calculus.proofs.Pascal.{binomial-at, choose-small}
-
-pub coefficient : (m i : ℕ) → i ≤ m → m ≤ 20 → getD binomialTable (index i (m - i)) 0 ≡ choose m i
-coefficient m i h l =
-    let e : i + (m - i) ≡ m = omega arith in
-    ap (λ (k : ℕ). getD binomialTable k 0) (index-is i (m - i) ∙ ap (λ (x : ℕ). triangle x + i) e) ∙ binomial-at m i h l
-
--- an order that is at most 20, times the next
-pub small-square : (n : ℕ) → n ≤ 20 → n * (n + 1) ≤ 420
-small-square n h =
-    let k : n + 1 ≤ 21 = omega arith in
-    mul-le-mul h k
-
-pub small-count : (n : ℕ) → n ≤ 20 → (n + 1) * (n + 2) ≤ 462
-small-count n h =
-    let k : n + 1 ≤ 21 = omega arith in
-    let l : n + 2 ≤ 22 = omega arith in
-    mul-le-mul k l
-
-pub term-place : (m i : ℕ) → i ≤ m → m ≤ 20 → index i (m - i) < 231
-term-place m i h l = index-231 i (m - i) (omega arith)
-
--- the product of two coefficients whose orders total at most 20 fits 32 bits
-pub small-product : {x y : ℕ} (m n i j : ℕ) → x ≡ choose m i → y ≡ choose n j → m + n ≤ 20 → x * y < 2 ^ 32
-small-product {x} {y} m n i j p q h =
-    lt-of-le-of-lt (subst (λ (z : ℕ). z ≤ 1048576) (sym (ap₂ _*_ p q)) (choose-small m n i j h)) (omega arith)
 
 -- a row of terms from its first on, and from its second on
 module _ {A B : Type 0} (op : A → B → A) (x : A) (f : ℕ → B) (n : ℕ) where
@@ -45,7 +16,4 @@ module _ {A B : Type 0} (op : A → B → A) (x : A) (f : ℕ → B) (n : ℕ) w
   pub from-one : inTurn op x (λ j. f (1 + j)) (suc n - 1) ≡ inTurn op x (λ j. f (suc j)) n
   from-one =
       let e : suc n - 1 ≡ n = omega arith in
-      ap₂ (inTurn op x) (fun-ext (λ j. ap f (next j))) e
-    where
-      next : (j : ℕ) → 1 + j ≡ suc j
-      next j = omega arith
+      ap₂ (inTurn op x) (fun-ext (λ j. ap f (one-add j))) e

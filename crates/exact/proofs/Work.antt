@@ -1,6 +1,6 @@
 -- The answer that the entries left in the order of work leave: a number is passed, and a refusal ends the work. Assumes nothing.
 use mathlib.Core.Path.{_≡_, refl, sym, ap, ap₂, _∙_}
-use mathlib.Core.List.{List, [], _∷_, _++_, map}
+use mathlib.Core.List.{List, [], _∷_, _++_, map, map-append}
 use Prim.Native.Nat.{ℕ, zero, suc, _+_, _-_, _≤_, _<_}
 use native.Mathlib.Numerals.{add-one}
 use native.Mathlib.Omega.{arith}
@@ -33,10 +33,6 @@ module _ {A : Type 0} (refused : ℕ → A) (a : A) where
 
 -- ---- lists of values
 module _ {X Y : Type 0} (g : X → Y) where
-  map-append : (l k : List X) → map g (l ++ k) ≡ map g l ++ map g k
-  map-append [] k = refl
-  map-append (x ∷ l) k = ap (λ (r : List Y). g x ∷ r) (map-append l k)
-
   pub map-listed : (f : ℕ → X) (i n : ℕ) → map g (listed f i n) ≡ listed (λ k. g (f k)) i n
   unfolding listed
   map-listed f i zero = refl
@@ -46,7 +42,7 @@ module _ {X Y : Type 0} (g : X → Y) where
   unfolding rows
   map-rows s i zero = refl
   map-rows s i (suc k) =
-      map-append (listed (s i) 0 (suc k)) (rows s (suc i) k) ∙ ap₂ _++_ (map-listed (s i) 0 (suc k)) (map-rows s (suc i) k)
+      map-append g (listed (s i) 0 (suc k)) (rows s (suc i) k) ∙ ap₂ _++_ (map-listed (s i) 0 (suc k)) (map-rows s (suc i) k)
 
 -- ---- the numbers of a parameter curve's list, from those of the order m on
 module _ (u v : ℕ → ℤ) (n : ℕ) where

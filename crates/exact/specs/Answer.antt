@@ -67,63 +67,64 @@ curveAnswer f n = unlessRefused refusedCurve (curveEntries f n) (answeredCurve n
 abbrev pub surfaceAnswer : (ℕ → ℕ → Whole) → ℕ → SurfaceAnswer
 surfaceAnswer f n = unlessRefused refusedSurface (surfaceEntries f n) (answeredSurface n (λ i j. valueOf (f i j)))
 
--- ---- a formula on two jets, at the smaller order
+-- ---- the tests that come first: the number of the first that fails, or else the answer
+module _ {A : Type 0} (refused : ℕ → A) where
+  -- two jets of the orders m and n: the work is at the smaller
+  abbrev pub atSmaller : ℕ → ℕ → (ℕ → A) → A
+  atSmaller m n work = cond (ltb 20 m) (refused 1) (cond (ltb 20 n) (refused 1) (work (min m n)))
+
+  -- an entry of the order k, of two jets of the orders m and n
+  abbrev pub atOrder : ℕ → ℕ → ℕ → A → A
+  atOrder m n k answer =
+      cond (ltb 20 m) (refused 1) (cond (ltb 20 n) (refused 1) (cond (ltb 20 k) (refused 1) (cond (ltb (min m n) k) (refused 2) answer)))
+
+  -- a derivative of a jet of the order n has one order less
+  abbrev pub oneLess : ℕ → (ℕ → A) → A
+  oneLess n work = cond (ltb 20 n) (refused 1) (cond (eqb n 0) (refused 2) (work (n - 1)))
+
+  -- a jet of the order n beside a list of k entries, where `due` are due
+  abbrev pub ofLength : ℕ → ℕ → ℕ → A → A
+  ofLength n k due answer = cond (ltb 20 n) (refused 1) (cond (eqb k due) answer (refused 2))
+
+-- ---- a formula on two jets
 abbrev pub onCurves : ((ℕ → Whole) → (ℕ → Whole) → ℕ → Whole) → CurveDerivatives → CurveDerivatives → CurveAnswer
-onCurves op a b =
-    cond (ltb 20 (a .order)) (refusedCurve 1) (cond (ltb 20 (b .order)) (refusedCurve 1)
-    (curveAnswer (op (curveValues (a .entries)) (curveValues (b .entries))) (min (a .order) (b .order))))
+onCurves op a b = atSmaller refusedCurve (a .order) (b .order) (curveAnswer (op (curveValues (a .entries)) (curveValues (b .entries))))
 
 abbrev pub onSurfaces : ((ℕ → ℕ → Whole) → (ℕ → ℕ → Whole) → ℕ → ℕ → Whole) → SurfaceDerivatives → SurfaceDerivatives → SurfaceAnswer
-onSurfaces op a b =
-    cond (ltb 20 (a .order)) (refusedSurface 1) (cond (ltb 20 (b .order)) (refusedSurface 1)
-    (surfaceAnswer (op (surfaceValues (a .entries)) (surfaceValues (b .entries))) (min (a .order) (b .order))))
+onSurfaces op a b = atSmaller refusedSurface (a .order) (b .order) (surfaceAnswer (op (surfaceValues (a .entries)) (surfaceValues (b .entries))))
 
 -- one entry of it, of the order m, and of the orders m by u and n by v
 abbrev pub onCurvesAt : ((ℕ → Whole) → (ℕ → Whole) → ℕ → Whole) → CurveDerivatives → CurveDerivatives → ℕ → Whole
-onCurvesAt op a b m =
-    cond (ltb 20 (a .order)) (Refused 1) (cond (ltb 20 (b .order)) (Refused 1) (cond (ltb 20 m) (Refused 1)
-    (cond (ltb (min (a .order) (b .order)) m) (Refused 2) (op (curveValues (a .entries)) (curveValues (b .entries)) m))))
+onCurvesAt op a b m = atOrder Refused (a .order) (b .order) m (op (curveValues (a .entries)) (curveValues (b .entries)) m)
 
 abbrev pub onSurfacesAt : ((ℕ → ℕ → Whole) → (ℕ → ℕ → Whole) → ℕ → ℕ → Whole) → SurfaceDerivatives → SurfaceDerivatives → ℕ → ℕ → Whole
-onSurfacesAt op a b m n =
-    cond (ltb 20 (a .order)) (Refused 1) (cond (ltb 20 (b .order)) (Refused 1) (cond (ltb 20 (m + n)) (Refused 1)
-    (cond (ltb (min (a .order) (b .order)) (m + n)) (Refused 2) (op (surfaceValues (a .entries)) (surfaceValues (b .entries)) m n))))
+onSurfacesAt op a b m n = atOrder Refused (a .order) (b .order) (m + n) (op (surfaceValues (a .entries)) (surfaceValues (b .entries)) m n)
 
--- ---- a derivative has one order less
+-- ---- a derivative
 abbrev pub curveDerivative : CurveDerivatives → CurveAnswer
-curveDerivative a =
-    cond (ltb 20 (a .order)) (refusedCurve 1) (cond (eqb (a .order) 0) (refusedCurve 2)
-    (answeredCurve (a .order - 1) (derivative (curveNumbers (a .entries)))))
+curveDerivative a = oneLess refusedCurve (a .order) (λ n. answeredCurve n (derivative (curveNumbers (a .entries))))
 
 abbrev pub surfaceDerivative : ((ℕ → ℕ → ℤ) → ℕ → ℕ → ℤ) → SurfaceDerivatives → SurfaceAnswer
-surfaceDerivative op a =
-    cond (ltb 20 (a .order)) (refusedSurface 1) (cond (eqb (a .order) 0) (refusedSurface 2)
-    (answeredSurface (a .order - 1) (op (surfaceNumbers (a .entries)))))
+surfaceDerivative op a = oneLess refusedSurface (a .order) (λ n. answeredSurface n (op (surfaceNumbers (a .entries))))
 
 -- ---- from a list, whose entries stand in the order of work; those of a parameter curve as u0 v0 u1 v1 ..
 abbrev pub curveFromList : ℕ → List ℤ → CurveAnswer
-curveFromList n l =
-    cond (ltb 20 n) (refusedCurve 1) (cond (eqb (length l) (suc n)) (answeredCurve n (curveNumbers l)) (refusedCurve 2))
+curveFromList n l = ofLength refusedCurve n (length l) (suc n) (answeredCurve n (curveNumbers l))
 
 abbrev pub surfaceFromList : ℕ → List ℤ → SurfaceAnswer
-surfaceFromList n l =
-    cond (ltb 20 n) (refusedSurface 1) (cond (eqb (length l) (triangle (suc n)))
-    (answeredSurface n (λ i j. getD l (listPlace n i j) (pos 0))) (refusedSurface 2))
+surfaceFromList n l = ofLength refusedSurface n (length l) (triangle (suc n)) (answeredSurface n (λ i j. getD l (listPlace n i j) (pos 0)))
 
 abbrev pub parameterFromList : ℕ → List ℤ → ParameterAnswer
 parameterFromList n l =
-    cond (ltb 20 n) (refusedParameter 1) (cond (eqb (length l) (2 * suc n))
-    (answeredParameter n (λ m. getD l (2 * m) (pos 0)) (λ m. getD l (2 * m + 1) (pos 0))) (refusedParameter 2))
+    ofLength refusedParameter n (length l) (2 * suc n) (answeredParameter n (λ m. getD l (2 * m) (pos 0)) (λ m. getD l (2 * m + 1) (pos 0)))
 
 -- ---- into a list: the refusal's number, and what the list holds then
 abbrev pub curveIntoList : CurveDerivatives → List ℤ → ℕ × List ℤ
-curveIntoList a out =
-    cond (ltb 20 (a .order)) (1, out) (cond (eqb (length out) (suc (a .order))) (0, curveEntries (curveNumbers (a .entries)) (a .order)) (2, out))
+curveIntoList a out = ofLength (λ c. (c, out)) (a .order) (length out) (suc (a .order)) (0, curveEntries (curveNumbers (a .entries)) (a .order))
 
 abbrev pub surfaceIntoList : SurfaceDerivatives → List ℤ → ℕ × List ℤ
 surfaceIntoList a out =
-    cond (ltb 20 (a .order)) (1, out) (cond (eqb (length out) (triangle (suc (a .order))))
-    (0, surfaceEntries (surfaceNumbers (a .entries)) (a .order)) (2, out))
+    ofLength (λ c. (c, out)) (a .order) (length out) (triangle (suc (a .order))) (0, surfaceEntries (surfaceNumbers (a .entries)) (a .order))
 
 -- u and v side by side
 unfoldable pub pairs : (ℕ → ℤ) → (ℕ → ℤ) → ℕ → ℕ → List ℤ
@@ -132,5 +133,4 @@ pairs u v i (suc k) = u i ∷ v i ∷ pairs u v (suc i) k
 
 abbrev pub parameterIntoList : ParameterCurve → List ℤ → ℕ × List ℤ
 parameterIntoList a out =
-    cond (ltb 20 (a .order)) (1, out) (cond (eqb (length out) (2 * suc (a .order)))
-    (0, pairs (curveNumbers (a .u)) (curveNumbers (a .v)) 0 (suc (a .order))) (2, out))
+    ofLength (λ c. (c, out)) (a .order) (length out) (2 * suc (a .order)) (0, pairs (curveNumbers (a .u)) (curveNumbers (a .v)) 0 (suc (a .order)))

@@ -17,7 +17,7 @@ use partitions::Count;
 use whole::Whole;
 
 // From one, for each part in turn: the derivative of the part's order of u where the part's bit is 0, and of v where it is 1.
-pub fn factors(u: &[i64; 21], v: &[i64; 21], list: &[usize], mask: u32) -> Whole
+fn factors(u: &[i64; 21], v: &[i64; 21], list: &[usize], mask: u32) -> Whole
     requires { ⌜ total (now list) ≤ 20 ⌝ }
     ensures { λ r. ⌜ r ≡ Factors checked 2 (coordinates (curveValues (now (u .entry))) (curveValues (now (v .entry)))) (checked .one) (now (list .entry)) mask ⌝ }
 {
@@ -34,8 +34,8 @@ pub fn factors(u: &[i64; 21], v: &[i64; 21], list: &[usize], mask: u32) -> Whole
     product
 }
 
-// The sum over all masks of the entry of the surface that the mask's ones count names, times the factors of the mask.
-pub fn tensor(entries: &[i64; 231], u: &[i64; 21], v: &[i64; 21], list: &[usize]) -> Whole
+// Over all masks in turn, the sum of the surface's entry that the count of the mask's ones names, times the mask's factors.
+fn tensor(entries: &[i64; 231], u: &[i64; 21], v: &[i64; 21], list: &[usize]) -> Whole
     requires { ⌜ (length (now list) ≤ 20) × (total (now list) ≤ 20) ⌝ }
     ensures { λ r. ⌜ r ≡ Tensor (regular checked) 2 (coordinates (curveValues (now (u .entry))) (curveValues (now (v .entry)))) (surfaceEntry (surfaceValues (now (entries .entry)))) (now (list .entry)) ⌝ }
 {
@@ -56,7 +56,7 @@ pub fn tensor(entries: &[i64; 231], u: &[i64; 21], v: &[i64; 21], list: &[usize]
 }
 
 // The tensor of a list times how often the list counts.
-pub fn summand(entries: &[i64; 231], u: &[i64; 21], v: &[i64; 21], list: &[usize]) -> Whole
+fn summand(entries: &[i64; 231], u: &[i64; 21], v: &[i64; 21], list: &[usize]) -> Whole
     requires { ⌜ (isList (now list) ≡ true) × (total (now list) ≤ 20) ⌝ }
     ensures { λ r. ⌜ r ≡ Summand (regular checked) 2 (coordinates (curveValues (now (u .entry))) (curveValues (now (v .entry)))) (surfaceEntry (surfaceValues (now (entries .entry)))) (now (list .entry)) ⌝ }
 {
@@ -72,7 +72,7 @@ pub fn summand(entries: &[i64; 231], u: &[i64; 21], v: &[i64; 21], list: &[usize
 }
 
 // The running total, from `start`, over the lists of `len` parts.
-pub fn along_lists(
+fn along_lists(
     entries: &[i64; 231],
     u: &[i64; 21],
     v: &[i64; 21],
@@ -109,6 +109,7 @@ pub fn derivative(entries: &[i64; 231], u: &[i64; 21], v: &[i64; 21], order: usi
     total
 }
 
+// The same, with the surface's [0][0] at order 0.
 fn entry(entries: &[i64; 231], u: &[i64; 21], v: &[i64; 21], m: usize) -> Whole
     requires { ⌜ m ≤ 20 ⌝ }
     ensures { λ r. ⌜ r ≡ compositeDerivatives (regular checked) (curveValues (now (u .entry))) (curveValues (now (v .entry))) (surfaceValues (now (entries .entry))) m ⌝ }
@@ -121,6 +122,7 @@ fn entry(entries: &[i64; 231], u: &[i64; 21], v: &[i64; 21], m: usize) -> Whole
     }
 }
 
+// The jet of them, entry by entry; the first refusal ends it.
 pub fn derivatives(entries: &[i64; 231], u: &[i64; 21], v: &[i64; 21], order: usize) -> CurveAnswer
     requires { ⌜ order ≤ 20 ⌝ }
     ensures { λ r. ⌜ r ≡ curveAnswer (compositeDerivatives (regular checked) (curveValues (now (u .entry))) (curveValues (now (v .entry))) (surfaceValues (now (entries .entry)))) order ⌝ }

@@ -1,4 +1,4 @@
-// Exact jets of curves.
+// Exact jets of curves. In the loops, c is the table of the binomial coefficients.
 ghost use mathlib.Core.Path.{_≡_};
 ghost use mathlib.Core.List.{List};
 ghost use Prim.Native.Nat.{ℕ, suc, _≤_, _<_};
@@ -16,6 +16,7 @@ use crate::CurveAnswer;
 use crate::CurveDerivatives;
 use whole::Whole;
 
+// The i-th term of Leibniz's rule at the order m.
 fn leibniz_term(a: &[i64; 21], b: &[i64; 21], c: &[u32; 231], m: usize, i: usize) -> Whole
     requires { ⌜ (i ≤ m) × (m ≤ 20) × (now c ≡ binomialTable) ⌝ }
     ensures { λ r. ⌜ r ≡ leibniz (regular checked) (checked .times) (curveValues (now (a .entry))) (curveValues (now (b .entry))) m i ⌝ }
@@ -91,6 +92,7 @@ fn entry(
     }
 }
 
+// The jet that a formula forms, entry by entry; the first refusal ends it.
 fn entries(f: CurveFormula, a: &[i64; 21], b: &[i64; 21], n: usize) -> CurveAnswer
     requires { ⌜ n ≤ 20 ⌝ }
     ensures { λ r. ⌜ r ≡ curveAnswer (rising (checked .nought) (curveFormula f (curveValues (now (a .entry))) (curveValues (now (b .entry))))) n ⌝ }
@@ -119,6 +121,7 @@ fn entries(f: CurveFormula, a: &[i64; 21], b: &[i64; 21], n: usize) -> CurveAnsw
     }
 }
 
+// A formula on two jets, at the smaller order.
 fn on_two(f: CurveFormula, a: CurveDerivatives, b: CurveDerivatives) -> CurveAnswer
     ensures { λ r. ⌜ r ≡ onCurves (λ x y. rising (checked .nought) (curveFormula f x y)) a b ⌝ }
 {
@@ -132,7 +135,7 @@ fn on_two(f: CurveFormula, a: CurveDerivatives, b: CurveDerivatives) -> CurveAns
     }
     let x = a.entries;
     let y = b.entries;
-    entries(f, &x, &y, crate::smaller(m, n))
+    entries(f, &x, &y, calculus::smaller(m, n))
 }
 
 // The derivative, of the order n.
@@ -176,6 +179,7 @@ fn read(list: &[i64], n: usize) -> CurveAnswer
     }
 }
 
+// The entries into such a list.
 fn write(a: &[i64; 21], n: usize, out: &mut [i64])
     requires { ⌜ (n ≤ 20) × (length (now out) ≡ suc n) ⌝ }
     ensures { λ _. ⌜ now (out .exit) ≡ curveEntries (curveNumbers (now (a .entry))) n ⌝ }
@@ -188,6 +192,7 @@ fn write(a: &[i64; 21], n: usize, out: &mut [i64])
 }
 
 impl CurveDerivatives {
+    // From a list with an entry for each order.
     pub fn from_list(order: usize, list: &[i64]) -> CurveAnswer
         ensures { λ r. ⌜ r ≡ curveFromList order (now (list .entry)) ⌝ }
     {
@@ -201,6 +206,7 @@ impl CurveDerivatives {
         }
     }
 
+    // Into such a list: 0, or the number of the refusal.
     pub fn into_list(self, out: &mut [i64]) -> u8
         ensures { λ r. ⌜ _≡_ {A = ℕ × List ℤ} (r, now (out .exit)) (curveIntoList self (now (out .entry))) ⌝ }
     {
@@ -258,7 +264,7 @@ impl CurveDerivatives {
         if 20 < order {
             return Whole::Refused(1);
         }
-        if crate::smaller(m, n) < order {
+        if calculus::smaller(m, n) < order {
             return Whole::Refused(2);
         }
         let c = calculus::binomials();
@@ -267,6 +273,7 @@ impl CurveDerivatives {
         product_entry(&x, &y, &c, order)
     }
 
+    // The product, by Leibniz's rule.
     pub fn combinatorial_derivatives(self, other: CurveDerivatives) -> CurveAnswer
         ensures { λ r. ⌜ r ≡ onCurves (product checked) self other ⌝ }
     {

@@ -1,7 +1,7 @@
 // Jets of exact numbers: the derivatives of a curve or of a surface, each a signed 64-bit whole number. A function answers in full, or
 // refuses with a number of document 01's table. Anybody may write the fields: every function tests the orders.
 ghost use mathlib.Core.Path.{_≡_};
-ghost use Prim.Native.Nat.{_+_, _≤_, min};
+ghost use Prim.Native.Nat.{_+_, _≤_};
 ghost use Rattle.calculus.specs.Graded.{index as indexOf};
 ghost use Rattle.exact.specs.Kinds.{checked};
 ghost use Rattle.exact.specs.Answer.{refusedCurve, refusedSurface, refusedParameter};
@@ -88,12 +88,6 @@ fn refused_parameter(c: u8) -> ParameterAnswer
             v: z,
         },
     }
-}
-
-fn smaller(m: usize, n: usize) -> usize
-    ensures { λ r. ⌜ r ≡ min m n ⌝ }
-{
-    if m < n { m } else { n }
 }
 
 // Where [i][j] stands in a surface's array.

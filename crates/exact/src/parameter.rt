@@ -24,6 +24,7 @@ fn halves(list: &[i64], n: usize, first: usize) -> [i64; 21]
     r
 }
 
+// u and v side by side.
 fn write(u: &[i64; 21], v: &[i64; 21], n: usize, out: &mut [i64])
     requires { ⌜ (n ≤ 20) × (length (now out) ≡ 2 * suc n) ⌝ }
     ensures { λ _. ⌜ now (out .exit) ≡ pairs (curveNumbers (now (u .entry))) (curveNumbers (now (v .entry))) 0 (suc n) ⌝ }
@@ -40,6 +41,7 @@ fn write(u: &[i64; 21], v: &[i64; 21], n: usize, out: &mut [i64])
 }
 
 impl ParameterCurve {
+    // From a list of u0 v0 u1 v1 ..
     pub fn from_list(order: usize, list: &[i64]) -> ParameterAnswer
         ensures { λ r. ⌜ r ≡ parameterFromList order (now (list .entry)) ⌝ }
     {
@@ -62,6 +64,7 @@ impl ParameterCurve {
         }
     }
 
+    // Into such a list: 0, or the number of the refusal.
     pub fn into_list(self, out: &mut [i64]) -> u8
         ensures { λ r. ⌜ _≡_ {A = ℕ × List ℤ} (r, now (out .exit)) (parameterIntoList self (now (out .entry))) ⌝ }
     {

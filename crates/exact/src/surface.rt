@@ -1,4 +1,4 @@
-// Exact jets of surfaces.
+// Exact jets of surfaces. In the loops, c is the table of the binomial coefficients.
 ghost use mathlib.Core.Path.{_≡_};
 ghost use mathlib.Core.List.{List};
 ghost use Prim.Native.Nat.{ℕ, suc, _+_, _-_, _≤_};
@@ -18,6 +18,7 @@ use crate::SurfaceAnswer;
 use crate::SurfaceDerivatives;
 use whole::Whole;
 
+// The term [i][j] of Leibniz's rule at [m][n].
 fn leibniz_term(
     a: &[i64; 231],
     b: &[i64; 231],
@@ -167,7 +168,7 @@ fn entry(
     }
 }
 
-// Entries are formed with i rising, then j.
+// The jet that a formula forms, entry by entry, i rising, then j; the first refusal ends it.
 fn entries(f: SurfaceFormula, a: &[i64; 231], b: &[i64; 231], n: usize) -> SurfaceAnswer
     requires { ⌜ n ≤ 20 ⌝ }
     ensures { λ r. ⌜ r ≡ surfaceAnswer (risingRows (checked .nought) (surfaceFormula f (surfaceValues (now (a .entry))) (surfaceValues (now (b .entry))))) n ⌝ }
@@ -202,6 +203,7 @@ fn entries(f: SurfaceFormula, a: &[i64; 231], b: &[i64; 231], n: usize) -> Surfa
     }
 }
 
+// A formula on two jets, at the smaller order.
 fn on_two(f: SurfaceFormula, a: SurfaceDerivatives, b: SurfaceDerivatives) -> SurfaceAnswer
     ensures { λ r. ⌜ r ≡ onSurfaces (λ x y. risingRows (checked .nought) (surfaceFormula f x y)) a b ⌝ }
 {
@@ -215,7 +217,7 @@ fn on_two(f: SurfaceFormula, a: SurfaceDerivatives, b: SurfaceDerivatives) -> Su
     }
     let x = a.entries;
     let y = b.entries;
-    entries(f, &x, &y, crate::smaller(m, n))
+    entries(f, &x, &y, calculus::smaller(m, n))
 }
 
 // The derivative p times by u and q times by v, of the order n.
@@ -245,12 +247,20 @@ fn shifted(a: &[i64; 231], n: usize, p: usize, q: usize) -> SurfaceAnswer
     }
 }
 
-// How many entries there are up to the order n.
-fn count(n: usize) -> usize
-    requires { ⌜ n ≤ 20 ⌝ }
-    ensures { λ r. ⌜ r ≡ triangle (suc n) ⌝ }
+// The derivative once by u or once by v.
+fn derivative(a: SurfaceDerivatives, p: usize, q: usize) -> SurfaceAnswer
+    requires { ⌜ p + q ≡ 1 ⌝ }
+    ensures { λ r. ⌜ r ≡ surfaceDerivative (λ s i j. s (i + p) (j + q)) a ⌝ }
 {
-    (n + 1) * (n + 2) / 2
+    let n = a.order;
+    if 20 < n {
+        return crate::refused_surface(1);
+    }
+    if n == 0 {
+        return crate::refused_surface(2);
+    }
+    let x = a.entries;
+    shifted(&x, n - 1, p, q)
 }
 
 // The entries of a list: i rising, then j.
@@ -281,6 +291,7 @@ fn read(list: &[i64], n: usize) -> SurfaceAnswer
     }
 }
 
+// The entries into such a list.
 fn write(a: &[i64; 231], n: usize, out: &mut [i64])
     requires { ⌜ (n ≤ 20) × (length (now out) ≡ triangle (suc n)) ⌝ }
     ensures { λ _. ⌜ now (out .exit) ≡ surfaceEntries (surfaceNumbers (now (a .entry))) n ⌝ }
@@ -301,19 +312,21 @@ fn write(a: &[i64; 231], n: usize, out: &mut [i64])
 }
 
 impl SurfaceDerivatives {
+    // From a list of the entries [i][j], i rising, then j.
     pub fn from_list(order: usize, list: &[i64]) -> SurfaceAnswer
         ensures { λ r. ⌜ r ≡ surfaceFromList order (now (list .entry)) ⌝ }
     {
         if 20 < order {
             return crate::refused_surface(1);
         }
-        if list.len() == count(order) {
+        if list.len() == calculus::surface_count(order) {
             read(list, order)
         } else {
             crate::refused_surface(2)
         }
     }
 
+    // Into such a list: 0, or the number of the refusal.
     pub fn into_list(self, out: &mut [i64]) -> u8
         ensures { λ r. ⌜ _≡_ {A = ℕ × List ℤ} (r, now (out .exit)) (surfaceIntoList self (now (out .entry))) ⌝ }
     {
@@ -321,7 +334,7 @@ impl SurfaceDerivatives {
         if 20 < n {
             return 1;
         }
-        if out.len() == count(n) {
+        if out.len() == calculus::surface_count(n) {
             let a = self.entries;
             write(&a, n, out);
             0
@@ -345,29 +358,13 @@ impl SurfaceDerivatives {
     pub fn derivative_u(self) -> SurfaceAnswer
         ensures { λ r. ⌜ r ≡ surfaceDerivative derivativeU self ⌝ }
     {
-        let n = self.order;
-        if 20 < n {
-            return crate::refused_surface(1);
-        }
-        if n == 0 {
-            return crate::refused_surface(2);
-        }
-        let a = self.entries;
-        shifted(&a, n - 1, 1, 0)
+        derivative(self, 1, 0)
     }
 
     pub fn derivative_v(self) -> SurfaceAnswer
         ensures { λ r. ⌜ r ≡ surfaceDerivative derivativeV self ⌝ }
     {
-        let n = self.order;
-        if 20 < n {
-            return crate::refused_surface(1);
-        }
-        if n == 0 {
-            return crate::refused_surface(2);
-        }
-        let a = self.entries;
-        shifted(&a, n - 1, 0, 1)
+        derivative(self, 0, 1)
     }
 
     // One entry of the product: [m][n].
@@ -391,7 +388,7 @@ impl SurfaceDerivatives {
         if 20 < m + n {
             return Whole::Refused(1);
         }
-        if crate::smaller(k, l) < m + n {
+        if calculus::smaller(k, l) < m + n {
             return Whole::Refused(2);
         }
         let c = calculus::binomials();
@@ -400,6 +397,7 @@ impl SurfaceDerivatives {
         product_entry(&x, &y, &c, m, n)
     }
 
+    // The product, by Leibniz's rule.
     pub fn combinatorial_derivatives(self, other: SurfaceDerivatives) -> SurfaceAnswer
         ensures { λ r. ⌜ r ≡ onSurfaces (product checked) self other ⌝ }
     {

@@ -1,6 +1,6 @@
 -- The cases of `counted`, each by the tests that lead to it. Assumes nothing.
 use mathlib.Core.Path.{_≡_, refl, ap, ap₂}
-use mathlib.Core.Bool.{Bool, true, false, cond}
+use mathlib.Core.Bool.{Bool, false, cond}
 use mathlib.Core.List.{List, [], _∷_}
 use Prim.Native.Nat.{ℕ, _≤_, _<_}
 use native.Mathlib.Omega.{arith}
@@ -8,7 +8,6 @@ use lib.ListN.{length, getD}
 use borrow.Author.Tests.{lt-ltb, le-ltb}
 use Rattle.partitions.specs.Parts.{total, multiplicity}
 use Rattle.partitions.specs.Count.{falls, isList, counted}
-use Rattle.partitions.specs.declared.Count.{Count}
 use Rattle.partitions.specs.declared.Count.the-variants.{Value, Refused}
 
 module _ (l : List ℕ) where

@@ -15,6 +15,12 @@ pub data Every (P : List ℕ → Type 0) : List (List ℕ) → Type 0 where
   nil : Every P []
   and : {x : List ℕ} {xs : List (List ℕ)} → P x → Every P xs → Every P (x ∷ xs)
 
+pub head-of : {P : List ℕ → Type 0} {x : List ℕ} {xs : List (List ℕ)} → Every P (x ∷ xs) → P x
+head-of (and p ps) = p
+
+pub tail-of : {P : List ℕ → Type 0} {x : List ℕ} {xs : List (List ℕ)} → Every P (x ∷ xs) → Every P xs
+tail-of (and p ps) = ps
+
 every-append : {P : List ℕ → Type 0} {xs ys : List (List ℕ)} → Every P xs → Every P ys → Every P (xs ++ ys)
 every-append nil q = q
 every-append (and p ps) q = and p (every-append ps q)

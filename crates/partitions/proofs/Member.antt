@@ -10,15 +10,16 @@ use lib.ListN.{length, getD}
 use Rattle.partitions.specs.Parts.{total, parts, lists}
 use Rattle.partitions.specs.Walk.{same, from}
 use Rattle.partitions.specs.Count.{falls, isList}
-use Rattle.partitions.proofs.Tests.{by-leb, by-eqb, eqb-yes, eqb-no}
+use borrow.Author.Tests.{eq-eqb, ne-eqb}
+use Rattle.partitions.proofs.Tests.{by-leb, by-eqb}
 use Rattle.partitions.proofs.Down.{Down, none, one}
-use Rattle.partitions.proofs.Lists.{Every, nil, and, every-weaken, Is, sound, complete, Greater, sooner, later}
+use Rattle.partitions.proofs.Lists.{Every, nil, and, head-of, every-weaken, Is, sound, complete, Greater, sooner, later}
 
 -- ---- `same` is equality
 pub same-refl : (l : List ℕ) → same l l ≡ true
 unfolding same
 same-refl [] = refl
-same-refl (a ∷ l) = ap (λ b. cond b (same l l) false) (eqb-yes a a refl) ∙ same-refl l
+same-refl (a ∷ l) = ap (λ b. cond b (same l l) false) (eq-eqb a a refl) ∙ same-refl l
 
 pub same-is : (l r : List ℕ) → same l r ≡ true → l ≡ r
 unfolding same
@@ -44,8 +45,8 @@ same-no l r n = by-same l r (λ b. b ≡ false) (λ e. absurd (n e)) (λ _. refl
 
 pub greater-not : {x y : List ℕ} → Greater x y → same y x ≡ false
 unfolding same
-greater-not (sooner {a = a} {b = b} {l = l} {r = r} h) = ap (λ t. cond t (same r l) false) (eqb-no b a (λ e. omega arith))
-greater-not (later {a = a} {l = l} {r = r} g) = ap (λ t. cond t (same r l) false) (eqb-yes a a refl) ∙ greater-not g
+greater-not (sooner {a = a} {b = b} {l = l} {r = r} h) = ap (λ t. cond t (same r l) false) (ne-eqb b a (λ e. omega arith))
+greater-not (later {a = a} {l = l} {r = r} g) = ap (λ t. cond t (same r l) false) (eq-eqb a a refl) ∙ greater-not g
 
 -- ---- the lists from one on
 pub from-here : (l : List ℕ) (xs : List (List ℕ)) → from l (l ∷ xs) ≡ l ∷ xs
@@ -78,7 +79,7 @@ pub down-falls : {m : ℕ} {l : List ℕ} → Down m l → falls m l ≡ true
 unfolding falls
 down-falls none = refl
 down-falls {m} (one {a = a} {l = l} h d) =
-    ap (λ b. cond b false (cond (ltb m (suc a)) false (falls (suc a) l))) (eqb-no (suc a) 0 (λ e. omega arith))
+    ap (λ b. cond b false (cond (ltb m (suc a)) false (falls (suc a) l))) (ne-eqb (suc a) 0 (λ e. omega arith))
     ∙ by-leb (suc m) (suc a) (λ b. cond b false (falls (suc a) l) ≡ true) (λ g. absurd (omega arith)) (λ g. down-falls d)
 
 pub falls-down : (m : ℕ) (l : List ℕ) → falls m l ≡ true → Down m l
@@ -88,7 +89,7 @@ falls-down m (zero ∷ l) e = absurd (true≢false (sym e))
 falls-down m (suc a ∷ l) e =
     by-leb (suc m) (suc a) (λ b. cond b false (falls (suc a) l) ≡ true → Down m (suc a ∷ l))
     (λ _ g. absurd (true≢false (sym g))) (λ h g. one {m = m} {a = a} (omega arith) (falls-down (suc a) l g))
-    (ap (λ b. cond b false (cond (ltb m (suc a)) false (falls (suc a) l))) (sym (eqb-no (suc a) 0 (λ z. omega arith))) ∙ e)
+    (ap (λ b. cond b false (cond (ltb m (suc a)) false (falls (suc a) l))) (sym (ne-eqb (suc a) 0 (λ z. omega arith))) ∙ e)
 
 pub by-falls : (m : ℕ) (l : List ℕ) (P : Bool → Type 0) → (Down m l → P true) → (¬ (Down m l) → P false) → P (falls m l)
 by-falls m l P f g = split (falls m l) refl
@@ -137,10 +138,7 @@ unlisted-total n k l t = unlisted n k l (λ i. t (i .sums))
 
 -- what stands from l on begins with l and is one of the lists
 pub from-is : (k m n : ℕ) (l x : List ℕ) (r : List (List ℕ)) → from l (parts k m n) ≡ x ∷ r → Is k m n x
-from-is k m n l x r e = head (subst (Every (Is k m n)) e (from-every l (sound k m n)))
-  where
-    head : Every (Is k m n) (x ∷ r) → Is k m n x
-    head (and p ps) = p
+from-is k m n l x r e = head-of (subst (Every (Is k m n)) e (from-every l (sound k m n)))
 
 pub from-head : (l x : List ℕ) (r xs : List (List ℕ)) → from l xs ≡ x ∷ r → l ≡ x
 unfolding from

@@ -1,20 +1,20 @@
 -- The step to the next list, as the code takes it: in the tail; else the first part falls by one and the tail starts anew; else there is none.
 -- Assumes nothing.
-use mathlib.Core.Path.{_≡_, refl, sym, ap, ap₂, subst, _∙_}
-use mathlib.Core.Bool.{Bool, true, false, cond, true≢false, false≢true}
+use mathlib.Core.Path.{_≡_, refl, sym, ap, ap₂, _∙_}
+use mathlib.Core.Bool.{Bool, true, false, cond, false≢true}
 use mathlib.Core.List.{List, [], _∷_}
-use Prim.Native.Nat.{ℕ, zero, suc, _+_, _-_, _*_, _≤_, _<_, min}
+use Prim.Native.Nat.{ℕ, _+_, _-_, _*_, _≤_, _<_, min}
 use native.Mathlib.Nat.{mul-zero}
 use native.Mathlib.Omega.{arith}
 use lib.Dec.{leb, ltb, eqb}
 use lib.ListN.{length, getD, set, length-set}
 use borrow.Rule.Slice.PartMut.{putMid}
-use borrow.Author.Tests.{eqb-true, eqb-false, ltb-true, ltb-false, lt-ltb, le-ltb, eq-eqb, ne-eqb, leb-true}
+use borrow.Author.Tests.{eqb-false, ltb-false, le-ltb, ne-eqb}
 use Rattle.partitions.specs.Parts.{total}
 use Rattle.partitions.specs.Count.{falls}
 use Rattle.partitions.specs.Steps.{greatest, canInit, hasNext, nextOf}
 use Rattle.partitions.proofs.Successor.{next-same}
-use Rattle.partitions.proofs.Tail.{tailOf, tail-cons, put-cons, put-length}
+use Rattle.partitions.proofs.Tail.{tailOf, one-less, tail-cons, put-cons, put-length}
 
 -- ---- what `falls` says of the first part and of the tail
 pub record First (m a : ℕ) (t : List ℕ) : Type 0 where
@@ -127,9 +127,6 @@ module _ (a : ℕ) (t ys : List ℕ) (e : ys ≡ nextOf t) where
 -- the array with a smaller first part
 abbrev pub lowered : List ℕ → List ℕ → List ℕ
 lowered x ys = set (putMid 1 (length x - 1) x ys) 0 (getD x 0 0 - 1)
-
-one-less : (n : ℕ) → suc n - 1 ≡ n
-one-less n = omega arith
 
 -- the tests and the sums that the code has of the tail, at a ∷ t
 asked : (a n : ℕ) (t : List ℕ) (b : Bool) → n ≡ total (tailOf (a ∷ t)) + 1 → canInit (length (a ∷ t) - 1) n (a - 1) ≡ b → canInit (length t) (total t + 1) (a - 1) ≡ b

@@ -11,7 +11,8 @@ use native.Mathlib.Numerals.{one-add}
 use lib.Dec.{eqb}
 use lib.ListN.{length}
 use Rattle.partitions.specs.Parts.{total, fact}
-use Rattle.partitions.proofs.Tests.{by-eqb, eqb-yes, eqb-no}
+use borrow.Author.Tests.{eq-eqb, ne-eqb}
+use Rattle.partitions.proofs.Tests.{by-eqb}
 use Rattle.partitions.proofs.Down.{Down, none, one}
 
 -- r is l without one v
@@ -68,14 +69,14 @@ weight-pos (a ∷ l) = mul-pos (mul-pos (fact-pos a) (omega arith)) (weight-pos 
 
 count-here : (v : ℕ) (l : List ℕ) → count v (v ∷ l) ≡ suc (count v l)
 unfolding count
-count-here v l = ap (λ b. cond b 1 0 + count v l) (eqb-yes v v refl) ∙ one-add (count v l)
+count-here v l = ap (λ b. cond b 1 0 + count v l) (eq-eqb v v refl) ∙ one-add (count v l)
 
 -- the counts of a and v before and after v is taken out from behind a
 counts : {v : ℕ} {l r : List ℕ} (a : ℕ) → Out v l r → suc (count a l) * count v l ≡ (cond (eqb a v) 1 0 + count v l) * suc (count a r)
 counts {v} {l} {r} a o =
     by-eqb a v (λ b. suc (count a l) * count v l ≡ (cond b 1 0 + count v l) * suc (count a r))
-    (λ e. equal (count a l) (count v l) (count a r) (ap (λ x. count x l) e) (out-count a o ∙ ap (λ b. cond b 1 0 + count a r) (eqb-yes v a (sym e))))
-    (λ n. other (count a l) (count v l) (count a r) (out-count a o ∙ ap (λ b. cond b 1 0 + count a r) (eqb-no v a (λ e. n (sym e)))))
+    (λ e. equal (count a l) (count v l) (count a r) (ap (λ x. count x l) e) (out-count a o ∙ ap (λ b. cond b 1 0 + count a r) (eq-eqb v a (sym e))))
+    (λ n. other (count a l) (count v l) (count a r) (out-count a o ∙ ap (λ b. cond b 1 0 + count a r) (ne-eqb v a (λ e. n (sym e)))))
   where
     equal : (x z y : ℕ) → x ≡ z → x ≡ 1 + y → suc x * z ≡ (1 + z) * suc y
     equal x z y p q = ap₂ (λ (m n : ℕ). m * n) (omega arith) (omega arith)

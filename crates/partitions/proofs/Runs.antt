@@ -3,13 +3,14 @@
 use mathlib.Core.Path.{_≡_, refl, sym, _∙_, ap, ap₂, subst}
 use mathlib.Core.Bool.{cond}
 use mathlib.Core.List.{List, [], _∷_}
-use Prim.Native.Nat.{ℕ, zero, suc, _+_, _*_, _/_, _≤_, _<_}
+use Prim.Native.Nat.{ℕ, zero, suc, _+_, _*_, _≤_, _<_}
 use native.Mathlib.Omega.{arith}
 use native.Mathlib.Numerals.{one-add}
-use native.Mathlib.Nat.{mul-div-cancel, add-zero}
+use native.Mathlib.Nat.{eq-of-mul-eq-mul-right, add-zero}
 use lib.ListN.{length, getD}
 use Rattle.partitions.specs.Parts.{fact, runsFrom, runs}
-use Rattle.partitions.proofs.Tests.{by-eqb, eqb-no}
+use borrow.Author.Tests.{ne-eqb}
+use Rattle.partitions.proofs.Tests.{by-eqb}
 use Rattle.partitions.proofs.Down.{Down, none, one}
 use Rattle.partitions.proofs.Out.{count, weight, fact-pos}
 
@@ -31,14 +32,11 @@ count-above : {m : ℕ} {l : List ℕ} (v : ℕ) → Down m l → m < v → coun
 unfolding count
 count-above v none h = refl
 count-above v (one {a = a} {l = l} g d) h =
-    ap (λ b. cond b 1 0 + count v l) (eqb-no (suc a) v (λ e. omega arith)) ∙ ap (λ x. 0 + x) (count-above v d (omega arith))
-
-cancel : (p q f : ℕ) → 0 < f → p * f ≡ q * f → p ≡ q
-cancel p q f h e = sym (mul-div-cancel p h) ∙ ap (λ x. x / f) e ∙ mul-div-cancel q h
+    ap (λ b. cond b 1 0 + count v l) (ne-eqb (suc a) v (λ e. omega arith)) ∙ ap (λ x. 0 + x) (count-above v d (omega arith))
 
 first-run : (p c r : ℕ) → p * fact c ≡ fact (1 + c) * r → p ≡ suc c * r
 unfolding fact
-first-run p c r e = cancel p (suc c * r) (fact c) (fact-pos c) (e ∙ ap (λ x. fact x * r) (one-add c) ∙ omega arith)
+first-run p c r e = eq-of-mul-eq-mul-right (fact c) (fact-pos c) p (suc c * r) (e ∙ ap (λ x. fact x * r) (one-add c) ∙ omega arith)
 
 run-on : (p c k r f : ℕ) → p * fact c ≡ f * r → p * fact (1 + c) ≡ f * (suc c * r)
 unfolding fact

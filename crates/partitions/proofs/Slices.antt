@@ -1,13 +1,13 @@
 -- What a loop over a slice of parts uses: a sum, a test and the divisions from an index on, one part further. Assumes nothing.
-use mathlib.Core.Path.{_≡_, refl, sym, ap, ap₂, subst, _∙_}
+use mathlib.Core.Path.{_≡_, refl, sym, ap, ap₂, _∙_}
 use mathlib.Core.Bool.{Bool, true, false, cond}
 use mathlib.Core.List.{List, [], _∷_}
-use Prim.Native.Nat.{ℕ, zero, suc, zero-le, _+_, _-_, _*_, _/_, _^_, _≤_, _<_}
-use native.Mathlib.Nat.{mul-pos, le-refl, le-trans, lt-of-le-of-lt, zero-add, suc-add, mul-comm}
+use Prim.Native.Nat.{ℕ, suc, _+_, _-_, _*_, _/_, _≤_, _<_}
+use native.Mathlib.Nat.{mul-comm}
 use native.Mathlib.Numerals.{add-one}
 use native.Mathlib.Omega.{arith}
-use lib.Dec.{eqb, ltb, lit<}
-use lib.ListN.{length, getD, drop}
+use lib.Dec.{eqb, ltb}
+use lib.ListN.{length, getD, drop, drop-of-length-le}
 use lib.Seq.{drop-cons}
 use borrow.Author.Tests.{eq-eqb, ne-eqb, lt-ltb, le-ltb}
 use Rattle.partitions.specs.Parts.{total, fact, divide, runsFrom, runs}
@@ -65,19 +65,13 @@ module _ (a k : ℕ) (l : List ℕ) (i : ℕ) (h : i < length l) where
       ∙ ap (λ (j : ℕ). k ∷ runsFrom (getD l j 0) 1 (drop (i + 1) l)) (back i)
 
 -- past the end
-pub drop-past : (l : List ℕ) (i : ℕ) → length l ≤ i → drop i l ≡ []
-drop-past [] zero h = refl
-drop-past [] (suc i) h = refl
-drop-past (a ∷ l) zero h = absurd (omega arith)
-drop-past (a ∷ l) (suc i) h = drop-past l i (omega arith)
-
 pub falls-past : (m : ℕ) (l : List ℕ) (i : ℕ) → length l ≤ i → falls m (drop i l) ≡ true
 unfolding falls
-falls-past m l i h = ap (falls m) (drop-past l i h)
+falls-past m l i h = ap (falls m) (drop-of-length-le l h)
 
 pub runs-past : (a k : ℕ) (l : List ℕ) (i : ℕ) → length l ≤ i → runsFrom a k (drop i l) ≡ k ∷ []
 unfolding runsFrom
-runs-past a k l i h = ap (runsFrom a k) (drop-past l i h)
+runs-past a k l i h = ap (runsFrom a k) (drop-of-length-le l h)
 
 pub divide-first : (x k : ℕ) (l : List ℕ) → divide (x / fact k) l ≡ divide x (k ∷ l)
 unfolding divide
@@ -89,11 +83,11 @@ divide-one x k = refl
 
 pub divide-past : (x : ℕ) (l : List ℕ) (i : ℕ) → length l ≤ i → divide x (drop i l) ≡ x
 unfolding divide
-divide-past x l i h = ap (divide x) (drop-past l i h)
+divide-past x l i h = ap (divide x) (drop-of-length-le l h)
 
 pub nothing-past : (l : List ℕ) (i : ℕ) → length l ≤ i → total (drop i l) ≡ 0
 unfolding total
-nothing-past l i h = ap total (drop-past l i h)
+nothing-past l i h = ap total (drop-of-length-le l h)
 
 pub fact-next : (i : ℕ) → fact i * (i + 1) ≡ fact (i + 1)
 unfolding fact

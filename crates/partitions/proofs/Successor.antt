@@ -11,9 +11,10 @@ use lib.ListN.{length}
 use Rattle.partitions.specs.Parts.{total, parts}
 use Rattle.partitions.specs.Steps.{greatest, canInit, hasNext, nextOf}
 use Rattle.partitions.specs.Walk.{from}
-use Rattle.partitions.proofs.Tests.{by-leb, by-eqb, eqb-yes}
+use borrow.Author.Tests.{eq-eqb}
+use Rattle.partitions.proofs.Tests.{by-leb, by-eqb}
 use Rattle.partitions.proofs.Down.{Down, none, one, long}
-use Rattle.partitions.proofs.Lists.{Every, nil, and, every-weaken, Is, sound, complete, Falling, end, then, falling, Greater}
+use Rattle.partitions.proofs.Lists.{Every, nil, and, head-of, tail-of, every-weaken, Is, sound, complete, Falling, end, then, falling, Greater}
 use Rattle.partitions.proofs.Member.{by-same, greater-not, from-here, from-there, from-every, from-member}
 
 -- ---- going by cases on the test
@@ -48,9 +49,6 @@ none-high k m n h = nothing (λ l i. no l i) (sound k m n)
   where
     no : (l : List ℕ) → ¬ (Is k m n l)
     no l i = let e : m * length l ≡ m * k = ap (λ x. m * x) (i .long) in omega (arith, e, bounded (i .down), i .sums)
-
-head-of : {P : List ℕ → Type 0} {x : List ℕ} {xs : List (List ℕ)} → Every P (x ∷ xs) → P x
-head-of (and p ps) = p
 
 -- ---- the greatest list is the first
 first-group : (k m n : ℕ) → List (List ℕ)
@@ -94,7 +92,7 @@ first-below k m n r h e =
 -- where k ≤ n ≤ m k, the greatest is there and is the first
 pub first : (k m n : ℕ) → k ≤ n → n ≤ m * k → (r : List (List ℕ)) × (parts k m n ≡ greatest k n m ∷ r)
 unfolding parts greatest
-first zero m n h g = ([], ap (λ b. cond b ([] ∷ []) []) (eqb-yes n 0 (omega arith)))
+first zero m n h g = ([], ap (λ b. cond b ([] ∷ []) []) (eq-eqb n 0 (omega arith)))
 first (suc k) zero n h g = absurd (omega arith)
 first (suc k) (suc m) n h g =
     by-leb (suc m + k) n (λ b. (r : List (List ℕ)) × (parts (suc k) (suc m) n ≡ greatest (suc k) n (suc m) ∷ r))
@@ -208,9 +206,6 @@ unfolding from
 from-chain l empty = empty
 from-chain l (last {x = x} h) = by-same l x (λ b. Chain (cond b (x ∷ []) [])) (λ _. last h) (λ _. empty)
 from-chain l (step {x = x} {y = y} {r = r} h e c) = by-same l x (λ b. Chain (cond b (x ∷ y ∷ r) (from l (y ∷ r)))) (λ _. step h e c) (λ _. from-chain l c)
-
-tail-of : {P : List ℕ → Type 0} {x : List ℕ} {xs : List (List ℕ)} → Every P (x ∷ xs) → Every P xs
-tail-of (and p ps) = ps
 
 -- from the second on, where the first of them is before it
 from-second : (l y : List ℕ) (r : List (List ℕ)) {ls : List (List ℕ)} → Falling ls → from l ls ≡ l ∷ y ∷ r → from y ls ≡ y ∷ r

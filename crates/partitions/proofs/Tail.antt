@@ -1,10 +1,10 @@
 -- A function that stores the first element of an array and hands the rest to a call of itself. Assumes nothing.
 use mathlib.Core.Path.{_≡_, refl, sym, ap, ap₂, _∙_}
 use mathlib.Core.List.{List, [], _∷_, _++_, append-nil}
-use Prim.Native.Nat.{ℕ, zero, suc, _-_, _≤_, _<_, min}
+use Prim.Native.Nat.{ℕ, suc, _-_, _<_, min}
 use native.Mathlib.Nat.{le-refl}
 use native.Mathlib.Omega.{arith}
-use lib.ListN.{length, getD, set, take, drop, length-set}
+use lib.ListN.{length, set, take, drop}
 use lib.Seq.{take-all, drop-length}
 use borrow.Rule.Slice.PartMut.{putMid}
 use Rattle.partitions.specs.Steps.{greatest}
@@ -13,7 +13,7 @@ use Rattle.partitions.specs.Steps.{greatest}
 abbrev pub tailOf : List ℕ → List ℕ
 tailOf x = take (length x - 1) (drop 1 x)
 
-one-less : (n : ℕ) → suc n - 1 ≡ n
+pub one-less : (n : ℕ) → suc n - 1 ≡ n
 one-less n = omega arith
 
 pub tail-cons : (a : ℕ) (t : List ℕ) → tailOf (a ∷ t) ≡ t

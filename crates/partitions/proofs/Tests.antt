@@ -1,8 +1,9 @@
 -- Going by cases on a test inside a statement.
 -- Assumes nothing.
-use mathlib.Core.Path.{_≡_, refl, sym, subst}
+use mathlib.Core.Path.{_≡_, sym, subst}
 use mathlib.Core.Bool.{Bool, true, false, not}
 use Prim.Native.Nat.{ℕ, _≤_, _<_}
+use borrow.Author.Tests.{eq-eqb, ne-eqb}
 use lib.Dec.{T, leb, eqb, leb→le, nleb→lt, eqb→eq, eqb-refl, T-not}
 
 by-test : (b : Bool) (P : Bool → Type 0) → (T b → P true) → (T (not b) → P false) → P b
@@ -15,11 +16,5 @@ by-leb m n P f g = by-test (leb m n) P (λ t. f (leb→le m n t)) (λ t. g (nleb
 pub by-eqb : (m n : ℕ) (P : Bool → Type 0) → (m ≡ n → P true) → (¬ (m ≡ n) → P false) → P (eqb m n)
 by-eqb m n P f g = by-test (eqb m n) P (λ t. f (eqb→eq m n t)) (λ t. g (λ e. T-not (eqb m n) t (subst (λ k. T (eqb m k)) e (eqb-refl m))))
 
-pub eqb-yes : (m n : ℕ) → m ≡ n → eqb m n ≡ true
-eqb-yes m n e = by-eqb m n (λ b. b ≡ true) (λ h. refl) (λ h. absurd (h e))
-
-pub eqb-no : (m n : ℕ) → ¬ (m ≡ n) → eqb m n ≡ false
-eqb-no m n e = by-eqb m n (λ b. b ≡ false) (λ h. absurd (e h)) (λ h. refl)
-
 pub eqb-iff : (a b c d : ℕ) → (a ≡ b → c ≡ d) → (c ≡ d → a ≡ b) → eqb a b ≡ eqb c d
-eqb-iff a b c d f g = by-eqb a b (λ t. t ≡ eqb c d) (λ e. sym (eqb-yes c d (f e))) (λ n. sym (eqb-no c d (λ e. n (g e))))
+eqb-iff a b c d f g = by-eqb a b (λ t. t ≡ eqb c d) (λ e. sym (eq-eqb c d (f e))) (λ n. sym (ne-eqb c d (λ e. n (g e))))

@@ -8,6 +8,7 @@ use native.Mathlib.Omega.{arith}
 use native.Mathlib.Nat.{suc-ne-zero}
 use lib.Dec.{ltb, eqb}
 use lib.ListN.{length, getD, take, drop, replicate}
+use lib.Seq.{take-at}
 use Rattle.partitions.specs.Parts.{parts, lists}
 use Rattle.partitions.specs.Walk.{from, padded, refusal, started, startedBy, startedAt, stepped, steppedBy, refused, atEnd, remaining, moved, handed}
 use Rattle.partitions.specs.Steps.{greatest, hasNext, nextOf}
@@ -35,7 +36,7 @@ range-of order len =
     (λ g. by-leb (suc order) len (λ b. Path ℕ (cond b 3 0) 0 → InRange order len) (λ _ e. absurd (suc-ne-zero 2 e)) (λ f _. (omega arith, omega arith, omega arith))))
 
 -- ---- the start
-least-times : (order len : ℕ) → 1 ≤ len → order ≤ order * len
+pub least-times : (order len : ℕ) → 1 ≤ len → order ≤ order * len
 least-times order zero h = absurd (omega arith)
 least-times order (suc len) h = omega arith
 
@@ -51,12 +52,6 @@ started-is order len e =
 pub stepped-range : (w : CompositionIter) → refusal (w .order) (w .len) ≡ 0 → stepped w ≡ cond (w .end) (atEnd w) (handed w (remaining w))
 unfolding stepped
 stepped-range w e = ap (steppedBy w) e
-
-take-append : (n : ℕ) (xs ys : List ℕ) → length xs ≡ n → take n (xs ++ ys) ≡ xs
-take-append zero [] ys e = refl
-take-append zero (x ∷ xs) ys e = absurd (omega arith)
-take-append (suc n) [] ys e = absurd (omega arith)
-take-append (suc n) (x ∷ xs) ys e = ap (λ z. x ∷ z) (take-append n xs ys (omega arith))
 
 -- a walk that has lists to hand out is not at its end, and holds the first of them
 pub holds : (w : CompositionIter) (l : List ℕ) (ls : List (List ℕ)) → remaining w ≡ l ∷ ls →
@@ -79,7 +74,7 @@ moved-remains w l (y ∷ r) e =
     let n = next-is (w .len) (w .order) (w .order) l y r (holds w l (y ∷ r) e .2) in
     let f = ap (λ x. from x (lists (w .order) (w .len))) (sym (n .1)) ∙ n .2 in
     ap (λ x. from x (lists (w .order) (w .len)))
-    (take-append (w .len) y (drop (w .len) (w .current)) (from-is (w .len) (w .order) (w .order) y y r f .long)) ∙ f
+    (take-at y (drop (w .len) (w .current)) (w .len) (from-is (w .len) (w .order) (w .order) y y r f .long)) ∙ f
 
 -- a step hands out the first of the lists that remain, and leaves the others
 pub stepped-first : (w : CompositionIter) (l : List ℕ) (ls : List (List ℕ)) → refusal (w .order) (w .len) ≡ 0 → remaining w ≡ l ∷ ls →
@@ -184,7 +179,7 @@ started-remains order len e =
     let h = range-of order len e in
     let f = first len order order (h .1) (least-times order len (h .0)) in
     ap (λ s. remaining (s .walk)) (started-is order len e)
-    ∙ ap (λ x. from x (lists order len)) (take-append len (greatest len order order) (replicate (20 - length (greatest len order order)) 0) (greatest-length len order order))
+    ∙ ap (λ x. from x (lists order len)) (take-at (greatest len order order) (replicate (20 - length (greatest len order order)) 0) len (greatest-length len order order))
     ∙ ap (from (greatest len order order)) (f .1)
     ∙ from-here (greatest len order order) (f .0)
     ∙ sym (f .1)
@@ -202,7 +197,7 @@ moved-range : (w : CompositionIter) (ls : List (List ℕ)) → refusal (w .order
 moved-range w [] e = e
 moved-range w (l ∷ ls) e = e
 
-moved-end : (w : CompositionIter) (ls : List (List ℕ)) → ls ≡ [] → moved w ls .end ≡ true
+pub moved-end : (w : CompositionIter) (ls : List (List ℕ)) → ls ≡ [] → moved w ls .end ≡ true
 moved-end w [] e = refl
 moved-end w (l ∷ ls) e = absurd (nil≢cons (sym e))
 

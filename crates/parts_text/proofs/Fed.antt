@@ -1,13 +1,13 @@
 -- The steps of a reading, where the reading's case is known. Assumes nothing.
-use mathlib.Core.Path.{_≡_, refl, _∙_, ap, sym}
+use mathlib.Core.Path.{_≡_, refl}
 use mathlib.Core.List.{List, [], _∷_, _++_}
-use Prim.Native.Nat.{ℕ, suc, _+_, _<_}
+use Prim.Native.Nat.{ℕ, _+_, _<_}
 use native.Mathlib.Numerals.{add-one}
 use lib.ListN.{length, getD, take}
 use lib.Seq.{take-suc}
 use Rattle.parts_text.specs.declared.Reading.{Reading}
 use Rattle.parts_text.specs.Printed.{kind}
-use Rattle.parts_text.specs.Reading.{step, fed, withDigit, withSeparator}
+use Rattle.parts_text.specs.Reading.{step, fed}
 
 pub fed-append : (s : Reading) (a b : List ℕ) → fed s (a ++ b) ≡ fed (fed s a) b
 unfolding fed

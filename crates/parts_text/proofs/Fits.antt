@@ -1,8 +1,7 @@
 -- What is printed fits the array, whatever was read. Assumes nothing.
-use mathlib.Core.Path.{_≡_, refl, ap, sym, subst}
+use mathlib.Core.Path.{_≡_, refl, subst}
 use mathlib.Core.Bool.{Bool, true, false, cond}
-use mathlib.Core.List.{List, [], _∷_, _++_}
-use Prim.Native.Nat.{ℕ, zero, suc, _+_, _≤_, _<_}
+use Prim.Native.Nat.{ℕ, zero, suc, _≤_}
 use native.Mathlib.Omega.{arith}
 use lib.Dec.{ltb, eqb, lit≤}
 use lib.ListN.{length}
@@ -11,7 +10,7 @@ use Rattle.partitions.specs.Walk.{refusal}
 use Rattle.partitions.proofs.Walked.{range-of}
 use Rattle.parts_text.specs.declared.Reading.{Reading}
 use Rattle.parts_text.specs.declared.Reading.the-variants.{Before, InOrder, AfterOrder, InLen, AfterLen, Malformed}
-use Rattle.parts_text.specs.Text.{decimal, spaced, newline, refusedLine, text, unless, answer}
+use Rattle.parts_text.specs.Text.{refusedLine, text, unless, answer}
 use Rattle.parts_text.specs.Reading.{finished}
 use Rattle.parts_text.proofs.Puts.{decimal-one}
 use Rattle.parts_text.proofs.Tables.{text-fits}

@@ -1,26 +1,24 @@
 -- The walk over the lists of a pair, as their lines are written: what has been written is the lines of the lists handed out, and the sum is their
 -- total. Assumes nothing.
 use mathlib.Core.Path.{_≡_, refl, sym, _∙_, ap, ap₂, subst}
-use mathlib.Core.Bool.{Bool, true, false, cond, true≢false}
+use mathlib.Core.Bool.{true, false, true≢false}
 use mathlib.Core.List.{List, [], _∷_, _++_, append-assoc, append-nil, nil≢cons}
-use Prim.Native.Nat.{ℕ, zero, suc, _+_, _-_, _*_, _^_, _≤_, _<_}
+use Prim.Native.Nat.{ℕ, zero, suc, _+_, _-_, _^_, _≤_, _<_}
 use native.Mathlib.Omega.{arith}
 use native.Mathlib.Nat.{add-assoc, add-zero}
 use lib.ListN.{length, take, replicate, length-append}
 use lib.Seq.{take-at}
-use Rattle.partitions.specs.Parts.{total, lists, multiplicity}
-use Rattle.partitions.specs.Count.{isList, counted, totalCount}
+use Rattle.partitions.specs.Parts.{lists, multiplicity}
+use Rattle.partitions.specs.Count.{counted, totalCount}
 use Rattle.partitions.specs.Walk.{refusal, padded, started, startedBy, stepped, remaining, moved}
 use Rattle.partitions.specs.declared.CompositionIter.{CompositionIter}
 use Rattle.partitions.specs.declared.Started.{Started}
 use Rattle.partitions.specs.declared.Stepped.{Stepped}
-use Rattle.partitions.specs.declared.Count.{Count}
-use Rattle.partitions.specs.declared.Count.the-variants.{Value, Refused}
-use Rattle.partitions.proofs.Down.{Down}
+use Rattle.partitions.specs.declared.Count.the-variants.{Value}
 use Rattle.partitions.proofs.Lists.{Is}
 use Rattle.partitions.proofs.Member.{from-is, down-list}
 use Rattle.partitions.proofs.Successor.{first}
-use Rattle.partitions.proofs.Walked.{range-of, started-is, started-remains, holds, moved-remains, stepped-first, stepped-end, step-ends}
+use Rattle.partitions.proofs.Walked.{range-of, least-times, started-is, started-remains, holds, moved-remains, moved-end, stepped-first, stepped-end, step-ends}
 use Rattle.partitions.proofs.Counted.{counted-by}
 use Rattle.parts_text.specs.Text.{joined, line, totalLine, refusedLine, text, unless, answer}
 use Rattle.parts_text.specs.Out.{Wrote, lineOf, countOf}
@@ -54,10 +52,6 @@ total-one : (l : List ℕ) → totalCount (l ∷ []) ≡ multiplicity l
 unfolding totalCount
 total-one l = add-zero (multiplicity l)
 
-total-cons : (l : List ℕ) (ls : List (List ℕ)) → totalCount (l ∷ ls) ≡ multiplicity l + totalCount ls
-unfolding totalCount
-total-cons l ls = refl
-
 -- ---- the walk of the pair, its lines written
 pub record Going (order len : ℕ) (out₀ : List ℕ) (w : CompositionIter) (out : List ℕ) (at sum : ℕ) : Type 0 where
   pub done : List (List ℕ)
@@ -68,10 +62,6 @@ pub record Going (order len : ℕ) (out₀ : List ℕ) (w : CompositionIter) (ou
   pub split : lists order len ≡ done ++ remaining w
   pub wrote : Wrote out₀ 0 (joined line done) out at
   pub totals : sum ≡ totalCount done
-
-least-times : (order len : ℕ) → 1 ≤ len → order ≤ order * len
-least-times order zero h = absurd (omega arith)
-least-times order (suc len) h = omega arith
 
 some-list : (order len : ℕ) → refusal order len ≡ 0 → lists order len ≡ [] → ⊥
 some-list order len e f =
@@ -155,10 +145,6 @@ module _ {order len : ℕ} {out₀ : List ℕ} {w : CompositionIter} {out : List
     len-kept [] = g .len-is
     len-kept (l ∷ ls) = g .len-is
 
-    end-kept : (ls : List (List ℕ)) → ls ≡ [] → moved w ls .end ≡ true
-    end-kept [] e = refl
-    end-kept (l ∷ ls) e = absurd (nil≢cons (sym e))
-
     rest : remaining (s .walk) ≡ x .others
     rest = ap (λ (y : Stepped). remaining (y .walk)) (x .is) ∙ moved-remains w (x .list) (x .others) (x .remain)
 
@@ -194,7 +180,7 @@ module _ {order len : ℕ} {out₀ : List ℕ} {w : CompositionIter} {out : List
       range = g .range;
       order-is = ap (λ (y : Stepped). y .walk .order) (x .is) ∙ order-kept (x .others);
       len-is = ap (λ (y : Stepped). y .walk .len) (x .is) ∙ len-kept (x .others);
-      at-end = λ h. ap (λ (y : Stepped). y .walk .end) (x .is) ∙ end-kept (x .others) (sym rest ∙ h);
+      at-end = λ h. ap (λ (y : Stepped). y .walk .end) (x .is) ∙ moved-end w (x .others) (sym rest ∙ h);
       split = whole ∙ ap (λ (ls : List (List ℕ)). (g .done ++ (x .list ∷ [])) ++ ls) (sym rest);
       wrote =
           reading (after (g .wrote) (reading t (ap₂ lineOf (x .count) (x .front))))

@@ -6,7 +6,6 @@ use Prim.Native.Nat.{ℕ, zero, suc, _+_, _*_, _/_, _%_, _<_, _≤_, min}
 use native.Mathlib.Omega.{arith}
 use native.Mathlib.Decide.{decLe}
 use borrow.Author.Tests.{lt-ltb, le-ltb, le-leb, ne-eqb}
-use Rattle.partitions.specs.Walk.{refusal}
 use Rattle.parts_text.specs.declared.input.Kind.{Kind}
 use Rattle.parts_text.specs.declared.input.Kind.the-variants.{Digit, Separator, Other}
 use Rattle.parts_text.specs.declared.Reading.{Reading}

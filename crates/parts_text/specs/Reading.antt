@@ -1,4 +1,4 @@
--- The input read byte by byte, in bounded memory: numbers above 21 are kept as 21. That what a reading says at the end is what is printed for the
+-- The input read byte by byte, in bounded memory: numbers above 20 are kept as 21. That what a reading says at the end is what is printed for the
 -- whole input is proved (proofs/Laws.antt). Assumes nothing.
 use mathlib.Core.List.{List, [], _∷_}
 use Prim.Native.Nat.{ℕ, _+_, _*_, min}

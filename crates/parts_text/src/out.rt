@@ -7,7 +7,7 @@ ghost use Rattle.parts_text.specs.Reading.{finished};
 ghost use Rattle.parts_text.specs.Out.{Wrote, lineOf, countOf};
 use crate::Reading;
 
-pub fn put(out: &mut [u8], at: usize, b: u8) -> usize
+fn put(out: &mut [u8], at: usize, b: u8) -> usize
     ensures { λ r. ⌜ Wrote (now (out .entry)) at (b ∷ []) (now (out .exit)) r ⌝ }
 {
     if at < out.len() {
@@ -17,7 +17,7 @@ pub fn put(out: &mut [u8], at: usize, b: u8) -> usize
     at
 }
 
-pub fn put_bytes(out: &mut [u8], at: usize, bytes: &[u8]) -> usize
+fn put_bytes(out: &mut [u8], at: usize, bytes: &[u8]) -> usize
     ensures { λ r. ⌜ Wrote (now (out .entry)) at (now (bytes .entry)) (now (out .exit)) r ⌝ }
 {
     let mut end = at;
@@ -30,7 +30,7 @@ pub fn put_bytes(out: &mut [u8], at: usize, bytes: &[u8]) -> usize
     end
 }
 
-pub fn put_decimal(out: &mut [u8], at: usize, n: u64) -> usize
+fn put_decimal(out: &mut [u8], at: usize, n: u64) -> usize
     ensures { λ r. ⌜ Wrote (now (out .entry)) at (decimal n) (now (out .exit)) r ⌝ }
 {
     if n < 10 {
@@ -42,14 +42,14 @@ pub fn put_decimal(out: &mut [u8], at: usize, n: u64) -> usize
     put(out, end, 48 + d)
 }
 
-pub fn put_spaced(out: &mut [u8], at: usize, n: u64) -> usize
+fn put_spaced(out: &mut [u8], at: usize, n: u64) -> usize
     ensures { λ r. ⌜ Wrote (now (out .entry)) at (spaced n) (now (out .exit)) r ⌝ }
 {
     let end = put(out, at, b' ');
     put_decimal(out, end, n)
 }
 
-pub fn put_parts(out: &mut [u8], at: usize, parts: &[usize]) -> usize
+fn put_parts(out: &mut [u8], at: usize, parts: &[usize]) -> usize
     ensures { λ r. ⌜ Wrote (now (out .entry)) at (joined spaced (now (parts .entry))) (now (out .exit)) r ⌝ }
 {
     let mut end = at;
@@ -63,7 +63,7 @@ pub fn put_parts(out: &mut [u8], at: usize, parts: &[usize]) -> usize
 }
 
 // A number, then the parts, and the line's end.
-pub fn put_line(out: &mut [u8], at: usize, count: u64, parts: &[usize]) -> usize
+fn put_line(out: &mut [u8], at: usize, count: u64, parts: &[usize]) -> usize
     ensures { λ r. ⌜ Wrote (now (out .entry)) at (decimal count ++ joined spaced (now (parts .entry)) ++ newline) (now (out .exit)) r ⌝ }
 {
     let counted = put_decimal(out, at, count);
@@ -72,7 +72,7 @@ pub fn put_line(out: &mut [u8], at: usize, count: u64, parts: &[usize]) -> usize
 }
 
 // A word, a number, and the line's end.
-pub fn put_last(out: &mut [u8], at: usize, word: &[u8], n: u64) -> usize
+fn put_last(out: &mut [u8], at: usize, word: &[u8], n: u64) -> usize
     ensures { λ r. ⌜ Wrote (now (out .entry)) at (now (word .entry) ++ spaced n ++ newline) (now (out .exit)) r ⌝ }
 {
     let said = put_bytes(out, at, word);
@@ -80,13 +80,13 @@ pub fn put_last(out: &mut [u8], at: usize, word: &[u8], n: u64) -> usize
     put(out, end, b'\n')
 }
 
-pub fn put_total(out: &mut [u8], at: usize, n: u64) -> usize
+fn put_total(out: &mut [u8], at: usize, n: u64) -> usize
     ensures { λ r. ⌜ Wrote (now (out .entry)) at (totalLine n) (now (out .exit)) r ⌝ }
 {
     put_last(out, at, b"total", n)
 }
 
-pub fn put_refused(out: &mut [u8], at: usize, c: u8) -> usize
+fn put_refused(out: &mut [u8], at: usize, c: u8) -> usize
     ensures { λ r. ⌜ Wrote (now (out .entry)) at (refusedLine c) (now (out .exit)) r ⌝ }
 {
     put_last(out, at, b"refused", c as u64)
@@ -113,7 +113,7 @@ fn put_list(out: &mut [u8], at: usize, parts: &[usize]) -> Line
 }
 
 // A line for each list of a pair, then the total; or the pair's refusal.
-pub fn put_answer(out: &mut [u8], order: usize, len: usize) -> usize
+fn put_answer(out: &mut [u8], order: usize, len: usize) -> usize
     ensures { λ r. ⌜ Wrote (now (out .entry)) 0 (answer order len) (now (out .exit)) r ⌝ }
 {
     let s = partitions::CompositionIter::try_new(order, len);

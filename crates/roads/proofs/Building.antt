@@ -12,7 +12,7 @@ use Rattle.exact.specs.Judged.{byVerdict}
 use Rattle.roads.specs.declared.Step.{Step}
 use Rattle.roads.specs.Recipe.{Jets, someAbove20, smallest, wellFormed, worked, built}
 use Rattle.roads.proofs.Inputs.{counts}
-use Rattle.roads.proofs.Working.{worked-same}
+use Rattle.roads.proofs.Working.{stays, worked-same}
 
 pub take-map : {X Y : Type 0} (f : X → Y) (n : ℕ) (l : List X) → take n (map f l) ≡ map f (take n l)
 take-map f zero l = refl
@@ -29,17 +29,22 @@ take-four l four inputs g e = by (decLt inputs 4)
 
 -- ---- a call's refusal, and its jet handed on
 pub a-refusal : {B : Type 0} (refused : ℕ → B) (b : B) {x y : ℕ} → x ≡ y → ¬ (x ≡ 0) → refused x ≡ byVerdict refused y b
-a-refusal {B} refused b {x} e h = by x h ∙ ap (λ (z : ℕ). byVerdict refused z b) e
-  where
-    by : (z : ℕ) → ¬ (z ≡ 0) → refused z ≡ byVerdict refused z b
-    by zero h = absurd (h refl)
-    by (suc z) h = refl
+a-refusal refused b {x} e h = stays refused b x h ∙ ap (λ (z : ℕ). byVerdict refused z b) e
 
 pub no-refusal : {B : Type 0} (refused : ℕ → B) (b : B) {x y : ℕ} → x ≡ y → x ≡ 0 → b ≡ byVerdict refused y b
 no-refusal refused b e h = ap (λ (z : ℕ). byVerdict refused z b) (sym h ∙ e)
 
-module _ {J A : Type 0} (K : Jets J A) (jets : List J) (four : length jets ≡ 4) (inputs steps : ℕ) (program : List Step)
-    (os : List ℕ) (g : ℕ) (oe : os ≡ map (K .order) jets) (ge : g ≡ min inputs 4) where
+-- ---- the orders os of four jets, and how many of the four the count names
+pub record Given {J A : Type 0} (K : Jets J A) (jets : List J) (inputs : ℕ) (os : List ℕ) (g : ℕ) : Type 0 where
+  pub four : length jets ≡ 4
+  pub all : os ≡ map (K .order) jets
+  pub count : g ≡ min inputs 4
+
+module _ {J A : Type 0} {K : Jets J A} {jets : List J} {inputs : ℕ} {os : List ℕ} {g : ℕ} (p : Given K jets inputs os g) where
+  pub given-length : g ≡ length (take g os)
+  given-length = sym (length-take-le g os (omega (arith, ap length (p .all), length-map jets (K .order), p .four, p .count, min-le-right inputs 4)))
+
+module _ {J A : Type 0} {K : Jets J A} {jets : List J} {inputs : ℕ} {os : List ℕ} {g : ℕ} (p : Given K jets inputs os g) (steps : ℕ) (program : List Step) where
   abbrev orders : List ℕ
   orders = map (K .order) (take inputs jets)
 
@@ -47,16 +52,10 @@ module _ {J A : Type 0} (K : Jets J A) (jets : List J) (four : length jets ≡ 4
   outcome = built K inputs jets steps program
 
   given-orders : take g os ≡ orders
-  given-orders = ap (take g) oe ∙ take-map (K .order) g jets ∙ ap (map (K .order)) (take-four jets four inputs g ge)
-
-  pub given-length : g ≡ length (take g os)
-  given-length = sym (length-take-le g os (omega (arith, ap length oe, length-map jets (K .order), four, min-le-right inputs 4)))
+  given-orders = ap (take g) (p .all) ∙ take-map (K .order) g jets ∙ ap (map (K .order)) (take-four jets (p .four) inputs g (p .count))
 
   pub too-high : someAbove20 (take g os) ≡ true → K .refused 1 ≡ outcome
-  too-high h = sym (ap (λ (t : Bool). cond t (K .refused 1) (checked t)) (ap someAbove20 (sym given-orders) ∙ h))
-    where
-      checked : Bool → A
-      checked t = cond (wellFormed inputs steps (take steps program)) (worked K (λ i. K .cut (smallest orders) (getD (take inputs jets) i (K .blank))) inputs (take steps program)) (K .refused 4)
+  too-high h = rw (← given-orders, h)
 
   module _ (h : someAbove20 (take g os) ≡ false) where
     abbrev work : A
@@ -68,10 +67,10 @@ module _ {J A : Type 0} (K : Jets J A) (jets : List J) (four : length jets ≡ 4
     pub ill-formed : wellFormed inputs steps (take steps program) ≡ false → K .refused 4 ≡ outcome
     ill-formed e = sym (checked false e)
 
-    pub builds : wellFormed inputs steps (take steps program) ≡ true → (n : ℕ) → n ≡ smallest (take g os) → (hand : List J) →
+    pub builds : wellFormed inputs steps (take steps program) ≡ true → {n : ℕ} → n ≡ smallest (take g os) → (hand : List J) →
         ((i : ℕ) → i < inputs → getD hand i (K .blank) ≡ K .cut n (getD jets i (K .blank))) →
         worked K (λ i. getD hand i (K .blank)) inputs (take steps program) ≡ outcome
-    builds e n ne hand he =
+    builds e ne hand he =
         let c = counts inputs steps (take steps program) e in
         worked-same K (take steps program) (λ i. getD hand i (K .blank)) (λ i. K .cut (smallest orders) (getD (take inputs jets) i (K .blank))) inputs (c .some)
         (λ i l. he i l ∙ ap₂ (K .cut) (ne ∙ ap smallest given-orders) (sym (getD-take inputs jets i (K .blank) l))) (c .names)

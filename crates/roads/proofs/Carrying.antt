@@ -5,53 +5,59 @@ use Prim.Native.Nat.{ℕ, zero, suc, _+_, _≤_, _<_, min}
 use native.Mathlib.Nat.{min-le-left}
 use native.Mathlib.Numerals.{add-one}
 use native.Mathlib.Omega.{arith}
-use lib.ListN.{length, getD, set, take, drop, length-set, length-take, length-map}
+use lib.ListN.{length, getD, set, take, drop, length-set, length-take, length-map, drop-of-length-le}
 use lib.Seq.{drop-cons, getD-take, length-take-le, take-suc, take-suc-set, take-all}
 use Rattle.whole.specs.History.{orElse}
 use Rattle.exact.specs.declared.CurveDerivatives.{CurveDerivatives}
 use Rattle.exact.specs.declared.SurfaceDerivatives.{SurfaceDerivatives}
 use Rattle.exact.specs.declared.CurveAnswer.{CurveAnswer}
 use Rattle.roads.specs.Roads.{surfaces, firstRefusal}
-use Rattle.roads.proofs.Tests.{past}
 use Rattle.roads.proofs.Building.{take-four}
 
-module _ (along : SurfaceDerivatives → CurveAnswer) (jets : List SurfaceDerivatives) (count : ℕ) where
+-- i of the first `count` surfaces are carried
+pub record Carrying (along : SurfaceDerivatives → CurveAnswer) (jets : List SurfaceDerivatives) (count : ℕ) (curves : List CurveDerivatives) (i : ℕ) : Type 0 where
+  pub upto : i ≤ count
+  pub four : length jets ≡ 4
+  pub room : count ≤ 4
+  pub long : length curves ≡ 4
+  pub rest : firstRefusal (map along (drop i (take count jets))) ≡ firstRefusal (map along (take count jets))
+  pub done : take i curves ≡ map (λ s. along s .jet) (take i jets)
+
+pub carry-begins : (along : SurfaceDerivatives → CurveAnswer) {jets : List SurfaceDerivatives} {count : ℕ} {curves : List CurveDerivatives} →
+    length jets ≡ 4 → count ≤ 4 → length curves ≡ 4 → Carrying along jets count curves 0
+carry-begins along f r l = record { upto = omega arith; four = f; room = r; long = l; rest = refl; done = refl }
+
+module _ {along : SurfaceDerivatives → CurveAnswer} {jets : List SurfaceDerivatives} {count : ℕ} {curves : List CurveDerivatives} {i : ℕ} (w : Carrying along jets count curves i) where
   abbrev jet : SurfaceDerivatives → CurveDerivatives
   jet s = along s .jet
 
   abbrev refusals : ℕ → ℕ
   refusals i = firstRefusal (map along (drop i (take count jets)))
 
-  -- i surfaces are carried
-  pub record Carrying (curves : List CurveDerivatives) (i : ℕ) : Type 0 where
-    pub upto : i ≤ count
-    pub long : length curves ≡ 4
-    pub rest : firstRefusal (map along (drop i (take count jets))) ≡ firstRefusal (map along (take count jets))
-    pub done : take i curves ≡ map (λ s. along s .jet) (take i jets)
+  count-taken : length (take count jets) ≡ count
+  count-taken = length-take-le count jets (omega (arith, w .four, w .room))
 
-  pub carry-begins : (curves : List CurveDerivatives) → length curves ≡ 4 → Carrying curves 0
-  carry-begins curves l = record { upto = omega arith; long = l; rest = refl; done = refl }
-
-  module _ (four : length jets ≡ 4) (room : count ≤ 4) {curves : List CurveDerivatives} {i : ℕ} (w : Carrying curves i) (b : i < count) where
+  module _ (b : i < count) where
     abbrev here : SurfaceDerivatives
     here = getD jets i (surfaces .blank)
 
     one-more : orElse (along here .refusal) (refusals (i + 1)) ≡ refusals 0
     unfolding firstRefusal
     one-more =
-        let l : length (take count jets) ≡ count = length-take-le count jets (omega (arith, four)) in
         ap₂ (λ (s : SurfaceDerivatives) (k : ℕ). firstRefusal (map along (s ∷ drop k (take count jets)))) (sym (getD-take count jets i (surfaces .blank) b)) (add-one i)
-        ∙ ap (λ (t : List SurfaceDerivatives). firstRefusal (map along t)) (sym (drop-cons (take count jets) i (surfaces .blank) (omega (arith, l)))) ∙ w .rest
+        ∙ ap (λ (t : List SurfaceDerivatives). firstRefusal (map along t)) (sym (drop-cons (take count jets) i (surfaces .blank) (omega (arith, count-taken)))) ∙ w .rest
 
-    pub carry-goes-on : {a : CurveAnswer} → a ≡ along here → a .refusal ≡ 0 → Carrying (set curves i (a .jet)) (i + 1)
+    pub carry-goes-on : {a : CurveAnswer} → a ≡ along here → a .refusal ≡ 0 → Carrying along jets count (set curves i (a .jet)) (i + 1)
     carry-goes-on {a} e h = record {
       upto = omega arith;
+      four = w .four;
+      room = w .room;
       long = length-set curves i (a .jet) ∙ w .long;
       rest = ap (λ (x : ℕ). orElse x (refusals (i + 1))) (sym (ap (λ (x : CurveAnswer). x .refusal) (sym e) ∙ h)) ∙ one-more;
-      done = ap (λ (k : ℕ). take k (set curves i (a .jet))) (add-one i) ∙ take-suc-set curves i (a .jet) (omega (arith, w .long))
+      done = ap (λ (k : ℕ). take k (set curves i (a .jet))) (add-one i) ∙ take-suc-set curves i (a .jet) (omega (arith, w .long, w .room))
           ∙ ap₂ (λ (l : List CurveDerivatives) (x : CurveAnswer). l ++ (x .jet ∷ [])) (w .done) e
           ∙ sym (map-append jet (take i jets) (here ∷ []))
-          ∙ ap (map jet) (sym (take-suc jets i (surfaces .blank) (omega (arith, four))) ∙ ap (λ (k : ℕ). take k jets) (sym (add-one i)));
+          ∙ ap (map jet) (sym (take-suc jets i (surfaces .blank) (omega (arith, w .four, w .room))) ∙ ap (λ (k : ℕ). take k jets) (sym (add-one i)));
     }
 
     pub carry-stops : {a : CurveAnswer} → a ≡ along here → ¬ (a .refusal ≡ 0) → a .refusal ≡ firstRefusal (map along (take count jets))
@@ -61,17 +67,16 @@ module _ (along : SurfaceDerivatives → CurveAnswer) (jets : List SurfaceDeriva
         by zero h = absurd (h refl)
         by (suc x) h = refl
 
-  module _ (four : length jets ≡ 4) (room : count ≤ 4) {curves : List CurveDerivatives} {i : ℕ} (w : Carrying curves i) (b : count ≤ i) where
+  module _ (b : count ≤ i) where
     pub carry-ends : 0 ≡ firstRefusal (map along (take count jets))
     unfolding firstRefusal
     carry-ends =
-        let l : length (take count jets) ≡ count = length-take-le count jets (omega (arith, four)) in
-        ap (λ (t : List SurfaceDerivatives). firstRefusal (map along t)) (sym (past (take count jets) i (omega (arith, l)))) ∙ w .rest
+        ap (λ (t : List SurfaceDerivatives). firstRefusal (map along t)) (sym (drop-of-length-le (take count jets) {i = i} (omega (arith, count-taken)))) ∙ w .rest
 
     pub carry-done : take count curves ≡ map (λ s. along s .jet) (take count jets)
     carry-done =
         let e : i ≡ count = omega (arith, w .upto) in
-        ap (λ (k : ℕ). take k curves) (sym e) ∙ w .done ∙ ap (λ (k : ℕ). map jet (take k jets)) e
+        rw e at (w .done)
 
 -- ---- the second road, from what the loop answers for the first g of the surfaces
 module _ (along : SurfaceDerivatives → CurveAnswer) (jets : List SurfaceDerivatives) (four : length jets ≡ 4) (inputs g : ℕ) (ge : g ≡ min inputs 4) where

@@ -4,7 +4,7 @@ use mathlib.Core.Path.{_≡_, refl, sym, ap, _∙_}
 use mathlib.Core.Bool.{Bool, true, false, cond}
 use mathlib.Core.List.{List, [], _∷_, _++_}
 use mathlib.Core.Logic.{⊎-elim}
-use Prim.Native.Nat.{ℕ, zero, suc, _+_, _-_, _≤_, _<_}
+use Prim.Native.Nat.{ℕ, zero, suc, _-_, _≤_, _<_}
 use native.Mathlib.Nat.{eq-or-lt-of-le, le-of-suc-le-suc, suc-ne-zero}
 use native.Mathlib.Omega.{arith}
 use lib.Dec.{ltb, eqb}
@@ -12,7 +12,8 @@ use lib.IntN.{ℤ}
 use borrow.Author.Tests.{ltb-true, eq-eqb, ne-eqb}
 use Rattle.whole.specs.Checked.{inRange}
 use Rattle.whole.specs.History.{Event, numbers, every}
-use Rattle.whole.proofs.History.{numbers-append, every-append}
+use Rattle.whole.proofs.History.{both-true, numbers-append, every-append}
+use Rattle.whole.proofs.Range.{never}
 use Rattle.exact.specs.declared.CurveDerivatives.{CurveDerivatives}
 use Rattle.exact.specs.declared.SurfaceDerivatives.{SurfaceDerivatives}
 use Rattle.exact.specs.declared.ParameterCurve.{ParameterCurve}
@@ -26,11 +27,6 @@ use Rattle.roads.specs.Recipe.{with, namesEarlier, worked}
 use Rattle.roads.specs.Roads.{surfaces, curves}
 use Rattle.roads.specs.Formed.{taken, carriedWith, stepWith, stepsTake}
 use Rattle.roads.proofs.Meeting.{alongNumbers, alongJet, Meets, Orders, result-order, along-within, step-answer, step-meets}
-
--- ---- tests
-pub both-true : (t u : Bool) → cond t u false ≡ true → (t ≡ true) × (u ≡ true)
-both-true true u e = (refl, e)
-both-true false u e = let z : _≡_ {A = ℕ} 0 1 = cc in absurd (suc-ne-zero 0 (sym z))
 
 -- the tests on two lists of events, one after the other
 pub every-two : (h k : List Event) → every inRange (numbers (h ++ k)) ≡ cond (every inRange (numbers h)) (every inRange (numbers k)) false
@@ -101,11 +97,11 @@ module _ (c : ParameterCurve) (k n : ℕ) (o : Orders c k n) where
     where
       at : (t : Bool) → t ≡ true → Meets c k n (cond t s (hs i)) (cond t a (hc i)) (cond t z (hz i))
       at true e = p
-      at false e = let f : _≡_ {A = ℕ} 0 1 = cc in absurd (suc-ne-zero 0 (sym f))
+      at false e = never e
 
       past : (t : Bool) → i < m → t ≡ false → Meets c k n (cond t s (hs i)) (cond t a (hc i)) (cond t z (hz i))
       past false l e = h i l
-      past true l e = let f : _≡_ {A = ℕ} 0 1 = cc in absurd (suc-ne-zero 0 (sym f))
+      past true l e = never (sym e)
 
   -- what is to be shown of the steps from the number m on
   abbrev pub Met : (ℕ → SurfaceDerivatives) → (ℕ → CurveDerivatives) → (ℕ → ℕ → ℤ) → ℕ → List Step → Type 0

@@ -10,6 +10,8 @@ use lib.ListN.{length, getD}
 use borrow.Author.Tests.{ltb-false, le-ltb, eqb-false}
 use Rattle.whole.specs.Checked.{inRange}
 use Rattle.whole.specs.History.{orElse, numbers, every}
+use Rattle.whole.proofs.History.{both-true}
+use Rattle.whole.proofs.Range.{never}
 use Rattle.exact.specs.declared.CurveDerivatives.{CurveDerivatives}
 use Rattle.exact.specs.declared.SurfaceDerivatives.{SurfaceDerivatives}
 use Rattle.exact.specs.declared.ParameterCurve.{ParameterCurve}
@@ -21,15 +23,15 @@ use Rattle.roads.specs.Recipe.{namesEarlier, wellFormed, someAbove20, sm
 use Rattle.roads.specs.Roads.{surfaces, curves, firstRefusal}
 use Rattle.roads.specs.Formed.{taken, carriedWith, carriesTake}
 use Rattle.roads.proofs.Meeting.{alongNumbers, alongJet, along-within}
-use Rattle.roads.proofs.Induction.{both-true, every-two}
+use Rattle.roads.proofs.Induction.{every-two}
 
 -- ---- tests that end in a refusal
-then-false : (t u : Bool) → cond t false u ≡ true → (t ≡ false) × (u ≡ true)
-then-false true u e = let z : _≡_ {A = ℕ} 0 1 = cc in absurd (suc-ne-zero 0 (sym z))
+pub then-false : (t u : Bool) → cond t false u ≡ true → (t ≡ false) × (u ≡ true)
+then-false true u e = never e
 then-false false u e = (refl, e)
 
-then-true : (t u : Bool) → cond t true u ≡ false → (t ≡ false) × (u ≡ false)
-then-true true u e = let z : _≡_ {A = ℕ} 0 1 = cc in absurd (suc-ne-zero 0 (sym z))
+pub then-true : (t u : Bool) → cond t true u ≡ false → (t ≡ false) × (u ≡ false)
+then-true true u e = never (sym e)
 then-true false u e = (refl, e)
 
 pub record Counts (inputs count : ℕ) (steps : List Step) : Type 0 where

@@ -3,7 +3,6 @@ pub mod Theorem
 pub mod Examples
 -- what its proof is made of, from a single number up
 pub mod Sound
-pub mod Judged
 pub mod Operations
 pub mod Meeting
 pub mod Induction

@@ -3,10 +3,9 @@
 use mathlib.Core.Path.{_≡_, refl, sym, ap, ap₂, _∙_}
 use mathlib.Core.Bool.{Bool, cond}
 use mathlib.Core.List.{List}
-use Prim.Native.Nat.{ℕ, suc, _+_, _≤_, min}
+use Prim.Native.Nat.{ℕ, suc, _+_, _≤_}
 use native.Mathlib.Nat.{le-refl, min-eq-left}
 use native.Mathlib.Omega.{arith}
-use lib.Dec.{ltb}
 use lib.IntN.{ℤ, pos}
 use borrow.Author.Tests.{lt-ltb, le-ltb}
 use Rattle.whole.specs.declared.Whole.{Whole}
@@ -28,33 +27,27 @@ use Rattle.exact.specs.declared.SurfaceDerivatives.{SurfaceDerivatives}
 use Rattle.exact.specs.declared.ParameterCurve.{ParameterCurve}
 use Rattle.exact.specs.declared.SurfaceAnswer.{SurfaceAnswer}
 use Rattle.exact.specs.Kinds.{checked, traced}
-use Rattle.exact.specs.Answer.{curveNumbers, surfaceNumbers, curveValues, surfaceValues, refusedCurve, refusedSurface, answeredCurve, answeredSurface, curveAnswer, surfaceAnswer, onCurves, onSurfaces}
+use Rattle.exact.specs.Answer.{curveNumbers, surfaceNumbers, curveValues, surfaceValues, refusedCurve, answeredCurve, answeredSurface, curveAnswer, surfaceAnswer, onCurves, onSurfaces}
 use Rattle.exact.specs.Judged.{histories}
 use Rattle.exact.specs.Composite.{alongCurve}
-use Rattle.exact.proofs.Judged.{Settled, settled, Valued, valued}
+use Rattle.exact.proofs.Judged.{Settled, settled, Valued, valued, Sound, curve-exact, surface-answered}
+use Rattle.exact.proofs.Orders.{within}
 use Rattle.exact.proofs.Same.{curve-entries-same}
 use Rattle.exact.proofs.CarryJudged.{carry-in-range}
 use Rattle.roads.specs.declared.Operation.{Operation}
 use Rattle.roads.specs.Operation.{curveOperation, surfaceOperation}
 use Rattle.roads.specs.Formed.{taken, carriedWith}
-use Rattle.roads.proofs.Sound.{Sound}
-use Rattle.roads.proofs.Judged.{curve-exact, surface-answered}
 use Rattle.roads.proofs.Operations.{curve-alike, surface-alike, carry-operation, carry-exact}
 
 -- ---- calls on jets of one order
 module _ {n : ℕ} (h : n ≤ 20) where
   pub on-curves : (f : (ℕ → Whole) → (ℕ → Whole) → ℕ → Whole) (x y : List ℤ) →
       onCurves f (record { order = n; entries = x }) (record { order = n; entries = y }) ≡ curveAnswer (f (curveValues x) (curveValues y)) n
-  on-curves f x y =
-      ap (λ (t : Bool). cond t (refusedCurve 1) (cond t (refusedCurve 1) (curveAnswer (f (curveValues x) (curveValues y)) (min n n)))) (le-ltb 20 n h)
-      ∙ ap (curveAnswer (f (curveValues x) (curveValues y))) (min-eq-left (le-refl n))
+  on-curves f x y = rw (le-ltb 20 n h, min-eq-left (le-refl n))
 
   pub on-surfaces : (f : (ℕ → ℕ → Whole) → (ℕ → ℕ → Whole) → ℕ → ℕ → Whole) (s r : SurfaceDerivatives) → s .order ≡ n → r .order ≡ n →
       onSurfaces f s r ≡ surfaceAnswer (f (surfaceValues (s .entries)) (surfaceValues (r .entries))) n
-  on-surfaces f s r p q =
-      ap₂ (λ (x y : ℕ). cond (ltb 20 x) (refusedSurface 1) (cond (ltb 20 y) (refusedSurface 1) (surfaceAnswer (f (surfaceValues (s .entries)) (surfaceValues (r .entries))) (min x y)))) p q
-      ∙ ap (λ (t : Bool). cond t (refusedSurface 1) (cond t (refusedSurface 1) (surfaceAnswer (f (surfaceValues (s .entries)) (surfaceValues (r .entries))) (min n n)))) (le-ltb 20 n h)
-      ∙ ap (surfaceAnswer (f (surfaceValues (s .entries)) (surfaceValues (r .entries)))) (min-eq-left (le-refl n))
+  on-surfaces f s r p q = rw (p, q, le-ltb 20 n h, min-eq-left (le-refl n))
 
   pub curve-array-at : (a : ℕ → ℤ) → CurvesAgree n (curveNumbers (curveArray (pos 0) a n)) a
   curve-array-at a i l =
@@ -131,12 +124,7 @@ module _ (c : ParameterCurve) (k n : ℕ) where
       alongCurve s c n ≡ cond (every inRange (numbers (taken (carriedWith c s) n))) (answeredCurve n (alongNumbers s)) (refusedCurve 9)
   along-within s hs hc ls lc =
       let answer = curveAnswer (compositeDerivatives (regular checked) (curveValues (c .u)) (curveValues (c .v)) (surfaceValues (s .entries))) n in
-      let hn : n ≤ 20 = omega arith in
-      ap (λ (t : Bool). cond t (refusedCurve 1) (cond (ltb 20 (c .order)) (refusedCurve 1) (cond (ltb 20 n) (refusedCurve 1) (cond (ltb (s .order) n) (refusedCurve 2) (cond (ltb (c .order) n) (refusedCurve 2) answer))))) (le-ltb 20 (s .order) hs)
-      ∙ ap (λ (t : Bool). cond t (refusedCurve 1) (cond (ltb 20 n) (refusedCurve 1) (cond (ltb (s .order) n) (refusedCurve 2) (cond (ltb (c .order) n) (refusedCurve 2) answer)))) (le-ltb 20 (c .order) hc)
-      ∙ ap (λ (t : Bool). cond t (refusedCurve 1) (cond (ltb (s .order) n) (refusedCurve 2) (cond (ltb (c .order) n) (refusedCurve 2) answer))) (le-ltb 20 n hn)
-      ∙ ap (λ (t : Bool). cond t (refusedCurve 2) (cond (ltb (c .order) n) (refusedCurve 2) answer)) (le-ltb (s .order) n ls)
-      ∙ ap (λ (t : Bool). cond t (refusedCurve 2) answer) (le-ltb (c .order) n lc)
+      sym (within refusedCurve answer (s .order) (c .order) n hs hc (omega arith) ls lc)
       ∙ carry-in-range (curveNumbers (c .u)) (curveNumbers (c .v)) (surfaceNumbers (s .entries)) n
 
   -- the same operation on the curves that the surfaces meet
@@ -185,7 +173,7 @@ module _ (c : ParameterCurve) (k n : ℕ) where
         ap₂ (onCurves (curveOperation checked op)) (p .curve) (q .curve)
         ∙ on-curves small (curveOperation checked op) (alongJet s .entries) (alongJet r .entries)
         ∙ curve-exact n (curveOperation checked op (curveValues (alongJet s .entries)) (curveValues (alongJet r .entries))) byNumbers (alongNumbers jet)
-        numbers-settle numbers-value (λ m l. numbers-sound m l .1)
+        numbers-settle (λ m l. (numbers-value m l, numbers-sound m l .1))
         ∙ ap (λ (h : List Traced). cond (every inRange (numbers (histories h))) (answeredCurve n (alongNumbers jet)) (refusedCurve 9))
         (sym (curve-entries-same n hand-numbers))
 

@@ -6,10 +6,11 @@ use Prim.Native.Nat.{ℕ, suc, _+_, _≤_}
 use native.Mathlib.Nat.{le-refl}
 use native.Mathlib.Omega.{arith}
 use lib.Dec.{eqb}
-use lib.IntN.{ℤ, pos, negsuc, natAbs}
+use lib.IntN.{ℤ, pos, natAbs}
 use lib.Signed.{remZ}
 use borrow.Author.Tests.{eqb-true, eqb-false}
-use Rattle.whole.specs.History.{Traced, given, verdict, exact}
+use Rattle.whole.specs.History.{Traced, given, verdict}
+use Rattle.whole.proofs.Range.{natAbs-zero}
 use Rattle.calculus.specs.Kind.{Kind, regular, plain}
 use Rattle.calculus.specs.Rising.{before}
 use Rattle.calculus.specs.Curve
@@ -21,11 +22,11 @@ use Rattle.calculus.proofs.CarryAlike.{composite-zero}
 use Rattle.calculus.proofs.UpTo.{CurvesAgree}
 use Rattle.calculus.proofs.Laws.{carried, carry-sum, carry-difference, carry-product, exact-carry-quotient, exact-carry-remainder}
 use Rattle.exact.specs.Kinds.{traced}
-use Rattle.exact.proofs.Judged.{Valued, valued}
+use Rattle.exact.proofs.Judged.{Valued, valued, Sound, exact-none, sound, soundModule}
 use Rattle.roads.specs.declared.Operation.{Operation}
 use Rattle.roads.specs.declared.Operation.the-variants.{Sum, Difference, Product, Quotient}
 use Rattle.roads.specs.Operation.{curveOperation, surfaceOperation}
-use Rattle.roads.proofs.Sound.{Sound, sound, soundModule, exact-none, sound-over, over-answered}
+use Rattle.roads.proofs.Sound.{sound-over, over-answered}
 
 -- ---- what the operations of two kinds keep, each step keeps
 module _ {A B : Type 0} (R : A → B → Type 0) (K : Kind A) (L : Kind B) (r : Related R K L) (n : ℕ) where
@@ -44,10 +45,6 @@ module _ {A B : Type 0} (R : A → B → Type 0) (K : Kind A) (L : Kind B) (r : 
   surface-alike Quotient a c b d p q = surface-quotient-alike R K L r n a c b d p q
 
 -- ---- tests of a divisor and of a remainder
-no-size : (z : ℤ) → natAbs z ≡ 0 → z ≡ pos 0
-no-size (pos n) e = ap pos e
-no-size (negsuc n) e = absurd (omega (arith, e))
-
 not-zero : (z : ℤ) → eqb (natAbs z) 0 ≡ false → ¬ (z ≡ pos 0)
 not-zero z h e = eqb-false (natAbs z) 0 h (ap natAbs e)
 
@@ -92,7 +89,7 @@ module _ (u v : ℕ → ℤ) (a b : ℕ → ℕ → ℤ) (N : ℕ) where
       let e : Surface.dividend traced (λ i j. given (a i j)) (λ i j. given (b i j)) i j .value ≡ Surface.dividend plain a b i j =
       surface-dividend-alike Valued traced plain valued (i + j) (λ i j. given (a i j)) (λ i j. given (b i j)) a b (λ i j l. refl) (λ i j l. refl) i j (le-refl (i + j))
       in
-      (d .0, ap (λ x. remZ x (b 0 0)) (sym e) ∙ no-size _ (eqb-true _ 0 (d .1)))
+      (d .0, ap (λ x. remZ x (b 0 0)) (sym e) ∙ natAbs-zero _ (eqb-true _ 0 (d .1)))
 
   divisor : Answered Quotient → eqb (natAbs (b 0 0)) 0 ≡ false
   divisor h = divides h 0 0 (omega arith) .0

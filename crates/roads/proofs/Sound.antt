@@ -1,59 +1,16 @@
--- Numbers with their history whose divisions are all exact: the operations keep them so, and a division that is answered is exact.
+-- Numbers with their history whose divisions are all exact: a division without a remainder keeps them so, and one that is answered leaves none.
 -- Assumes nothing.
-use mathlib.Core.Path.{_≡_, refl, ap, ap₂, _∙_, subst, sym}
+use mathlib.Core.Path.{_≡_, ap, _∙_, subst, sym}
 use mathlib.Core.Bool.{true, false}
 use mathlib.Core.List.{[], _∷_}
 use lib.Dec.{eqb}
-use lib.IntN.{ℤ, pos, natAbs, _+ℤ_, _-ℤ_, _*ℤ_}
+use lib.IntN.{ℤ, natAbs}
 use lib.Signed.{quotZ, remZ}
 use Rattle.whole.specs.Checked
-use Rattle.whole.specs.History.{forms, divides, Traced, settle, given, verdict, exact, tracedOver}
-use Rattle.whole.proofs.History.{settle-over, exact-then, exact-one, exact-division, answered-value, settle-answered}
+use Rattle.whole.specs.History.{forms, divides, Traced, settle, given, verdict, tracedOver}
+use Rattle.whole.proofs.History.{settle-over, exact-then, exact-division, answered-value, settle-answered}
 use Rattle.whole.proofs.Answers.{both-answered, divided-answered}
-use Rattle.calculus.specs.Kind.{Kind, regular, plain}
-use Rattle.calculus.proofs.Related.{Related, RelatedModules}
-use Rattle.exact.specs.Kinds.{traced}
-
--- the value is the integer, and every division that was taken is exact: kept by every operation but the division
-abbrev pub Sound : Traced → ℤ → Type 0
-Sound t z = (t .value ≡ z) × (exact (t .history) ≡ true)
-
-pub exact-none : exact [] ≡ true
-unfolding exact
-exact-none = refl
-
-abbrev pub undivided : {A : Type 0} → Kind A → Kind A
-undivided K = record {
-  nought = K .nought;
-  one = K .one;
-  plus = K .plus;
-  minus = K .minus;
-  times = K .times;
-  over = K .times;
-  ofNat = K .ofNat;
-}
-
-pub sound : Related Sound (undivided traced) (undivided plain)
-sound = record {
-  nought = (refl, exact-none);
-  one = (refl, exact-none);
-  plus = λ s t x y p q. (ap₂ _+ℤ_ (p .0) (q .0), exact-then _+ℤ_ (λ x y. forms (x +ℤ y) ∷ []) s t (p .1) (q .1) (exact-one (s .value +ℤ t .value)));
-  minus = λ s t x y p q. (ap₂ _-ℤ_ (p .0) (q .0), exact-then _-ℤ_ (λ x y. forms (x -ℤ y) ∷ []) s t (p .1) (q .1) (exact-one (s .value -ℤ t .value)));
-  times = λ s t x y p q. (ap₂ _*ℤ_ (p .0) (q .0), exact-then _*ℤ_ (λ x y. forms (x *ℤ y) ∷ []) s t (p .1) (q .1) (exact-one (s .value *ℤ t .value)));
-  over = λ s t x y p q. (ap₂ _*ℤ_ (p .0) (q .0), exact-then _*ℤ_ (λ x y. forms (x *ℤ y) ∷ []) s t (p .1) (q .1) (exact-one (s .value *ℤ t .value)));
-  ofNat = λ n. (refl, exact-one (pos n));
-}
-
-pub soundModule : RelatedModules Sound Sound (regular traced) (regular plain)
-soundModule = record {
-  nought = sound .nought;
-  plus = sound .plus;
-  minus = sound .minus;
-  scale = sound .times;
-  one = sound .one;
-  times = sound .times;
-  ofNat = sound .ofNat;
-}
+use Rattle.exact.proofs.Judged.{Sound, exact-none}
 
 -- a division without a remainder
 pub sound-over : (t : Traced) (x y : ℤ) → Sound t x → eqb (natAbs y) 0 ≡ false → eqb (natAbs (remZ x y)) 0 ≡ true → Sound (tracedOver t (given y)) (quotZ x y)

@@ -1,22 +1,27 @@
--- The loop over the steps of a recipe, over any kind of jet: the jets in hand stand in a list, and what is left to work comes to the whole.
--- Assumes nothing.
+-- The loops of a recipe, over any kind of jet: the jets given are cut and put in hand, and what is left to work, on the jets in hand, comes to
+-- the whole. Assumes nothing.
 use mathlib.Core.Path.{_≡_, refl, sym, ap, ap₂, _∙_, fun-ext}
 use mathlib.Core.Bool.{Bool, true, false, cond}
 use mathlib.Core.List.{List, [], _∷_}
 use Prim.Native.Nat.{ℕ, zero, suc, _+_, _-_, _≤_, _<_}
-use native.Mathlib.Nat.{add-zero, min-le-left}
+use native.Mathlib.Nat.{add-zero, min-le-left, not-suc-le-zero}
 use native.Mathlib.Numerals.{add-one}
 use native.Mathlib.Decide.{ℕ-discrete}
 use native.Mathlib.Omega.{arith}
 use lib.Dec.{ltb, eqb}
-use lib.ListN.{length, getD, set, take, drop, length-take}
+use lib.ListN.{length, getD, set, take, drop, length-set, length-take, drop-of-length-le}
 use lib.Seq.{drop-cons, getD-take, length-take-le, getD-set-same, getD-set-other}
 use borrow.Author.Tests.{ltb-true, eq-eqb, ne-eqb}
+use Rattle.whole.proofs.History.{both-true}
 use Rattle.exact.specs.Judged.{byVerdict}
+use Rattle.roads.specs.declared.Operation.the-variants.{Sum}
 use Rattle.roads.specs.declared.Step.{Step}
 use Rattle.roads.specs.Recipe.{Jets, with, namesEarlier, worked}
-use Rattle.roads.proofs.Tests.{past}
-use Rattle.roads.proofs.Induction.{both-true}
+
+-- a refusal is passed on
+pub stays : {B : Type 0} (refused : ℕ → B) (b : B) (x : ℕ) → ¬ (x ≡ 0) → refused x ≡ byVerdict refused x b
+stays refused b zero h = absurd (h refl)
+stays refused b (suc x) h = refl
 
 module _ {J A : Type 0} (K : Jets J A) where
   -- a list of jets, by number
@@ -51,83 +56,121 @@ module _ {J A : Type 0} (K : Jets J A) where
       ∙ ap (byVerdict (K .refused) (K .refusal a))
       (worked-same ss (with f m (K .jet a)) (with g m (K .jet a)) (suc m) (omega arith) (with-same f g m (K .jet a) h) (y .1))
 
-  -- ---- the first n steps of a program, on the jets `start`
-  module _ (start : List J) (inputs n : ℕ) (program : List Step) where
-    abbrev outcome : A
-    outcome = worked K (held start) inputs (take n program)
+-- ---- the jets given are cut to the order of work in turn; the first i are in hand
+pub record Cutting {J A : Type 0} (K : Jets J A) (jets : List J) (order inputs : ℕ) (hand : List J) (i : ℕ) : Type 0 where
+  pub upto : i ≤ inputs
+  pub wide : length hand ≡ 16
+  pub done : (k : ℕ) → k < i → getD hand k (K .blank) ≡ K .cut order (getD jets k (K .blank))
 
-    -- i steps are done
-    pub record Working (hand : List J) (i : ℕ) : Type 0 where
-      pub upto : i ≤ n
-      pub names : namesEarlier (inputs + i) (drop i (take n program)) ≡ true
-      pub rest : worked K (held hand) (inputs + i) (drop i (take n program)) ≡ worked K (held start) inputs (take n program)
+pub cut-begins : {J A : Type 0} (K : Jets J A) (jets : List J) (order inputs : ℕ) {hand : List J} → length hand ≡ 16 → Cutting K jets order inputs hand 0
+cut-begins K jets order inputs w = record { upto = omega arith; wide = w; done = λ k h. absurd (not-suc-le-zero h) }
 
-    pub work-begins : namesEarlier inputs (take n program) ≡ true → Working start 0
-    work-begins e = record {
-      upto = omega arith;
-      names = ap (λ (m : ℕ). namesEarlier m (take n program)) (add-zero inputs) ∙ e;
-      rest = ap (λ (m : ℕ). worked K (held start) m (take n program)) (add-zero inputs);
-    }
+module _ {J A : Type 0} {K : Jets J A} {jets : List J} {order inputs : ℕ} {hand : List J} {i : ℕ} (w : Cutting K jets order inputs hand i) where
+  pub cut-goes-on : i < inputs → inputs ≤ 4 → Cutting K jets order inputs (set hand i (K .cut order (getD jets i (K .blank)))) (i + 1)
+  cut-goes-on b four = record {
+    upto = omega arith;
+    wide = length-set hand i _ ∙ w .wide;
+    done = λ k h. at k h (ℕ-discrete k i);
+  }
+    where
+      at : (k : ℕ) → k < i + 1 → Dec (k ≡ i) → getD (set hand i (K .cut order (getD jets i (K .blank)))) k (K .blank) ≡ K .cut order (getD jets k (K .blank))
+      at k h (yes e) = rw e (getD-set-same hand i (K .cut order (getD jets i (K .blank))) (K .blank) (omega (arith, w .wide)))
+      at k h (no e) = getD-set-other hand i k (K .cut order (getD jets i (K .blank))) (K .blank) e ∙ w .done k (omega arith)
 
-    -- the step i
-    module _ {hand : List J} {i : ℕ} (w : Working hand i) (d : Step) (b : i < n) (l : n ≤ length program) where
-      abbrev step : Step
-      step = getD program i d
+  pub cut-ends : inputs ≤ i → (k : ℕ) → k < inputs → getD hand k (K .blank) ≡ K .cut order (getD jets k (K .blank))
+  cut-ends b k h = w .done k (omega arith)
 
-      abbrev later : List Step
-      later = drop (i + 1) (take n program)
+-- ---- the first n steps of a program are worked on the jets `start`; i of them are done
+pub record Working {J A : Type 0} (K : Jets J A) (start : List J) (inputs n : ℕ) (program : List Step) (hand : List J) (i : ℕ) : Type 0 where
+  pub upto : i ≤ n
+  pub four : inputs ≤ 4
+  pub twelve : n ≤ 12
+  pub long : length program ≡ 12
+  pub wide : length hand ≡ 16
+  pub names : namesEarlier (inputs + i) (drop i (take n program)) ≡ true
+  pub rest : worked K (held K hand) (inputs + i) (drop i (take n program)) ≡ worked K (held K start) inputs (take n program)
 
-      left-over : drop i (take n program) ≡ step ∷ later
-      left-over =
-          drop-cons (take n program) i d (omega (arith, length-take-n)) ∙ ap₂ (λ (s : Step) (k : ℕ). s ∷ drop k (take n program)) (getD-take n program i d b) (sym (add-one i))
-        where
-          length-take-n : length (take n program) ≡ n
-          length-take-n = length-take-le n program l
+-- what is read past a program's end
+abbrev none : Step
+none = record { operation = Sum; left = 0; right = 0 }
 
-      named : (step .left < inputs + i) × (step .right < inputs + i) × (namesEarlier (suc (inputs + i)) later ≡ true)
-      unfolding namesEarlier
-      named =
-          let e : namesEarlier (inputs + i) (step ∷ later) ≡ true = ap (namesEarlier (inputs + i)) (sym left-over) ∙ w .names in
-          let x = both-true (ltb (step .left) (inputs + i)) (cond (ltb (step .right) (inputs + i)) (namesEarlier (suc (inputs + i)) later) false) e in
-          let y = both-true (ltb (step .right) (inputs + i)) (namesEarlier (suc (inputs + i)) later) (x .1) in
-          (ltb-true (step .left) (inputs + i) (x .0), ltb-true (step .right) (inputs + i) (y .0), y .1)
+module _ {J A : Type 0} (K : Jets J A) {start : List J} {inputs n : ℕ} {program : List Step} where
+  pub work-begins : inputs ≤ 4 → n ≤ 12 → length program ≡ 12 → length start ≡ 16 → namesEarlier inputs (take n program) ≡ true → Working K start inputs n program start 0
+  work-begins f t l w e = record {
+    upto = omega arith;
+    four = f;
+    twelve = t;
+    long = l;
+    wide = w;
+    names = ap (λ (m : ℕ). namesEarlier m (take n program)) (add-zero inputs) ∙ e;
+    rest = ap (λ (m : ℕ). worked K (held K start) m (take n program)) (add-zero inputs);
+  }
 
-      pub names-left : step .left < inputs + i
-      names-left = named .0
+module _ {J A : Type 0} {K : Jets J A} {start : List J} {inputs n : ℕ} {program : List Step} {hand : List J} {i : ℕ} (w : Working K start inputs n program hand i) where
+  abbrev outcome : A
+  outcome = worked K (held K start) inputs (take n program)
 
-      pub names-right : step .right < inputs + i
-      names-right = named .1
+  -- the step i
+  module _ (b : i < n) where
+    abbrev step : Step
+    step = getD program i none
 
-      abbrev answer : A
-      answer = K .apply (step .operation) (held hand (step .left)) (held hand (step .right))
+    abbrev later : List Step
+    later = drop (i + 1) (take n program)
 
-      one-step : byVerdict (K .refused) (K .refusal answer) (worked K (with (held hand) (inputs + i) (K .jet answer)) (suc (inputs + i)) later) ≡ outcome
-      unfolding worked
-      one-step = ap (worked K (held hand) (inputs + i)) (sym left-over) ∙ w .rest
+    left-over : drop i (take n program) ≡ step ∷ later
+    left-over =
+        let l : length (take n program) ≡ n = length-take-le n program (omega (arith, w .twelve, w .long)) in
+        drop-cons (take n program) i none (omega (arith, l)) ∙ ap₂ (λ (s : Step) (k : ℕ). s ∷ drop k (take n program)) (getD-take n program i none b) (sym (add-one i))
 
-      pub work-stops : {a : A} → a ≡ answer → ¬ (K .refusal a ≡ 0) → K .refused (K .refusal a) ≡ outcome
-      work-stops {a} e h = ap (λ (x : A). K .refused (K .refusal x)) e ∙ by (K .refusal answer) (λ z. h (ap (K .refusal) e ∙ z)) ∙ one-step
-        where
-          by : (x : ℕ) → ¬ (x ≡ 0) → K .refused x ≡ byVerdict (K .refused) x (worked K (with (held hand) (inputs + i) (K .jet answer)) (suc (inputs + i)) later)
-          by zero h = absurd (h refl)
-          by (suc x) h = refl
+    named : (step .left < inputs + i) × (step .right < inputs + i) × (namesEarlier (suc (inputs + i)) later ≡ true)
+    unfolding namesEarlier
+    named =
+        let e : namesEarlier (inputs + i) (step ∷ later) ≡ true = ap (namesEarlier (inputs + i)) (sym left-over) ∙ w .names in
+        let x = both-true (ltb (step .left) (inputs + i)) (cond (ltb (step .right) (inputs + i)) (namesEarlier (suc (inputs + i)) later) false) e in
+        let y = both-true (ltb (step .right) (inputs + i)) (namesEarlier (suc (inputs + i)) later) (x .1) in
+        (ltb-true (step .left) (inputs + i) (x .0), ltb-true (step .right) (inputs + i) (y .0), y .1)
 
-      pub work-goes-on : {a : A} → a ≡ answer → K .refusal a ≡ 0 → inputs + i < length hand → Working (set hand (inputs + i) (K .jet a)) (i + 1)
-      work-goes-on {a} e h r =
-          let m : inputs + (i + 1) ≡ suc (inputs + i) = omega arith in
-          record {
-            upto = omega arith;
-            names = ap (λ (k : ℕ). namesEarlier k later) m ∙ named .2;
-            rest = ap₂ (λ (f : ℕ → J) (k : ℕ). worked K f k later) (stored hand (inputs + i) (K .jet a) r) m
-                ∙ ap (λ (x : A). worked K (with (held hand) (inputs + i) (K .jet x)) (suc (inputs + i)) later) e
-                ∙ ap (λ (x : ℕ). byVerdict (K .refused) x (worked K (with (held hand) (inputs + i) (K .jet answer)) (suc (inputs + i)) later)) (sym (ap (K .refusal) (sym e) ∙ h))
-                ∙ one-step;
-          }
+    -- it names jets in hand
+    pub left-in : step .left < 16
+    left-in = omega (arith, named .0, w .four, w .twelve)
 
-    pub work-ends : {hand : List J} {i : ℕ} → Working hand i → n ≤ i → K .answered (held hand (inputs + n - 1)) ≡ outcome
+    pub right-in : step .right < 16
+    right-in = omega (arith, named .1, w .four, w .twelve)
+
+    abbrev answer : A
+    answer = K .apply (step .operation) (held K hand (step .left)) (held K hand (step .right))
+
+    abbrev after : A
+    after = worked K (with (held K hand) (inputs + i) (K .jet answer)) (suc (inputs + i)) later
+
+    one-step : byVerdict (K .refused) (K .refusal answer) after ≡ outcome
     unfolding worked
-    work-ends {hand} {i} w h =
-        let e : i ≡ n = omega (arith, w .upto) in
-        ap (λ (k : ℕ). K .answered (held hand (inputs + k - 1))) (sym e)
-        ∙ ap (worked K (held hand) (inputs + i)) (sym (past (take n program) i (omega (arith, length-take n program, min-le-left n (length program)))))
-        ∙ w .rest
+    one-step = ap (worked K (held K hand) (inputs + i)) (sym left-over) ∙ w .rest
+
+    pub work-stops : {a : A} → a ≡ answer → ¬ (K .refusal a ≡ 0) → K .refused (K .refusal a) ≡ outcome
+    work-stops {a} e h = ap (λ (x : A). K .refused (K .refusal x)) e ∙ stays (K .refused) after (K .refusal answer) (λ z. h (ap (K .refusal) e ∙ z)) ∙ one-step
+
+    pub work-goes-on : {a : A} → a ≡ answer → K .refusal a ≡ 0 → Working K start inputs n program (set hand (inputs + i) (K .jet a)) (i + 1)
+    work-goes-on {a} e h =
+        let m : inputs + (i + 1) ≡ suc (inputs + i) = omega arith in
+        record {
+          upto = omega arith;
+          four = w .four;
+          twelve = w .twelve;
+          long = w .long;
+          wide = length-set hand (inputs + i) (K .jet a) ∙ w .wide;
+          names = ap (λ (k : ℕ). namesEarlier k later) m ∙ named .2;
+          rest = ap₂ (λ (f : ℕ → J) (k : ℕ). worked K f k later) (stored K hand (inputs + i) (K .jet a) (omega (arith, w .wide, w .four, w .twelve))) m
+              ∙ ap (λ (x : A). worked K (with (held K hand) (inputs + i) (K .jet x)) (suc (inputs + i)) later) e
+              ∙ ap (λ (x : ℕ). byVerdict (K .refused) x after) (sym (ap (K .refusal) (sym e) ∙ h))
+              ∙ one-step;
+        }
+
+  pub work-ends : n ≤ i → K .answered (held K hand (inputs + n - 1)) ≡ outcome
+  unfolding worked
+  work-ends h =
+      let e : i ≡ n = omega (arith, w .upto) in
+      ap (λ (k : ℕ). K .answered (held K hand (inputs + k - 1))) (sym e)
+      ∙ ap (worked K (held K hand) (inputs + i)) (sym (drop-of-length-le (take n program) {i = i} (omega (arith, length-take n program, min-le-left n (length program)))))
+      ∙ w .rest

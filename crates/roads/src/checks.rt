@@ -5,6 +5,7 @@ ghost use lib.ListN.{take};
 ghost use Rattle.roads.specs.Recipe.{someAbove20, smallest as Smallest, namesEarlier, wellFormed};
 use crate::Step;
 
+// Whether one of the orders is above 20.
 pub fn some_above_20(orders: &[usize]) -> bool
     ensures { λ r. ⌜ r ≡ someAbove20 (now (orders .entry)) ⌝ }
 {
@@ -18,6 +19,7 @@ pub fn some_above_20(orders: &[usize]) -> bool
     false
 }
 
+// The smallest of the orders, or 20 where that is smaller.
 pub fn smallest(orders: &[usize]) -> usize
     ensures { λ r. ⌜ r ≡ Smallest (now (orders .entry)) ⌝ }
 {
@@ -33,6 +35,7 @@ pub fn smallest(orders: &[usize]) -> usize
     least
 }
 
+// Whether each step names numbers before its own.
 fn names_earlier(inputs: usize, steps: usize, program: [Step; 12]) -> bool
     requires { ⌜ (inputs ≤ 4) × (steps ≤ 12) ⌝ }
     ensures { λ r. ⌜ r ≡ namesEarlier inputs (take steps program) ⌝ }
@@ -52,6 +55,7 @@ fn names_earlier(inputs: usize, steps: usize, program: [Step; 12]) -> bool
     true
 }
 
+// Whether the counts are in range, and each step names numbers before its own.
 pub fn well_formed(inputs: usize, steps: usize, program: [Step; 12]) -> bool
     ensures { λ r. ⌜ r ≡ wellFormed inputs steps (take steps program) ⌝ }
 {

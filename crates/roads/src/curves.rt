@@ -13,6 +13,7 @@ use crate::checks;
 use exact::CurveAnswer;
 use exact::CurveDerivatives;
 
+// The orders of the four jets.
 fn orders(jets: [CurveDerivatives; 4]) -> [usize; 4]
     ensures { λ r. ⌜ (r ≡ map (kind .order) jets) × (length jets ≡ 4) ⌝ }
 {

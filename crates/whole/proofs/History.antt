@@ -1,11 +1,10 @@
--- Numbers with their history: what each operation comes to is the checked operation, its value is the plain integer's, and what a verdict
--- says of the numbers that were formed. Assumes nothing.
+-- Numbers with their history: what each operation comes to is the checked operation, and what a verdict says of the numbers that were formed.
+-- Assumes nothing.
 use mathlib.Core.Path.{_≡_, refl, sym, ap, _∙_}
 use mathlib.Core.Bool.{Bool, true, false, cond}
 use mathlib.Core.List.{List, [], _∷_, _++_, map}
 use Prim.Native.Nat.{ℕ, zero, suc}
 use native.Mathlib.Omega.{arith}
-use native.Mathlib.Nat.{lt-irrefl}
 use lib.Dec.{eqb}
 use lib.IntN.{ℤ, pos, _+ℤ_, _-ℤ_, _*ℤ_, natAbs}
 use lib.Signed.{quotZ, remZ}
@@ -15,25 +14,6 @@ use Rattle.whole.specs.Checked.{inRange, formed, divided, both, plus, mi
 use Rattle.whole.specs.History.{Event, forms, divides, Traced, judge, orElse, verdict, settleBy, settle, given, then, tracedPlus, tracedMinus, tracedTimes, tracedOver, tracedOfNat, numbers, every, exact}
 use Rattle.whole.proofs.Range.{never}
 use Rattle.whole.proofs.Answers.{same-value}
-
--- ---- the value of each operation is that of the plain integers
-pub value-given : (z : ℤ) → given z .value ≡ z
-value-given z = refl
-
-pub value-plus : (s t : Traced) → tracedPlus s t .value ≡ s .value +ℤ t .value
-value-plus s t = refl
-
-pub value-minus : (s t : Traced) → tracedMinus s t .value ≡ s .value -ℤ t .value
-value-minus s t = refl
-
-pub value-times : (s t : Traced) → tracedTimes s t .value ≡ s .value *ℤ t .value
-value-times s t = refl
-
-pub value-over : (s t : Traced) → tracedOver s t .value ≡ quotZ (s .value) (t .value)
-value-over s t = refl
-
-pub value-ofNat : (n : ℕ) → tracedOfNat n .value ≡ pos n
-value-ofNat n = refl
 
 -- ---- the verdict on two histories, one after the other
 or-assoc : (a b c : ℕ) → orElse (orElse a b) c ≡ orElse a (orElse b c)
@@ -127,7 +107,7 @@ pub refused-verdict : (t : Traced) {c : ℕ} → settle t ≡ Refused c → verd
 refused-verdict t h = sym (verdict-of-settle t h)
 
 -- ---- two tests
-both-true : (t u : Bool) → cond t u false ≡ true → (t ≡ true) × (u ≡ true)
+pub both-true : (t u : Bool) → cond t u false ≡ true → (t ≡ true) × (u ≡ true)
 both-true true u e = (refl, e)
 both-true false u e = never e
 
@@ -239,19 +219,19 @@ settle-exact t e =
 -- ---- what a verdict says of its history
 or-zero : (a b : ℕ) → orElse a b ≡ 0 → (a ≡ 0) × (b ≡ 0)
 or-zero zero b e = (refl, e)
-or-zero (suc a) b e = absurd (lt-irrefl 0 (omega (arith, e)))
+or-zero (suc a) b e = absurd (omega (arith, e))
 
 pub verdict-parts : (h k : List Event) → verdict (h ++ k) ≡ 0 → (verdict h ≡ 0) × (verdict k ≡ 0)
 verdict-parts h k e = or-zero (verdict h) (verdict k) (sym (verdict-append h k) ∙ e)
 
 zero-first : (t : Bool) (v : ℕ) → orElse (cond t 0 9) v ≡ 0 → (t ≡ true) × (v ≡ 0)
 zero-first true v e = (refl, e)
-zero-first false v e = absurd (lt-irrefl 0 (omega (arith, e)))
+zero-first false v e = absurd (omega (arith, e))
 
 zero-divides : (t s : Bool) (v : ℕ) → orElse (cond t 7 (cond s 0 8)) v ≡ 0 → ((u : Bool) → u ≡ true → cond t false (cond s u false) ≡ true) × (v ≡ 0)
-zero-divides true s v e = absurd (lt-irrefl 0 (omega (arith, e)))
+zero-divides true s v e = absurd (omega (arith, e))
 zero-divides false true v e = (λ u h. h, e)
-zero-divides false false v e = absurd (lt-irrefl 0 (omega (arith, e)))
+zero-divides false false v e = absurd (omega (arith, e))
 
 pub answered-exact : (h : List Event) → verdict h ≡ 0 → exact h ≡ true
 unfolding verdict exact
@@ -263,7 +243,7 @@ answered-exact (divides x y ∷ h) e =
 
 zero-true : (t : Bool) (n : ℕ) → n ≡ cond t 0 9 → n ≡ 0 → t ≡ true
 zero-true true n e h = refl
-zero-true false n e h = absurd (lt-irrefl 0 (omega (arith, e, h)))
+zero-true false n e h = absurd (omega (arith, e, h))
 
 pub answered-in-range : (h : List Event) → verdict h ≡ 0 → every inRange (numbers h) ≡ true
 answered-in-range h e = zero-true (every inRange (numbers h)) (verdict h) (verdict-exact h (answered-exact h e)) e
@@ -273,12 +253,12 @@ nine-first true u v e f = f e
 nine-first false u v e f = refl
 
 nine-divides : (t s : Bool) (v : ℕ) → orElse (cond t 7 (cond s 0 8)) v ≡ 9 → v ≡ 9
-nine-divides true s v e = absurd (lt-irrefl 0 (omega (arith, e)))
+nine-divides true s v e = absurd (omega (arith, e))
 nine-divides false true v e = e
-nine-divides false false v e = absurd (lt-irrefl 0 (omega (arith, e)))
+nine-divides false false v e = absurd (omega (arith, e))
 
 pub nine-out-of-range : (h : List Event) → verdict h ≡ 9 → every inRange (numbers h) ≡ false
 unfolding verdict numbers every
-nine-out-of-range [] e = absurd (lt-irrefl 0 (omega (arith, e)))
+nine-out-of-range [] e = absurd (omega (arith, e))
 nine-out-of-range (forms z ∷ h) e = nine-first (inRange z) (every inRange (numbers h)) (verdict h) e (nine-out-of-range h)
 nine-out-of-range (divides x y ∷ h) e = nine-out-of-range h (nine-divides (eqb (natAbs y) 0) (eqb (natAbs (remZ x y)) 0) (verdict h) e)

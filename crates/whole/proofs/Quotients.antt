@@ -1,9 +1,9 @@
 -- Quotients at 64 bits: what the machine's remainder and quotient say of the division. Assumes nothing.
-use mathlib.Core.Path.{_≡_, refl, sym, ap, ap₂, _∙_}
+use mathlib.Core.Path.{_≡_, refl, sym, ap, _∙_}
 use mathlib.Core.Bool.{false}
 use Prim.Native.Nat.{ℕ, zero, suc, _/_, _%_, _<_, _≤_}
 use native.Mathlib.Omega.{arith}
-use native.Mathlib.Nat.{lt-of-le-of-lt, div-le-self, div-lt-self, mod-one, div-one, lt-irrefl}
+use native.Mathlib.Nat.{lt-of-le-of-lt, div-le-self, div-lt-self, mod-one, div-one}
 use lib.Dec.{eqb}
 use lib.IntN.{ℤ, pos, negsuc, negℤ, _-ℤ_, natAbs, +ℤ-idl}
 use lib.Signed.{mag, mag-rem, quotZ, remZ}
@@ -13,11 +13,7 @@ use mir.Facts.{toZ-ofZ}
 use borrow.Author.Tests.{eq-eqb, ne-eqb}
 use Rattle.whole.specs.declared.Whole.the-variants.{Value, Refused}
 use Rattle.whole.specs.Checked.{formed, divided}
-use Rattle.whole.proofs.Range.{natAbs-neg, tz, of-bits, raw-fits, raw-value}
-
-abs-zero : (z : ℤ) → natAbs z ≡ 0 → z ≡ pos 0
-abs-zero (pos n) h = ap pos h
-abs-zero (negsuc n) h = absurd (lt-irrefl 0 (omega (arith, h)))
+use Rattle.whole.proofs.Range.{natAbs-neg, natAbs-zero, tz, of-bits, raw-is, raw-fits, raw-value}
 
 mag-neg : (r : ℕ) {m : ℕ} → r ≤ suc m → mag (negℤ (pos r)) ≤ m
 mag-neg zero h = omega arith
@@ -62,7 +58,7 @@ module _ {a b : ℤ} (fa : SFits w64 a) (fb : SFits w64 b) (nz : ofZ w64 b ≡ 0
   rem-fits = record { sfits = lt-of-le-of-lt (mag-rem a b) (fa .sfits) }
 
   not-zero : eqb (natAbs b) 0 ≡ false
-  not-zero = ne-eqb (natAbs b) 0 (λ e. nz (ap (ofZ w64) (abs-zero b e)))
+  not-zero = ne-eqb (natAbs b) 0 (λ e. nz (ap (ofZ w64) (natAbs-zero b e)))
 
   pub div-asks : (0 < ofZ w64 b) × SFits w64 (quotZ (tz a) (tz b))
   div-asks = (pos-of (ofZ w64 b) nz, raw-fits fa fb quotZ quot-fits)
@@ -71,7 +67,7 @@ module _ {a b : ℤ} (fa : SFits w64 a) (fb : SFits w64 b) (nz : ofZ w64 b ≡ 0
       pos-of n h = omega arith
 
   rem-is : ofZ w64 (remZ (tz a) (tz b)) ≡ ofZ w64 (remZ a b)
-  rem-is = ap (ofZ w64) (ap₂ remZ (toZ-ofZ fa) (toZ-ofZ fb))
+  rem-is = raw-is fa fb (λ x y. ofZ w64 (remZ x y))
 
   pub div-exact : ofZ w64 (remZ (tz a) (tz b)) ≡ 0 → Value (tz (quotZ (tz a) (tz b))) ≡ divided a b
   unfolding divided
@@ -82,4 +78,4 @@ module _ {a b : ℤ} (fa : SFits w64 a) (fb : SFits w64 b) (nz : ofZ w64 b ≡ 0
   pub div-left : (ofZ w64 (remZ (tz a) (tz b)) ≡ 0 → ⊥) → Refused 8 ≡ divided a b
   unfolding divided
   div-left h =
-      sym (rw (not-zero, ne-eqb (natAbs (remZ a b)) 0 (λ e. h (rem-is ∙ ap (ofZ w64) (abs-zero (remZ a b) e)))))
+      sym (rw (not-zero, ne-eqb (natAbs (remZ a b)) 0 (λ e. h (rem-is ∙ ap (ofZ w64) (natAbs-zero (remZ a b) e)))))

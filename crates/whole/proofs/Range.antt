@@ -11,8 +11,9 @@ use mir.Syntax.{w64}
 use mir.Val.{SFits, toZ, ofZ}
 use mir.Facts.{toZ-ofZ}
 use borrow.Author.Tests.{lt-ltb, le-ltb, le-leb, lt-leb, ltb-true, ltb-false}
+use Rattle.whole.specs.declared.Whole.{Whole}
 use Rattle.whole.specs.declared.Whole.the-variants.{Value, Refused}
-use Rattle.whole.specs.Checked.{inRange, formed}
+use Rattle.whole.specs.Checked.{inRange, formed, both}
 
 -- ---- a difference of naturals, by cases
 sub-go : (P : ℤ → Type 0) (a b : ℕ) (t : Bool) → ltb a b ≡ t → (a < b → P (negsuc (b - suc a))) → (b ≤ a → P (pos (a - b))) → P (cond t (negsuc (b - suc a)) (pos (a - b)))
@@ -96,6 +97,10 @@ pub natAbs-neg : (r : ℕ) → natAbs (negℤ (pos r)) ≡ r
 natAbs-neg zero = refl
 natAbs-neg (suc r) = refl
 
+pub natAbs-zero : (z : ℤ) → natAbs z ≡ 0 → z ≡ pos 0
+natAbs-zero (pos n) h = ap pos h
+natAbs-zero (negsuc n) h = absurd (omega (arith, h))
+
 -- ---- a number as the machine reads it back from its bits
 abbrev pub tz : ℤ → ℤ
 tz z = toZ w64 (ofZ w64 z)
@@ -108,8 +113,15 @@ of-bits n fb h = sym (toZ-ofZ fb) ∙ ap (toZ w64) h
 
 -- what an operation on two numbers asks and gives, where its result is in range
 module _ {a b : ℤ} (fa : SFits w64 a) (fb : SFits w64 b) where
+  pub raw-is : {X : Type 0} (f : ℤ → ℤ → X) → f (tz a) (tz b) ≡ f a b
+  raw-is f = ap₂ f (toZ-ofZ fa) (toZ-ofZ fb)
+
   pub raw-fits : (f : ℤ → ℤ → ℤ) → SFits w64 (f a b) → SFits w64 (f (tz a) (tz b))
   raw-fits f h = rw (toZ-ofZ fa, toZ-ofZ fb) h
 
   pub raw-value : (f : ℤ → ℤ → ℤ) → SFits w64 (f a b) → Value (tz (f (tz a) (tz b))) ≡ formed (f a b)
-  raw-value f h = ap (λ (z : ℤ). Value (tz z)) (ap₂ f (toZ-ofZ fa) (toZ-ofZ fb)) ∙ ap Value (toZ-ofZ h) ∙ sym (formed-in (f a b) (h .sfits))
+  raw-value f h = raw-is (λ x y. Value (tz (f x y))) ∙ ap Value (toZ-ofZ h) ∙ sym (formed-in (f a b) (h .sfits))
+
+-- the same of two numbers that may be refused, where neither is
+pub on-values : (f : ℤ → ℤ → Whole) {x y : Whole} {a b : ℤ} → x ≡ Value a → y ≡ Value b → SFits w64 a → SFits w64 b → f (tz a) (tz b) ≡ both f x y
+on-values f hx hy fa fb = raw-is fa fb f ∙ sym (ap₂ (both f) hx hy)

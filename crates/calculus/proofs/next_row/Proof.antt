@@ -8,9 +8,6 @@ use Rattle.calculus.specs.Choose.{pascal}
 use Rattle.calculus.proofs.Rows.{pascal-at, pascal-end}
 use Rattle.calculus.proofs.next_row.Statement.{statement}
 use Rattle.calculus.proofs.next_row.Tie as tie
-use Rattle.calculus.proofs.next_row.Reads as reads
-use Rattle.calculus.proofs.next_row.Lts as lts
-use Rattle.std.proofs.num.wrapping_add_u32.Reads as wrapping-add-u32-reads
 
 abbrev Inv-loop : tie.InvT-loop
 Inv-loop c₀ i₀ c i = (pascal c i ≡ pascal c₀ 20) × (i < 21)

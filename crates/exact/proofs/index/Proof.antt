@@ -1,10 +1,10 @@
 -- `exact::index` meets its contract. Assumes nothing.
 use mathlib.Core.Path.{refl}
-use Prim.Native.Nat.{_+_, _-_}
+use Prim.Native.Nat.{_+_}
 use native.Mathlib.Omega.{arith}
 use borrow.Author.Needs.{needs}
 use Rattle.calculus.specs.Graded.{index}
-use Rattle.exact.proofs.Terms.{small-square}
+use Rattle.calculus.proofs.Table.{small-square}
 use Rattle.exact.proofs.index.Statement.{statement}
 use Rattle.exact.proofs.index.Tie as tie
 

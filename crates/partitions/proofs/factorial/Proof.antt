@@ -1,16 +1,9 @@
--- A factorial up to 20, or refusal 1. Assumes nothing.
+-- `partitions::factorial` meets its contract. Assumes nothing.
 use borrow.Author.Tests.{lt-ltb, le-ltb}
 use Rattle.partitions.specs.Count.{factorialOf}
-use mathlib.Core.Path.{_≡_, refl, sym, ap, _∙_}
-use Prim.Native.Nat.{ℕ, _+_, _-_, _≤_, _<_}
-use native.Mathlib.Omega.{arith}
-use lib.ListN.{length, getD, take, drop, set}
 use borrow.Author.Needs.{needs}
 use Rattle.partitions.proofs.factorial.Statement.{statement}
 use Rattle.partitions.proofs.factorial.Tie as tie
-use Rattle.partitions.proofs.factorial.Reads as reads
-use Rattle.partitions.proofs.factorial.Lts as lts
-use Rattle.partitions.proofs.inner.factorial.Reads as factorial-reads
 
 returns : tie.Need-returns
 unfolding factorialOf

@@ -1,9 +1,8 @@
--- The multiplicity of a list that is handed in, or its refusal. Assumes nothing.
+-- `partitions::multiplicity` meets its contract: by the tests of a list that is handed in. Assumes nothing.
 use mathlib.Core.Bool.{true, false}
-use mathlib.Core.Path.{_≡_, refl, sym, ap, _∙_}
-use Prim.Native.Nat.{ℕ, _+_, _-_, _≤_, _<_}
+use mathlib.Core.Path.{_≡_, sym, ap, _∙_}
+use Prim.Native.Nat.{ℕ}
 use native.Mathlib.Omega.{arith}
-use lib.ListN.{length, getD, take, drop, set}
 use borrow.Author.Needs.{needs}
 use borrow.Author.Tests.{not-true, not-false}
 use Rattle.partitions.specs.Parts.{total, fact, divide, runs, multiplicity}
@@ -12,13 +11,6 @@ use Rattle.partitions.proofs.Counted.{counted-high, counted-by, list-te
 use Rattle.partitions.proofs.Exact.{list-long}
 use Rattle.partitions.proofs.multiplicity.Statement.{statement}
 use Rattle.partitions.proofs.multiplicity.Tie as tie
-use Rattle.partitions.proofs.multiplicity.Reads as reads
-use Rattle.partitions.proofs.multiplicity.Lts as lts
-use Rattle.partitions.proofs.inner.factorial.Reads as factorial-reads
-use Rattle.partitions.proofs.inner.falls.Reads as falls-reads
-use Rattle.partitions.proofs.inner.over_parts.Reads as over-parts-reads
-use Rattle.partitions.proofs.inner.over_runs.Reads as over-runs-reads
-use Rattle.partitions.proofs.inner.total.Reads as total-reads
 
 total-requires : tie.Need-total-requires
 total-requires c κs = search needs

@@ -1,14 +1,7 @@
--- The refusals of an order and a len, in the definition's order. Assumes nothing.
+-- `partitions::refusal` meets its contract: by the first test that holds. Assumes nothing.
 use borrow.Author.Tests.{lt-ltb, le-ltb, eq-eqb, ne-eqb}
-use mathlib.Core.Path.{_≡_, refl, sym, ap, _∙_}
-use Prim.Native.Nat.{ℕ, _+_, _-_, _≤_, _<_}
-use native.Mathlib.Omega.{arith}
-use lib.ListN.{length, getD, take, drop, set}
-use borrow.Author.Needs.{needs}
 use Rattle.partitions.proofs.refusal.Statement.{statement}
 use Rattle.partitions.proofs.refusal.Tie as tie
-use Rattle.partitions.proofs.refusal.Reads as reads
-use Rattle.partitions.proofs.refusal.Lts as lts
 
 returns : tie.Need-returns
 returns c = simp (lt-ltb 20 _ (c .if1 .taken))

@@ -1,12 +1,11 @@
 -- `exact::CurveDerivatives::from_list` meets its contract. Assumes nothing.
-use mathlib.Core.Path.{_≡_, sym, _∙_}
-use Prim.Native.Nat.{suc, _-_}
-use denote.Ref.{now}
-use borrow.Author.Needs.{needs}
+use mathlib.Core.Path.{sym, _∙_}
+use Prim.Native.Nat.{suc}
 use native.Mathlib.Numerals.{add-one}
 use lib.ListN.{length}
+use denote.Ref.{now}
 use borrow.Author.Tests.{lt-ltb, le-ltb, eq-eqb, ne-eqb}
-use Rattle.exact.specs.Answer.{curveNumbers, refusedCurve, answeredCurve, curveFromList}
+use borrow.Author.Needs.{needs}
 use Rattle.exact.proofs.CurveDerivatives.from_list.Statement.{statement}
 use Rattle.exact.proofs.CurveDerivatives.from_list.Tie as tie
 
@@ -14,10 +13,7 @@ refused-curve-requires : tie.Need-refused-curve-requires
 refused-curve-requires c κs = search needs
 
 returns : tie.Need-returns
-returns c =
-    let a = c .before .before .args in
-    let e : refusedCurve 1 ≡ curveFromList (a .order) (now (a .list)) = rw (lt-ltb 20 (a .order) (c .before .if1 .taken)) in
-    c .refused-curve .ensures ∙ e
+returns c = rw (lt-ltb 20 (c .before .before .args .order) (c .before .if1 .taken)) (c .refused-curve .ensures)
 
 add-if2 : tie.Need-add-if2
 add-if2 c = search needs
@@ -31,18 +27,12 @@ refused-curve-requires-2 c κs = search needs
 returns-2 : tie.Need-returns-2
 returns-2 c =
     let a = c .before .before .before .args in
-    let k : length (now (a .list)) ≡ suc (a .order) = c .before .if2 .taken ∙ add-one (a .order) in
-    let e : answeredCurve (a .order) (curveNumbers (now (a .list))) ≡ curveFromList (a .order) (now (a .list)) =
-    rw (le-ltb 20 (a .order) (c .before .before .if1 .left), eq-eqb (length (now (a .list))) (suc (a .order)) k) in
-    c .read .ensures ∙ e
+    rw (le-ltb 20 (a .order) (c .before .before .if1 .left), eq-eqb (length (now (a .list))) (suc (a .order)) (c .before .if2 .taken ∙ add-one (a .order))) (c .read .ensures)
 
 returns-3 : tie.Need-returns-3
 returns-3 c =
     let a = c .before .before .before .args in
-    let k : ¬ (length (now (a .list)) ≡ suc (a .order)) = λ q. c .before .if2 .left (q ∙ sym (add-one (a .order))) in
-    let e : refusedCurve 2 ≡ curveFromList (a .order) (now (a .list)) =
-    rw (le-ltb 20 (a .order) (c .before .before .if1 .left), ne-eqb (length (now (a .list))) (suc (a .order)) k) in
-    c .refused-curve2 .ensures ∙ e
+    rw (le-ltb 20 (a .order) (c .before .before .if1 .left), ne-eqb (length (now (a .list))) (suc (a .order)) (λ q. c .before .if2 .left (q ∙ sym (add-one (a .order))))) (c .refused-curve2 .ensures)
 
 pub from-list-spec : {M : Type 1} → statement M
 from-list-spec =

@@ -2,7 +2,7 @@
 -- how many lists are still to come. Assumes nothing.
 use mathlib.Core.Path.{_≡_, sym, _∙_, ap, ap₂, subst}
 use mathlib.Core.Bool.{true, false}
-use mathlib.Core.List.{List, _∷_}
+use mathlib.Core.List.{List}
 use lib.IntN.{ℤ}
 use lib.ListN.{length, take, length-take}
 use borrow.Author.Tests.{not-true, not-false}
@@ -16,8 +16,8 @@ use Rattle.calculus.specs.Carry.{summand as Summand, coordinates, surfaceEntry}
 use Rattle.whole.specs.declared.Whole.{Whole}
 use Rattle.exact.specs.Kinds.{checked}
 use Rattle.exact.specs.Answer.{curveValues, surfaceValues}
-use Rattle.calculus.proofs.Walking.{Walks, Steps, pending, pending-some, pending-none, steps, first-step, is-list}
-use Prim.Native.Nat.{ℕ, _<_}
+use Rattle.calculus.proofs.Walking.{Walks, Steps, pending, pending-some, pending-none, steps, first-step, is-list, shorter}
+use Prim.Native.Nat.{ℕ}
 use native.Mathlib.Omega.{arith}
 use borrow.Author.Needs.{needs}
 use Rattle.exact.proofs.carry.along_lists.Statement.{statement}
@@ -74,9 +74,6 @@ plus-requires c κs = search needs
 
 step-requires-2 : tie.Need-step-requires-2 Inv-loop μ-loop
 step-requires-2 c κs = search needs
-
-shorter : {x : List ℕ} {xs ys zs : List (List ℕ)} → ys ≡ xs → zs ≡ x ∷ xs → length ys < length zs
-shorter p q = omega (arith, ap length p, ap length q)
 
 -- the step that the turn ends with
 next : (c : tie.After-step2 Inv-loop μ-loop) →

@@ -1,5 +1,5 @@
 -- `exact::carry::derivative` meets its contract. The invariant: the total is that of the lens passed. Assumes nothing.
-use mathlib.Core.Path.{_≡_, refl, _∙_, ap, ap₂}
+use mathlib.Core.Path.{_≡_, refl, _∙_, ap₂}
 use mathlib.Core.List.{List}
 use native.Mathlib.Numerals.{add-one}
 use lib.IntN.{ℤ}
@@ -54,7 +54,7 @@ returns c =
     let l = c .before in
     let s = l .before .args in
     let e : l .loop .len ≡ s .order = omega arith in
-    l .loop .inv .0 ∙ ap (through (now (s .entries)) (now (s .u)) (now (s .v)) (s .order)) e
+    rw e at (l .loop .inv .0)
 
 pub derivative-spec : {M : Type 1} → statement M
 derivative-spec =

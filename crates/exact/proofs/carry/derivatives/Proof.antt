@@ -38,9 +38,8 @@ refused-curve-requires c κs = search needs
 returns : tie.Need-returns Inv-loop μ-loop
 returns c =
     let l = c .before .before .before .before .before .before in
-    let s = l .before .args in
     c .refused-curve .ensures
-    ∙ curve-stops (carriedJet (now (s .entries)) (now (s .u)) (now (s .v))) (s .order) (l .loop .inv) (c .before .before .before .before .before .loop-test .taken)
+    ∙ curve-stops (l .loop .inv) (c .before .before .before .before .before .loop-test .taken)
     (sym (c .before .before .before .before .entry .ensures) ∙ c .before .before .e2 .given .1)
 
 add-m : tie.Need-add-m Inv-loop μ-loop
@@ -52,12 +51,11 @@ loop-less c = search needs
 loop-again : tie.Need-loop-again Inv-loop μ-loop
 loop-again c =
     let l = c .before .before .before .before .before in
-    let s = l .before .args in
-    curve-goes-on (carriedJet (now (s .entries)) (now (s .u)) (now (s .v))) (s .order) (l .loop .inv) (l .before .pre) (c .before .before .before .before .loop-test .taken) (search needs)
+    curve-goes-on (l .loop .inv) (l .before .pre) (c .before .before .before .before .loop-test .taken) (search needs)
     (sym (c .before .before .before .entry .ensures) ∙ c .before .e .given .1)
 
 returns-2 : tie.Need-returns-2 Inv-loop μ-loop
-returns-2 c = let s = c .before .before .args in curve-ends (carriedJet (now (s .entries)) (now (s .u)) (now (s .v))) (s .order) (c .before .loop .inv) (c .loop-test .left)
+returns-2 c = curve-ends (c .before .loop .inv) (c .loop-test .left)
 
 pub derivatives-spec : {M : Type 1} → statement M
 derivatives-spec =

@@ -17,7 +17,7 @@ use Rattle.exact.specs.Kinds.{checked}
 use Rattle.exact.specs.Answer.{surfaceValues}
 use Rattle.calculus.proofs.Bits.{masks-le, masks-shift}
 use Rattle.exact.proofs.Masks.{termOf, entry-at}
-use Rattle.exact.proofs.Terms.{small-square}
+use Rattle.calculus.proofs.Table.{small-square}
 use Prim.Native.Nat.{_+_, _-_, _≤_, _<_}
 use native.Mathlib.Omega.{arith}
 use borrow.Author.Needs.{needs}
@@ -103,7 +103,7 @@ returns : tie.Need-returns Inv-loop μ-loop
 returns c =
     let s = c .before .before .before .args in
     let e : c .before .loop .mask ≡ 2 ^ length (now (s .list)) = le-antisymm (c .before .loop .inv .1) (subst (λ x. x ≤ c .before .loop .mask) (masks-shift (length (now (s .list))) (c .before .before .before .pre .0)) (c .loop-test .left)) in
-    c .before .loop .inv .0 ∙ ap (inTurn (checked .plus) (checked .nought) (termOf (now (s .entries)) (now (s .u)) (now (s .v)) (now (s .list)))) e
+    rw e at (c .before .loop .inv .0)
 
 pub tensor-spec : {M : Type 1} → statement M
 tensor-spec =

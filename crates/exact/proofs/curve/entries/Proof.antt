@@ -45,8 +45,8 @@ returns c =
     let l = c .before .before .before .before .before .before .before .before in
     let a = l .before .before .args in
     c .refused-curve .ensures
-    ∙ curve-stops (curveOf (a .f) (curveValues (now (a .a))) (curveValues (now (a .b)))) (a .n) (l .loop .inv) (c .before .before .before .before .before .before .before .loop-test .taken)
-    (curve-formed (a .f) (curveValues (now (a .a))) (curveValues (now (a .b))) (l .loop .inv .stored) (omega arith) ∙ sym (c .before .before .before .before .entry .ensures) ∙ c .before .before .e2 .given .1)
+    ∙ curve-stops (l .loop .inv) (c .before .before .before .before .before .before .before .loop-test .taken)
+    (curve-formed (a .f) (curveValues (now (a .a))) (curveValues (now (a .b))) (l .loop .inv) (omega arith) ∙ sym (c .before .before .before .before .entry .ensures) ∙ c .before .before .e2 .given .1)
 
 add-m : tie.Need-add-m Inv-loop μ-loop
 add-m c = search needs
@@ -58,13 +58,11 @@ loop-again : tie.Need-loop-again Inv-loop μ-loop
 loop-again c =
     let l = c .before .before .before .before .before .before .before in
     let a = l .before .before .args in
-    curve-goes-on (curveOf (a .f) (curveValues (now (a .a))) (curveValues (now (a .b)))) (a .n) (l .loop .inv) (l .before .before .pre) (c .before .before .before .before .before .before .loop-test .taken) (search needs)
-    (curve-formed (a .f) (curveValues (now (a .a))) (curveValues (now (a .b))) (l .loop .inv .stored) (omega arith) ∙ sym (c .before .before .before .entry .ensures) ∙ c .before .e .given .1)
+    curve-goes-on (l .loop .inv) (l .before .before .pre) (c .before .before .before .before .before .before .loop-test .taken) (search needs)
+    (curve-formed (a .f) (curveValues (now (a .a))) (curveValues (now (a .b))) (l .loop .inv) (omega arith) ∙ sym (c .before .before .before .entry .ensures) ∙ c .before .e .given .1)
 
 returns-2 : tie.Need-returns-2 Inv-loop μ-loop
-returns-2 c =
-    let a = c .before .before .before .args in
-    curve-ends (curveOf (a .f) (curveValues (now (a .a))) (curveValues (now (a .b)))) (a .n) (c .before .loop .inv) (c .loop-test .left)
+returns-2 c = curve-ends (c .before .loop .inv) (c .loop-test .left)
 
 pub entries-spec : {M : Type 1} → statement M
 entries-spec =

@@ -1,6 +1,5 @@
 -- `exact::curve::entry` meets its contract. By which formula it is. Assumes nothing.
-use mathlib.Core.Path.{sym, ap, ap₂, _∙_}
-use Prim.Native.Nat.{_+_, _-_}
+use mathlib.Core.Path.{ap, ap₂, _∙_}
 use denote.Ref.{now}
 use borrow.Author.Needs.{needs}
 use lib.IntN.{pos, _+ℤ_, _-ℤ_}
@@ -9,9 +8,6 @@ use mir.Syntax.{w64}
 use mir.Val.{SFits}
 use mir.Facts.{toZ-ofZ}
 use Rattle.whole.specs.Checked.{formed}
-use Rattle.exact.specs.declared.curve.CurveFormula.{CurveFormula}
-use Rattle.exact.specs.Answer.{curveValues}
-use Rattle.exact.specs.Formula.{curveFormula}
 use Rattle.exact.proofs.curve.entry.Statement.{statement}
 use Rattle.exact.proofs.curve.entry.Tie as tie
 
@@ -68,24 +64,20 @@ returns c =
     let a = c .before .before .before .before .before .args in
     let fx : SFits w64 (getD (now (a .a)) (a .m) (pos 0)) = search needs in
     let fy : SFits w64 (getD (now (a .b)) (a .m) (pos 0)) = search needs in
-    c .add .ensures ∙ ap formed (ap₂ _+ℤ_ (toZ-ofZ fx) (toZ-ofZ fy)) ∙ sym (ap (λ (f : CurveFormula). curveFormula f (curveValues (now (a .a))) (curveValues (now (a .b))) (curveValues (now (a .q))) (a .m)) (c .before .before .before .enum-told .given .1))
+    rw (c .before .before .before .enum-told .given .1) (c .add .ensures ∙ ap formed (ap₂ _+ℤ_ (toZ-ofZ fx) (toZ-ofZ fy)))
 
 returns-2 : tie.Need-returns-2
 returns-2 c =
     let a = c .before .before .before .before .before .args in
     let fx : SFits w64 (getD (now (a .a)) (a .m) (pos 0)) = search needs in
     let fy : SFits w64 (getD (now (a .b)) (a .m) (pos 0)) = search needs in
-    c .sub .ensures ∙ ap formed (ap₂ _-ℤ_ (toZ-ofZ fx) (toZ-ofZ fy)) ∙ sym (ap (λ (f : CurveFormula). curveFormula f (curveValues (now (a .a))) (curveValues (now (a .b))) (curveValues (now (a .q))) (a .m)) (c .before .before .before .enum-told2 .given .1))
+    rw (c .before .before .before .enum-told2 .given .1) (c .sub .ensures ∙ ap formed (ap₂ _-ℤ_ (toZ-ofZ fx) (toZ-ofZ fy)))
 
 returns-3 : tie.Need-returns-3
-returns-3 c =
-    let a = c .before .before .before .args in
-    c .product-entry .ensures ∙ sym (ap (λ (f : CurveFormula). curveFormula f (curveValues (now (a .a))) (curveValues (now (a .b))) (curveValues (now (a .q))) (a .m)) (c .before .enum-told3 .given .1))
+returns-3 c = rw (c .before .enum-told3 .given .1) (c .product-entry .ensures)
 
 returns-4 : tie.Need-returns-4
-returns-4 c =
-    let a = c .before .before .before .args in
-    c .quotient-entry .ensures ∙ sym (ap (λ (f : CurveFormula). curveFormula f (curveValues (now (a .a))) (curveValues (now (a .b))) (curveValues (now (a .q))) (a .m)) (c .before .enum-told4 .given .1))
+returns-4 c = rw (c .before .enum-told4 .given .1) (c .quotient-entry .ensures)
 
 pub entry-spec : {M : Type 1} → statement M
 entry-spec = tie.close (tie.spec enum-told mul-add element-copy-out-add mul-add-2 element-copy-out-add-2 add-requires enum-told-2 mul-sub element-copy-out-sub mul-sub-2 element-copy-out-sub-2 sub-requires enum-told-3 product-entry-requires enum-told-4 quotient-entry-requires returns returns-2 returns-3 returns-4)

@@ -2,7 +2,6 @@
 use mathlib.Core.Path.{_≡_, ap, ap₂, _∙_}
 use Prim.Native.Nat.{suc, _-_, _≤_}
 use native.Mathlib.Omega.{arith}
-use denote.Ref.{now}
 use borrow.Author.Needs.{needs}
 use native.Mathlib.Numerals.{add-one}
 use mir.Facts.{toZ-ofZ}
@@ -55,8 +54,7 @@ returns : tie.Need-returns Inv-loop μ-loop
 returns c =
     let s = c .before .before .before .args in
     let e : c .before .loop .i ≡ s .m = omega arith in
-    c .before .loop .inv .0
-    ∙ ap (inTurn (checked .minus) (curveValues (now (s .num)) (s .m)) (λ k. leibniz (regular checked) (checked .times) (curveValues (now (s .d))) (curveValues (now (s .q))) (s .m) (suc k))) e
+    rw e at (c .before .loop .inv .0)
 
 pub owed-spec : {M : Type 1} → statement M
 owed-spec =

@@ -1,8 +1,7 @@
 -- `exact::curve::product_entry` meets its contract. The invariant: the sum is that of the terms passed. Assumes nothing.
-use mathlib.Core.Path.{_≡_, refl, ap, ap₂, _∙_}
+use mathlib.Core.Path.{_≡_, refl, ap₂, _∙_}
 use Prim.Native.Nat.{suc, _-_, _≤_}
 use native.Mathlib.Omega.{arith}
-use denote.Ref.{now}
 use borrow.Author.Needs.{needs}
 use native.Mathlib.Numerals.{add-one}
 use Rattle.calculus.specs.Kind.{regular}
@@ -44,7 +43,7 @@ returns : tie.Need-returns Inv-loop μ-loop
 returns c =
     let s = c .before .before .args in
     let e : c .before .loop .i ≡ suc (s .m) = omega arith in
-    c .before .loop .inv .0 ∙ ap (inTurn (checked .plus) (checked .nought) (leibniz (regular checked) (checked .times) (curveValues (now (s .a))) (curveValues (now (s .b))) (s .m))) e
+    rw e at (c .before .loop .inv .0)
 
 pub product-entry-spec : {M : Type 1} → statement M
 product-entry-spec =

@@ -1,6 +1,5 @@
 -- `exact::curve::quotient_entry` meets its contract. Assumes nothing.
 use mathlib.Core.Path.{ap, ap₂, _∙_}
-use Prim.Native.Nat.{_-_}
 use borrow.Author.Needs.{needs}
 use mir.Facts.{toZ-ofZ}
 use Rattle.whole.specs.declared.Whole.the-variants.{Value}

@@ -1,10 +1,10 @@
 -- `exact::curve::read` meets its contract. The invariant: the entries passed stand in the array. Assumes nothing.
-use mathlib.Core.Path.{refl, _∙_}
+use mathlib.Core.Path.{refl}
 use Prim.Native.Nat.{suc, _-_}
 use denote.Ref.{now}
 use borrow.Author.Needs.{needs}
 use Rattle.exact.specs.Answer.{curveNumbers, curveValues}
-use Rattle.exact.proofs.Progress.{CurveProgress, curve-begins, curve-goes-on, curve-ends, curve-of-numbers}
+use Rattle.exact.proofs.Progress.{CurveProgress, curve-begins, curve-goes-on, curve-is}
 use Rattle.exact.proofs.curve.read.Statement.{statement}
 use Rattle.exact.proofs.curve.read.Tie as tie
 
@@ -38,13 +38,10 @@ loop-less c = search needs
 loop-again : tie.Need-loop-again Inv-loop μ-loop
 loop-again c =
     let l = c .before .before in
-    let a = l .before .args in
-    curve-goes-on (curveValues (now (a .list))) (a .n) (l .loop .inv) (l .before .pre .0) (c .before .loop-test .taken) (search needs) refl
+    curve-goes-on (l .loop .inv) (l .before .pre .0) (c .before .loop-test .taken) (search needs) refl
 
 returns : tie.Need-returns Inv-loop μ-loop
-returns c =
-    let a = c .before .before .args in
-    curve-ends (curveValues (now (a .list))) (a .n) (c .before .loop .inv) (c .loop-test .left) ∙ curve-of-numbers (curveNumbers (now (a .list))) (a .n)
+returns c = curve-is (curveNumbers (now (c .before .before .args .list))) (c .before .loop .inv) (c .loop-test .left)
 
 pub read-spec : {M : Type 1} → statement M
 read-spec =

@@ -1,5 +1,5 @@
 -- `exact::curve::shifted` meets its contract. The invariant: the entries passed stand in the array. Assumes nothing.
-use mathlib.Core.Path.{sym, ap, _∙_}
+use mathlib.Core.Path.{sym, ap}
 use Prim.Native.Nat.{suc, _+_, _-_}
 use native.Mathlib.Omega.{arith}
 use denote.Ref.{now}
@@ -11,7 +11,7 @@ use mir.Syntax.{w64}
 use mir.Val.{SFits}
 use Rattle.calculus.specs.Curve.{derivative}
 use Rattle.exact.specs.Answer.{curveNumbers, curveValues}
-use Rattle.exact.proofs.Progress.{CurveProgress, curve-begins, curve-goes-on, curve-ends, curve-of-numbers}
+use Rattle.exact.proofs.Progress.{CurveProgress, curve-begins, curve-goes-on, curve-is}
 use Rattle.exact.proofs.curve.shifted.Statement.{statement}
 use Rattle.exact.proofs.curve.shifted.Tie as tie
 
@@ -52,12 +52,10 @@ loop-again c =
     let l = c .before .before in
     let a = c .before .before .before .args in
     let f : SFits w64 (getD (now (a .a)) (l .loop .m + 1) (pos 0)) = search needs in
-    curve-goes-on (derivative (curveValues (now (a .a)))) (a .n) (l .loop .inv) (omega arith) (c .before .loop-test .taken) f (ap (curveValues (now (a .a))) (sym (add-one (l .loop .m))))
+    curve-goes-on (l .loop .inv) (omega arith) (c .before .loop-test .taken) f (ap (curveValues (now (a .a))) (sym (add-one (l .loop .m))))
 
 returns : tie.Need-returns Inv-loop μ-loop
-returns c =
-    let a = c .before .before .args in
-    curve-ends (derivative (curveValues (now (a .a)))) (a .n) (c .before .loop .inv) (c .loop-test .left) ∙ curve-of-numbers (derivative (curveNumbers (now (a .a)))) (a .n)
+returns c = curve-is (derivative (curveNumbers (now (c .before .before .args .a)))) (c .before .loop .inv) (c .loop-test .left)
 
 pub shifted-spec : {M : Type 1} → statement M
 shifted-spec = tie.close (tie.spec Inv-loop μ-loop loop-holds add-k mul-r element-copy-out-r mul-r-2 array-set-from-r add-m loop-less loop-again returns)

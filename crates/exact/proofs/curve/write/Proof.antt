@@ -12,7 +12,8 @@ use mir.Facts.{toZ-ofZ}
 use Rattle.calculus.specs.Order.{curveEntries}
 use Rattle.exact.specs.Answer.{curveNumbers}
 use Rattle.calculus.proofs.Left.{curveLeft, curve-start, curve-next, curve-end}
-use Rattle.calculus.proofs.Writing.{Writing, writing-begins, in-list, writing-goes-on, writing-ends, listed-length}
+use Rattle.calculus.proofs.Writing.{Writing, writing-begins, in-list, writing-goes-on, writing-ends}
+use Rattle.calculus.proofs.Filling.{listed-length}
 use Rattle.exact.proofs.curve.write.Statement.{statement}
 use Rattle.exact.proofs.curve.write.Tie as tie
 
@@ -26,7 +27,7 @@ loop-holds : tie.Need-loop-holds Inv-loop μ-loop
 loop-holds c =
     let a = c .args in (
       writing-begins (curveEntries (curveNumbers (now (a .a))) (a .n)) (now (a .out)) (curve-start (curveNumbers (now (a .a))) (a .n))
-          (c .pre .1 ∙ sym (listed-length (curveNumbers (now (a .a))) 0 (suc (a .n)))),
+          (c .pre .1 ∙ sym (listed-length (pos 0) (curveNumbers (now (a .a))) 0 (suc (a .n)))),
       omega arith,
     )
 
@@ -60,7 +61,7 @@ loop-again c =
 same-length : tie.Need-same-length Inv-loop μ-loop
 same-length c =
     let s = c .before .before in
-    c .before .loop .inv .0 .long ∙ listed-length (curveNumbers (now (s .args .a))) 0 (suc (s .args .n)) ∙ sym (s .pre .1)
+    c .before .loop .inv .0 .long ∙ listed-length (pos 0) (curveNumbers (now (s .args .a))) 0 (suc (s .args .n)) ∙ sym (s .pre .1)
 
 returns : tie.Need-returns Inv-loop μ-loop
 returns c =

@@ -1,6 +1,6 @@
 -- `exact::surface::entry` meets its contract. By which formula it is. Assumes nothing.
-use mathlib.Core.Path.{sym, ap, ap₂, _∙_}
-use Prim.Native.Nat.{ℕ, _+_, _-_}
+use mathlib.Core.Path.{ap, ap₂, _∙_}
+use Prim.Native.Nat.{_<_}
 use native.Mathlib.Omega.{arith}
 use denote.Ref.{now}
 use borrow.Author.Needs.{needs}
@@ -10,30 +10,31 @@ use mir.Syntax.{w64}
 use mir.Val.{SFits}
 use mir.Facts.{toZ-ofZ}
 use Rattle.whole.specs.Checked.{formed}
-use Rattle.calculus.proofs.Graded.{index-231}
-use Rattle.exact.specs.declared.surface.SurfaceFormula.{SurfaceFormula}
-use Rattle.exact.specs.Answer.{surfaceValues}
-use Rattle.exact.specs.Formula.{surfaceFormula}
+use Rattle.calculus.proofs.Table.{in-array}
 use Rattle.exact.proofs.surface.entry.Statement.{statement}
 use Rattle.exact.proofs.surface.entry.Tie as tie
 
 index-requires : tie.Need-index-requires
 index-requires c κs = search needs
 
+-- where the entry stands in the array
+place : (c : tie.After-index) → c .index .result < 231
+place c = in-array (c .before .args .m) (c .before .args .n) (c .index .ensures) (c .before .pre .0)
+
 enum-told : tie.Need-enum-told
 enum-told c = search needs
 
 mul-add : tie.Need-mul-add
-mul-add c = omega (arith, c .before .before .index .ensures, index-231 (c .before .before .before .args .m) (c .before .before .before .args .n) (c .before .before .before .pre .0))
+mul-add c = omega (arith, place (c .before .before))
 
 element-copy-out-add : tie.Need-element-copy-out-add
-element-copy-out-add c = omega (arith, c .before .before .index .ensures, index-231 (c .before .before .before .args .m) (c .before .before .before .args .n) (c .before .before .before .pre .0))
+element-copy-out-add c = omega (arith, place (c .before .before))
 
 mul-add-2 : tie.Need-mul-add-2
-mul-add-2 c = omega (arith, c .before .before .before .index .ensures, index-231 (c .before .before .before .before .args .m) (c .before .before .before .before .args .n) (c .before .before .before .before .pre .0))
+mul-add-2 c = omega (arith, place (c .before .before .before))
 
 element-copy-out-add-2 : tie.Need-element-copy-out-add-2
-element-copy-out-add-2 c = omega (arith, c .before .before .before .index .ensures, index-231 (c .before .before .before .before .args .m) (c .before .before .before .before .args .n) (c .before .before .before .before .pre .0))
+element-copy-out-add-2 c = omega (arith, place (c .before .before .before))
 
 add-requires : tie.Need-add-requires
 add-requires c κs = search needs
@@ -42,16 +43,16 @@ enum-told-2 : tie.Need-enum-told-2
 enum-told-2 c = search needs
 
 mul-sub : tie.Need-mul-sub
-mul-sub c = omega (arith, c .before .before .index .ensures, index-231 (c .before .before .before .args .m) (c .before .before .before .args .n) (c .before .before .before .pre .0))
+mul-sub c = omega (arith, place (c .before .before))
 
 element-copy-out-sub : tie.Need-element-copy-out-sub
-element-copy-out-sub c = omega (arith, c .before .before .index .ensures, index-231 (c .before .before .before .args .m) (c .before .before .before .args .n) (c .before .before .before .pre .0))
+element-copy-out-sub c = omega (arith, place (c .before .before))
 
 mul-sub-2 : tie.Need-mul-sub-2
-mul-sub-2 c = omega (arith, c .before .before .before .index .ensures, index-231 (c .before .before .before .before .args .m) (c .before .before .before .before .args .n) (c .before .before .before .before .pre .0))
+mul-sub-2 c = omega (arith, place (c .before .before .before))
 
 element-copy-out-sub-2 : tie.Need-element-copy-out-sub-2
-element-copy-out-sub-2 c = omega (arith, c .before .before .before .index .ensures, index-231 (c .before .before .before .before .args .m) (c .before .before .before .before .args .n) (c .before .before .before .before .pre .0))
+element-copy-out-sub-2 c = omega (arith, place (c .before .before .before))
 
 sub-requires : tie.Need-sub-requires
 sub-requires c κs = search needs
@@ -70,31 +71,25 @@ quotient-entry-requires c κs = search needs
 
 returns : tie.Need-returns
 returns c =
-    let a = c .before .before .before .before .before .before .args in
-    let fx : SFits w64 (getD (now (a .a)) (c .before .before .before .before .before .index .result) (pos 0)) = search needs in
-    let fy : SFits w64 (getD (now (a .b)) (c .before .before .before .before .before .index .result) (pos 0)) = search needs in
-    c .add .ensures
-    ∙ ap formed (ap₂ _+ℤ_ (toZ-ofZ fx ∙ ap (λ (k : ℕ). getD (now (a .a)) k (pos 0)) (c .before .before .before .before .before .index .ensures)) (toZ-ofZ fy ∙ ap (λ (k : ℕ). getD (now (a .b)) k (pos 0)) (c .before .before .before .before .before .index .ensures)))
-    ∙ sym (ap (λ (f : SurfaceFormula). surfaceFormula f (surfaceValues (now (a .a))) (surfaceValues (now (a .b))) (surfaceValues (now (a .q))) (a .m) (a .n)) (c .before .before .before .enum-told .given .1))
+    let i = c .before .before .before .before .before in
+    let a = i .before .args in
+    let fx : SFits w64 (getD (now (a .a)) (i .index .result) (pos 0)) = search needs in
+    let fy : SFits w64 (getD (now (a .b)) (i .index .result) (pos 0)) = search needs in
+    rw (c .before .before .before .enum-told .given .1, ← (i .index .ensures)) (c .add .ensures ∙ ap formed (ap₂ _+ℤ_ (toZ-ofZ fx) (toZ-ofZ fy)))
 
 returns-2 : tie.Need-returns-2
 returns-2 c =
-    let a = c .before .before .before .before .before .before .args in
-    let fx : SFits w64 (getD (now (a .a)) (c .before .before .before .before .before .index .result) (pos 0)) = search needs in
-    let fy : SFits w64 (getD (now (a .b)) (c .before .before .before .before .before .index .result) (pos 0)) = search needs in
-    c .sub .ensures
-    ∙ ap formed (ap₂ _-ℤ_ (toZ-ofZ fx ∙ ap (λ (k : ℕ). getD (now (a .a)) k (pos 0)) (c .before .before .before .before .before .index .ensures)) (toZ-ofZ fy ∙ ap (λ (k : ℕ). getD (now (a .b)) k (pos 0)) (c .before .before .before .before .before .index .ensures)))
-    ∙ sym (ap (λ (f : SurfaceFormula). surfaceFormula f (surfaceValues (now (a .a))) (surfaceValues (now (a .b))) (surfaceValues (now (a .q))) (a .m) (a .n)) (c .before .before .before .enum-told2 .given .1))
+    let i = c .before .before .before .before .before in
+    let a = i .before .args in
+    let fx : SFits w64 (getD (now (a .a)) (i .index .result) (pos 0)) = search needs in
+    let fy : SFits w64 (getD (now (a .b)) (i .index .result) (pos 0)) = search needs in
+    rw (c .before .before .before .enum-told2 .given .1, ← (i .index .ensures)) (c .sub .ensures ∙ ap formed (ap₂ _-ℤ_ (toZ-ofZ fx) (toZ-ofZ fy)))
 
 returns-3 : tie.Need-returns-3
-returns-3 c =
-    let a = c .before .before .before .before .args in
-    c .product-entry .ensures ∙ sym (ap (λ (f : SurfaceFormula). surfaceFormula f (surfaceValues (now (a .a))) (surfaceValues (now (a .b))) (surfaceValues (now (a .q))) (a .m) (a .n)) (c .before .enum-told3 .given .1))
+returns-3 c = rw (c .before .enum-told3 .given .1) (c .product-entry .ensures)
 
 returns-4 : tie.Need-returns-4
-returns-4 c =
-    let a = c .before .before .before .before .args in
-    c .quotient-entry .ensures ∙ sym (ap (λ (f : SurfaceFormula). surfaceFormula f (surfaceValues (now (a .a))) (surfaceValues (now (a .b))) (surfaceValues (now (a .q))) (a .m) (a .n)) (c .before .enum-told4 .given .1))
+returns-4 c = rw (c .before .enum-told4 .given .1) (c .quotient-entry .ensures)
 
 pub entry-spec : {M : Type 1} → statement M
 entry-spec = tie.close (tie.spec index-requires enum-told mul-add element-copy-out-add mul-add-2 element-copy-out-add-2 add-requires enum-told-2 mul-sub element-copy-out-sub mul-sub-2 element-copy-out-sub-2 sub-requires enum-told-3 product-entry-requires enum-told-4 quotient-entry-requires returns returns-2 returns-3 returns-4)

@@ -15,9 +15,9 @@ use Rattle.whole.specs.declared.Whole.the-variants.{Value}
 use Rattle.calculus.specs.Kind.{regular}
 use Rattle.calculus.specs.InTurn.{inTurn, inRows}
 use Rattle.calculus.specs.Surface.{leibniz}
-use Rattle.calculus.proofs.Graded.{index-231}
 use Rattle.exact.specs.Kinds.{checked}
 use Rattle.exact.specs.Answer.{surfaceValues}
+use Rattle.calculus.proofs.Table.{in-array}
 use Rattle.exact.proofs.Terms.{from-zero, from-one}
 use Rattle.exact.proofs.surface.owed.Statement.{statement}
 use Rattle.exact.proofs.surface.owed.Tie as tie
@@ -33,10 +33,10 @@ index-requires : tie.Need-index-requires Inv-loop μ-loop
 index-requires c κs = search needs
 
 mul-x : tie.Need-mul-x Inv-loop μ-loop
-mul-x c = omega (arith, c .index .ensures, index-231 (c .before .args .m) (c .before .args .n) (c .before .pre .0))
+mul-x c = omega (arith, in-array (c .before .args .m) (c .before .args .n) (c .index .ensures) (c .before .pre .0))
 
 element-copy-out-x : tie.Need-element-copy-out-x Inv-loop μ-loop
-element-copy-out-x c = omega (arith, c .index .ensures, index-231 (c .before .args .m) (c .before .args .n) (c .before .pre .0))
+element-copy-out-x c = omega (arith, in-array (c .before .args .m) (c .before .args .n) (c .index .ensures) (c .before .pre .0))
 
 owed-row-requires : tie.Need-owed-row-requires Inv-loop μ-loop
 owed-row-requires c κs = (omega arith, omega arith, c .before .before .pre .0, c .before .before .pre .1)
@@ -80,8 +80,7 @@ returns : tie.Need-returns Inv-loop μ-loop
 returns c =
     let s = c .before .before .before .before .before .args in
     let e : c .before .loop .i ≡ s .m = omega arith in
-    c .before .loop .inv .0
-    ∙ ap (λ (k : ℕ). inRows (checked .minus) (inTurn (checked .minus) (surfaceValues (now (s .num)) (s .m) (s .n)) (λ j. leibniz (regular checked) (checked .times) (surfaceValues (now (s .d))) (surfaceValues (now (s .q))) (s .m) (s .n) 0 (suc j)) (s .n)) (λ i. leibniz (regular checked) (checked .times) (surfaceValues (now (s .d))) (surfaceValues (now (s .q))) (s .m) (s .n) (suc i)) k (suc (s .n))) e
+    rw e at (c .before .loop .inv .0)
 
 pub owed-spec : {M : Type 1} → statement M
 owed-spec = tie.close (tie.spec Inv-loop μ-loop index-requires mul-x element-copy-out-x owed-row-requires loop-holds add-k owed-row-requires-2 add-i loop-less loop-again returns)

@@ -50,7 +50,7 @@ returns : tie.Need-returns Inv-loop μ-loop
 returns c =
     let s = c .before .before .args in
     let e : c .before .loop .j - s .from ≡ suc (s .n) - s .from = omega arith in
-    c .before .loop .inv .0 ∙ ap (inTurn (checked .minus) (s .start) (λ k. leibniz (regular checked) (checked .times) (surfaceValues (now (s .d))) (surfaceValues (now (s .q))) (s .m) (s .n) (s .i) (s .from + k))) e
+    rw e at (c .before .loop .inv .0)
 
 pub owed-row-spec : {M : Type 1} → statement M
 owed-row-spec = tie.close (tie.spec Inv-loop μ-loop loop-holds leibniz-term-requires minus-requires add-j loop-less loop-again returns)

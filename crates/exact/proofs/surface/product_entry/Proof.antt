@@ -1,6 +1,6 @@
 -- `exact::surface::product_entry` meets its contract. The invariant: the sum is that of the rows passed. Assumes nothing.
 use mathlib.Core.Path.{_≡_, refl, ap, _∙_}
-use Prim.Native.Nat.{ℕ, suc, _-_, _≤_}
+use Prim.Native.Nat.{suc, _-_, _≤_}
 use native.Mathlib.Omega.{arith}
 use denote.Ref.{now}
 use borrow.Author.Needs.{needs}
@@ -47,7 +47,7 @@ returns : tie.Need-returns Inv-loop μ-loop
 returns c =
     let s = c .before .before .args in
     let e : c .before .loop .i ≡ suc (s .m) = omega arith in
-    c .before .loop .inv .0 ∙ ap (λ (k : ℕ). inRows (checked .plus) (checked .nought) (leibniz (regular checked) (checked .times) (surfaceValues (now (s .a))) (surfaceValues (now (s .b))) (s .m) (s .n)) k (suc (s .n))) e
+    rw e at (c .before .loop .inv .0)
 
 pub product-entry-spec : {M : Type 1} → statement M
 product-entry-spec = tie.close (tie.spec Inv-loop μ-loop loop-holds product-row-requires add-i loop-less loop-again returns)

@@ -1,8 +1,7 @@
 -- `exact::surface::product_row` meets its contract. The invariant: the sum is that of the terms passed. Assumes nothing.
-use mathlib.Core.Path.{_≡_, refl, ap, ap₂, _∙_}
+use mathlib.Core.Path.{_≡_, refl, ap₂, _∙_}
 use Prim.Native.Nat.{suc, _-_, _≤_}
 use native.Mathlib.Omega.{arith}
-use denote.Ref.{now}
 use borrow.Author.Needs.{needs}
 use native.Mathlib.Numerals.{add-one}
 use Rattle.calculus.specs.Kind.{regular}
@@ -44,7 +43,7 @@ returns : tie.Need-returns Inv-loop μ-loop
 returns c =
     let s = c .before .before .args in
     let e : c .before .loop .j ≡ suc (s .n) = omega arith in
-    c .before .loop .inv .0 ∙ ap (inTurn (checked .plus) (s .start) (leibniz (regular checked) (checked .times) (surfaceValues (now (s .a))) (surfaceValues (now (s .b))) (s .m) (s .n) (s .i))) e
+    rw e at (c .before .loop .inv .0)
 
 pub product-row-spec : {M : Type 1} → statement M
 product-row-spec = tie.close (tie.spec Inv-loop μ-loop loop-holds leibniz-term-requires plus-requires add-j loop-less loop-again returns)

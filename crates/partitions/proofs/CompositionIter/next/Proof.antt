@@ -1,4 +1,4 @@
--- `CompositionIter::next` meets its contract: a walk of its MIR, by hand. The borrow is opened, the record is copied and passed to `step`, of which
+-- `partitions::CompositionIter::next` meets its contract: a walk of its MIR, by hand. The borrow is opened, the record is copied and passed to `step`, of which
 -- all that is known is that it meets its contract; the record that `step` hands back is stored, and the borrow is closed at it. Assumes nothing.
 use mathlib.Core.Path.{_≡_, refl, ap}
 use mathlib.Core.List.{[], _∷_, List}

@@ -1,6 +1,6 @@
--- The start of a walk: the refusals, or the first list. Assumes nothing.
-use mathlib.Core.Path.{_≡_, refl, sym, ap, _∙_}
-use Prim.Native.Nat.{ℕ, _+_, _-_, _≤_, _<_}
+-- `partitions::CompositionIter::try_new` meets its contract: the refusals, or the first list. Assumes nothing.
+use mathlib.Core.Path.{_≡_, sym, ap, _∙_}
+use Prim.Native.Nat.{ℕ, _≤_}
 use native.Mathlib.Omega.{arith}
 use lib.Seq.{length-take-le}
 use borrow.Author.Needs.{needs}
@@ -10,11 +10,6 @@ use Rattle.partitions.proofs.Walked.{range-of}
 use Rattle.partitions.proofs.Stepping.{zeros, start-refused, start-first}
 use Rattle.partitions.proofs.CompositionIter.try_new.Statement.{statement}
 use Rattle.partitions.proofs.CompositionIter.try_new.Tie as tie
-use Rattle.partitions.proofs.CompositionIter.try_new.Reads as reads
-use Rattle.partitions.proofs.CompositionIter.try_new.Lts as lts
-use Rattle.partitions.proofs.blank.Reads as blank-reads
-use Rattle.partitions.proofs.inner.init.Reads as init-reads
-use Rattle.partitions.proofs.refusal.Reads as refusal-reads
 
 small : (order len n : ℕ) → n ≡ refusalOf order len → n ≡ 0 → len ≤ 20
 small order len n e z =

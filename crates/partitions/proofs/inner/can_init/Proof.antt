@@ -1,15 +1,12 @@
--- `can_init`: the two tests of the definition. Assumes nothing.
-use mathlib.Core.Path.{_≡_, refl, sym, ap, _∙_}
+-- `partitions::inner::can_init` meets its contract, by its two tests. Assumes nothing.
+use mathlib.Core.Path.{sym, ap}
 use borrow.Author.Tests.{le-leb, lt-leb}
 use mathlib.Core.Bool.{Bool, false, cond}
 use Prim.Native.Nat.{_*_}
 use native.Mathlib.Nat.{lt-of-le-of-lt, mul-le-mul}
 use lib.Dec.{leb, lit<}
-use borrow.Author.Needs.{needs}
 use Rattle.partitions.proofs.inner.can_init.Statement.{statement}
 use Rattle.partitions.proofs.inner.can_init.Tie as tie
-use Rattle.partitions.proofs.inner.can_init.Reads as reads
-use Rattle.partitions.proofs.inner.can_init.Lts as lts
 
 mul-result : tie.Need-mul-result
 mul-result c =

@@ -1,4 +1,4 @@
--- `factorial`: after i turns the product is that of the numbers up to i. Assumes nothing.
+-- `partitions::inner::factorial` meets its contract. The invariant: the product is that of the numbers up to i. Assumes nothing.
 use mathlib.Core.Path.{_≡_, refl, sym, ap, subst, _∙_}
 use Rattle.partitions.specs.Parts.{fact}
 use Rattle.partitions.proofs.Exact.{fact-fits}
@@ -8,8 +8,6 @@ use native.Mathlib.Omega.{arith}
 use borrow.Author.Needs.{needs}
 use Rattle.partitions.proofs.inner.factorial.Statement.{statement}
 use Rattle.partitions.proofs.inner.factorial.Tie as tie
-use Rattle.partitions.proofs.inner.factorial.Reads as reads
-use Rattle.partitions.proofs.inner.factorial.Lts as lts
 
 abbrev Inv-loop : tie.InvT-loop
 Inv-loop n f₀ i₀ f i = (i ≤ n) × (f ≡ fact i)

@@ -1,15 +1,12 @@
--- `falls` goes on as the definition does: the test of the whole list is the test of the parts from i on. Assumes nothing.
-use mathlib.Core.Path.{_≡_, refl, sym, ap, _∙_}
-use lib.ListN.{length, getD, drop}
+-- `partitions::inner::falls` meets its contract. The invariant: the test of the parts from i on is the test of all. Assumes nothing.
+use mathlib.Core.Path.{_≡_, refl, sym, _∙_}
+use lib.ListN.{length, drop}
 use Rattle.partitions.specs.Count as Count
 use Rattle.partitions.proofs.Slices.{falls-zero, falls-rising, falls-on, falls-past}
-use Prim.Native.Nat.{ℕ, suc, _+_, _-_, _≤_, _<_}
-use native.Mathlib.Omega.{arith}
+use Prim.Native.Nat.{_-_, _≤_}
 use borrow.Author.Needs.{needs}
 use Rattle.partitions.proofs.inner.falls.Statement.{statement}
 use Rattle.partitions.proofs.inner.falls.Tie as tie
-use Rattle.partitions.proofs.inner.falls.Reads as reads
-use Rattle.partitions.proofs.inner.falls.Lts as lts
 
 abbrev Inv-loop : tie.InvT-loop
 Inv-loop list max last₀ i₀ last i = (i ≤ length list) × (Count.falls max list ≡ Count.falls last (drop i list))

@@ -1,6 +1,6 @@
--- `over_parts`: what is left to divide by, from i on, gives what the whole list gives. Assumes nothing.
+-- `partitions::inner::over_parts` meets its contract. The invariant: what is left, divided from i on, is the whole. Assumes nothing.
 use mathlib.Core.Path.{_≡_, refl, sym, ap, _∙_}
-use lib.ListN.{length, getD, drop}
+use lib.ListN.{length, drop}
 use Rattle.partitions.specs.Parts.{divide}
 use Rattle.partitions.proofs.Out.{fact-pos}
 use Rattle.partitions.proofs.Member.{part-total}
@@ -10,9 +10,6 @@ use native.Mathlib.Omega.{arith}
 use borrow.Author.Needs.{needs}
 use Rattle.partitions.proofs.inner.over_parts.Statement.{statement}
 use Rattle.partitions.proofs.inner.over_parts.Tie as tie
-use Rattle.partitions.proofs.inner.over_parts.Reads as reads
-use Rattle.partitions.proofs.inner.over_parts.Lts as lts
-use Rattle.partitions.proofs.inner.factorial.Reads as factorial-reads
 
 abbrev Inv-loop : tie.InvT-loop
 Inv-loop x list rest₀ i₀ rest i = (i ≤ length list) × (divide rest (drop i list) ≡ divide x list)

@@ -1,17 +1,14 @@
--- `over_runs`: the run that stands before i, with the runs from i on, gives what the whole list gives. Assumes nothing.
-use mathlib.Core.Path.{_≡_, refl, sym, ap, _∙_}
+-- `partitions::inner::over_runs` meets its contract. The invariant: what is left, divided by the run before i and those after it, is the whole.
+-- Assumes nothing.
+use mathlib.Core.Path.{_≡_, sym, ap, _∙_}
 use lib.ListN.{length, getD, drop}
 use Rattle.partitions.specs.Parts.{divide, runsFrom, runs}
 use Rattle.partitions.proofs.Out.{fact-pos}
 use Rattle.partitions.proofs.Slices.{runs-start, run-longer, run-over, runs-past, divide-first, divide-one}
 use Prim.Native.Nat.{ℕ, _+_, _-_, _/_, _≤_}
-use native.Mathlib.Omega.{arith}
 use borrow.Author.Needs.{needs}
 use Rattle.partitions.proofs.inner.over_runs.Statement.{statement}
 use Rattle.partitions.proofs.inner.over_runs.Tie as tie
-use Rattle.partitions.proofs.inner.over_runs.Reads as reads
-use Rattle.partitions.proofs.inner.over_runs.Lts as lts
-use Rattle.partitions.proofs.inner.factorial.Reads as factorial-reads
 
 abbrev Inv-loop : tie.InvT-loop
 Inv-loop x list rest₀ run₀ i₀ rest run i = (1 ≤ i) × ((i ≤ length list) × ((run ≤ i) × (divide rest (runsFrom (getD list (i - 1) 0) run (drop i list)) ≡ divide x (runs list))))

@@ -1,15 +1,13 @@
--- `pad`: after i turns the first i parts are copied. Assumes nothing.
-use mathlib.Core.Path.{_≡_, refl, sym, ap, _∙_}
+-- `partitions::inner::pad` meets its contract. The invariant: the first i parts are copied. Assumes nothing.
+use mathlib.Core.Path.{_≡_, ap, _∙_}
 use mathlib.Core.List.{List}
-use Prim.Native.Nat.{ℕ, _+_, _-_, _≤_, _<_}
+use Prim.Native.Nat.{ℕ, _-_, _≤_}
 use native.Mathlib.Omega.{arith}
-use lib.ListN.{length, getD, take, drop, set}
+use lib.ListN.{length, getD, set}
 use borrow.Author.Needs.{needs}
 use Rattle.partitions.proofs.Pad.{copied, copied-none, copied-more, copied-all}
 use Rattle.partitions.proofs.inner.pad.Statement.{statement}
 use Rattle.partitions.proofs.inner.pad.Tie as tie
-use Rattle.partitions.proofs.inner.pad.Reads as reads
-use Rattle.partitions.proofs.inner.pad.Lts as lts
 
 abbrev Inv-loop : tie.InvT-loop
 Inv-loop list parts₀ i₀ parts i = (i ≤ length list) × ((length list ≤ 20) × (parts ≡ copied list i))

@@ -1,15 +1,13 @@
--- `total` is the sum of the parts, or 21. The loop: what was added, with the parts from i on, is the whole sum. Assumes nothing.
-use mathlib.Core.Path.{_≡_, refl, sym, ap, _∙_}
-use Prim.Native.Nat.{ℕ, suc, _+_, _-_, _≤_, _<_}
+-- `partitions::inner::total` meets its contract. The invariant: what was added, with the parts from i on, is the whole sum. Assumes nothing.
+use mathlib.Core.Path.{_≡_}
+use Prim.Native.Nat.{_+_, _-_, _≤_}
 use native.Mathlib.Omega.{arith}
 use borrow.Author.Needs.{needs}
-use lib.ListN.{length, getD, drop}
+use lib.ListN.{length, drop}
 use Rattle.partitions.specs.Parts as Parts
 use Rattle.partitions.proofs.Slices.{total-at, nothing-past}
 use Rattle.partitions.proofs.inner.total.Statement.{statement}
 use Rattle.partitions.proofs.inner.total.Tie as tie
-use Rattle.partitions.proofs.inner.total.Reads as reads
-use Rattle.partitions.proofs.inner.total.Lts as lts
 
 abbrev Inv-loop : tie.InvT-loop
 Inv-loop list sum₀ i₀ sum i = (i ≤ length list) × ((sum + Parts.total (drop i list) ≡ Parts.total list) × (sum ≤ 20))

@@ -1,5 +1,5 @@
--- The entry of the triangle, whose rule is proved once over the whole table (Triangle.antt). Assumes nothing.
-use mathlib.Core.Path.{_≡_, refl, sym, ap, _∙_}
+-- `partitions::table::stirling_number` meets its contract: the table's rule is proved once over all of it (Triangle.antt). Assumes nothing.
+use mathlib.Core.Path.{ap, _∙_}
 use Prim.Native.Nat.{_+_, _*_, _/_, _≤_, _<_}
 use native.Mathlib.Nat.{lt-of-le-of-lt, mul-le-mul}
 use lib.Dec.{lit<}
@@ -11,8 +11,6 @@ use Rattle.partitions.specs.declared.Count.the-variants.{Value}
 use Rattle.partitions.proofs.Triangle.{triangle, triangle-at, triangle-within}
 use Rattle.partitions.proofs.table.stirling_number.Statement.{statement}
 use Rattle.partitions.proofs.table.stirling_number.Tie as tie
-use Rattle.partitions.proofs.table.stirling_number.Reads as reads
-use Rattle.partitions.proofs.table.stirling_number.Lts as lts
 
 small : (c : tie.Else2) → c .before .before .args .order ≤ 20
 small c = c .before .if1 .left

@@ -1,4 +1,4 @@
--- The proof of the cycle of calls {put_decimal}. The measure is the number. Assumes nothing.
+-- `parts_text::out::put_decimal` meets its contract: by recursion the digits before the last. The measure is the number. Assumes nothing.
 use mathlib.Core.Path.{sym}
 use Prim.Native.Nat.{ℕ, _<_}
 use native.Mathlib.Omega.{arith}
@@ -24,37 +24,41 @@ abbrev put-decimal-below : ℕ → In 1 put-decimal-kinds.ps
 put-decimal-below t =
     and 1 put-decimal-kinds.ps (falls 1 put-decimal-kinds.ps _<_ μ-put-decimal t) put-decimal.Pre
 
-put-decimal-cast-d : (t : ℕ) → put-decimal-lts.Need-cast-d (put-reads.Asked, put-reads.Learnt, put-decimal-below t, put-decimal.Post) (put-decimal-at t) put-decimal.Post
+-- what is asked and learnt of the calls
+abbrev calls : ℕ → put-decimal-lts.Claims
+calls t = (put-reads.Asked, put-reads.Learnt, put-decimal-below t, put-decimal.Post)
+
+put-decimal-cast-d : (t : ℕ) → put-decimal-lts.Need-cast-d (calls t) (put-decimal-at t) put-decimal.Post
 put-decimal-cast-d t c = omega arith
 
-put-decimal-add-put : (t : ℕ) → put-decimal-lts.Need-add-put (put-reads.Asked, put-reads.Learnt, put-decimal-below t, put-decimal.Post) (put-decimal-at t) put-decimal.Post
+put-decimal-add-put : (t : ℕ) → put-decimal-lts.Need-add-put (calls t) (put-decimal-at t) put-decimal.Post
 put-decimal-add-put t c = omega arith
 
-put-decimal-put-requires : (t : ℕ) → put-decimal-lts.Need-put-requires (put-reads.Asked, put-reads.Learnt, put-decimal-below t, put-decimal.Post) (put-decimal-at t) put-decimal.Post
+put-decimal-put-requires : (t : ℕ) → put-decimal-lts.Need-put-requires (calls t) (put-decimal-at t) put-decimal.Post
 put-decimal-put-requires t c κs = search needs
 
-put-decimal-same-length : (t : ℕ) → put-decimal-lts.Need-same-length (put-reads.Asked, put-reads.Learnt, put-decimal-below t, put-decimal.Post) (put-decimal-at t) put-decimal.Post
+put-decimal-same-length : (t : ℕ) → put-decimal-lts.Need-same-length (calls t) (put-decimal-at t) put-decimal.Post
 put-decimal-same-length t c = same-room (c .before .before .put .ensures)
 
-put-decimal-returns : (t : ℕ) → put-decimal-lts.Need-returns (put-reads.Asked, put-reads.Learnt, put-decimal-below t, put-decimal.Post) (put-decimal-at t) put-decimal.Post
+put-decimal-returns : (t : ℕ) → put-decimal-lts.Need-returns (calls t) (put-decimal-at t) put-decimal.Post
 put-decimal-returns t c = reading (c .before .before .put .ensures) (sym (decimal-one (c .before .before .before .before .before .before .args .n) (search needs)))
 
-put-decimal-put-decimal-requires : (t : ℕ) → put-decimal-lts.Need-put-decimal-requires (put-reads.Asked, put-reads.Learnt, put-decimal-below t, put-decimal.Post) (put-decimal-at t) put-decimal.Post
+put-decimal-put-decimal-requires : (t : ℕ) → put-decimal-lts.Need-put-decimal-requires (calls t) (put-decimal-at t) put-decimal.Post
 put-decimal-put-decimal-requires t c κs = (omega arith, tt)
 
-put-decimal-cast-d-2 : (t : ℕ) → put-decimal-lts.Need-cast-d-2 (put-reads.Asked, put-reads.Learnt, put-decimal-below t, put-decimal.Post) (put-decimal-at t) put-decimal.Post
+put-decimal-cast-d-2 : (t : ℕ) → put-decimal-lts.Need-cast-d-2 (calls t) (put-decimal-at t) put-decimal.Post
 put-decimal-cast-d-2 t c = omega arith
 
-put-decimal-add-put-2 : (t : ℕ) → put-decimal-lts.Need-add-put-2 (put-reads.Asked, put-reads.Learnt, put-decimal-below t, put-decimal.Post) (put-decimal-at t) put-decimal.Post
+put-decimal-add-put-2 : (t : ℕ) → put-decimal-lts.Need-add-put-2 (calls t) (put-decimal-at t) put-decimal.Post
 put-decimal-add-put-2 t c = omega arith
 
-put-decimal-put-requires-2 : (t : ℕ) → put-decimal-lts.Need-put-requires-2 (put-reads.Asked, put-reads.Learnt, put-decimal-below t, put-decimal.Post) (put-decimal-at t) put-decimal.Post
+put-decimal-put-requires-2 : (t : ℕ) → put-decimal-lts.Need-put-requires-2 (calls t) (put-decimal-at t) put-decimal.Post
 put-decimal-put-requires-2 t c κs = search needs
 
-put-decimal-same-length-2 : (t : ℕ) → put-decimal-lts.Need-same-length-2 (put-reads.Asked, put-reads.Learnt, put-decimal-below t, put-decimal.Post) (put-decimal-at t) put-decimal.Post
+put-decimal-same-length-2 : (t : ℕ) → put-decimal-lts.Need-same-length-2 (calls t) (put-decimal-at t) put-decimal.Post
 put-decimal-same-length-2 t c = same-room (after (c .before .before .before .before .before .before .put-decimal .ensures) (c .before .before .put2 .ensures))
 
-put-decimal-returns-2 : (t : ℕ) → put-decimal-lts.Need-returns-2 (put-reads.Asked, put-reads.Learnt, put-decimal-below t, put-decimal.Post) (put-decimal-at t) put-decimal.Post
+put-decimal-returns-2 : (t : ℕ) → put-decimal-lts.Need-returns-2 (calls t) (put-decimal-at t) put-decimal.Post
 put-decimal-returns-2 t c = reading (after (c .before .before .before .before .before .before .put-decimal .ensures) (c .before .before .put2 .ensures)) (sym (decimal-more (c .before .before .before .before .before .before .before .before .before .before .args .n) (search needs)))
 
 pub +put-decimal-spec : {M : Type 1} → statement M

@@ -1,7 +1,6 @@
 -- `parts_text::out::put_answer` meets its contract. The invariant: the lines of the lists handed out are written, and the sum is their total; the
 -- measure is the number of lists that remain. Assumes nothing.
-use mathlib.Core.Path.{_≡_, refl, _∙_, ap, sym}
-use native.Mathlib.Omega.{arith}
+use mathlib.Core.Path.{ap, sym}
 use lib.ListN.{length}
 use lib.Seq.{length-take-le}
 use borrow.Author.Needs.{needs}
@@ -10,8 +9,6 @@ use Rattle.parts_text.proofs.Puts.{same-room, after, reading}
 use Rattle.parts_text.proofs.Going.{Going, Next, answer-refused, in-range, going-start, going-end, next, parts-fit, falls, sum-fits, going-on}
 use Rattle.parts_text.proofs.out.put_answer.Statement.{statement}
 use Rattle.parts_text.proofs.out.put_answer.Tie as tie
-use Rattle.parts_text.proofs.out.put_answer.Reads as reads
-use Rattle.parts_text.proofs.out.put_answer.Lts as lts
 
 abbrev Inv-loop : tie.InvT-loop
 Inv-loop out₀ order len c walk₀ at₀ total₀ out walk at total = Going order len out₀ walk out at total

@@ -1,8 +1,5 @@
--- `roads::Operation::on_surfaces` meets its contract. Assumes nothing.
-use mathlib.Core.Path.{sym, ap, _∙_}
+-- `roads::Operation::on_surfaces` meets its contract: by which operation it is. Assumes nothing.
 use borrow.Author.Needs.{needs}
-use Rattle.roads.specs.declared.Operation.{Operation}
-use Rattle.roads.specs.Roads.{surfaces}
 use Rattle.roads.proofs.Operation.on_surfaces.Statement.{statement}
 use Rattle.roads.proofs.Operation.on_surfaces.Tie as tie
 
@@ -31,24 +28,16 @@ quotient-requires : tie.Need-quotient-requires
 quotient-requires c κs = search needs
 
 returns : tie.Need-returns
-returns c =
-    let a = c .before .before .before .args in
-    c .sum .ensures ∙ sym (ap (λ (o : Operation). surfaces .apply o (a .a) (a .b)) (c .before .enum-told .given .1))
+returns c = rw (c .before .enum-told .given .1) (c .sum .ensures)
 
 returns-2 : tie.Need-returns-2
-returns-2 c =
-    let a = c .before .before .before .args in
-    c .difference .ensures ∙ sym (ap (λ (o : Operation). surfaces .apply o (a .a) (a .b)) (c .before .enum-told2 .given .1))
+returns-2 c = rw (c .before .enum-told2 .given .1) (c .difference .ensures)
 
 returns-3 : tie.Need-returns-3
-returns-3 c =
-    let a = c .before .before .before .args in
-    c .combinatorial-derivatives .ensures ∙ sym (ap (λ (o : Operation). surfaces .apply o (a .a) (a .b)) (c .before .enum-told3 .given .1))
+returns-3 c = rw (c .before .enum-told3 .given .1) (c .combinatorial-derivatives .ensures)
 
 returns-4 : tie.Need-returns-4
-returns-4 c =
-    let a = c .before .before .before .args in
-    c .quotient .ensures ∙ sym (ap (λ (o : Operation). surfaces .apply o (a .a) (a .b)) (c .before .enum-told4 .given .1))
+returns-4 c = rw (c .before .enum-told4 .given .1) (c .quotient .ensures)
 
 pub on-surfaces-spec : {M : Type 1} → statement M
 on-surfaces-spec =

@@ -1,12 +1,15 @@
 -- `roads::SurfaceRecipe::carry_then_build` meets its contract. Assumes nothing.
-use mathlib.Core.Path.{_∙_}
-use mathlib.Core.List.{map}
+use mathlib.Core.Path.{_≡_, _∙_}
+use mathlib.Core.List.{List, map}
+use Prim.Native.Nat.{ℕ}
 use lib.ListN.{take}
 use borrow.Author.Needs.{needs}
 use Rattle.exact.specs.declared.CurveAnswer.{CurveAnswer}
+use Rattle.exact.specs.declared.ParameterCurve.{ParameterCurve}
 use Rattle.exact.specs.Answer.{refusedCurve}
 use Rattle.exact.specs.Composite.{alongCurve}
-use Rattle.roads.specs.Roads.{curves, builtCurve}
+use Rattle.roads.specs.declared.SurfaceRecipe.{SurfaceRecipe}
+use Rattle.roads.specs.Roads.{curves, builtCurve, firstRefusal}
 use Rattle.roads.proofs.Building.{a-refusal, no-refusal, built-same}
 use Rattle.roads.proofs.Carrying.{all-refusals, all-carried}
 use Rattle.roads.proofs.SurfaceRecipe.carry_then_build.Statement.{statement}
@@ -21,15 +24,25 @@ carry-each-requires c κs = search needs
 refused-curve-requires : tie.Need-refused-curve-requires
 refused-curve-requires c κs = search needs
 
+-- the curves that the surfaces given come to, and what is built with them
+abbrev carried : SurfaceRecipe → ParameterCurve → ℕ → List CurveAnswer
+carried r c n = map (λ s. alongCurve s c n) (take (r .inputs) (r .surfaces))
+
+abbrev rebuilt : SurfaceRecipe → ParameterCurve → ℕ → CurveAnswer
+rebuilt r c n = builtCurve (record { inputs = r .inputs; curves = map (λ (x : CurveAnswer). x .jet) (carried r c n); steps = r .steps; program = r .program })
+
+refusals : (c : tie.After-carry-each) → let a = c .before .before .before .before .args in c .carry-each .result .refusal ≡ firstRefusal (carried (a .self) (a .curve) (a .order))
+refusals c =
+    let g = c .before in
+    let a = g .before .before .before .args in
+    let e = c .carry-each .ensures in
+    all-refusals (λ s. alongCurve s (a .curve) (a .order)) (a .self .surfaces) (e .2) (a .self .inputs) (g .given .result) (g .given .ensures) (e .0)
+
 returns : tie.Need-returns
 returns c =
     let d = c .before .before in
-    let g = d .before in
-    let a = g .before .before .before .args in
-    let e = d .carry-each .ensures in
-    let curves-carried = map (λ (x : CurveAnswer). x .jet) (map (λ s. alongCurve s (a .curve) (a .order)) (take (a .self .inputs) (a .self .surfaces))) in
-    let rebuilt = builtCurve (record { inputs = a .self .inputs; curves = curves-carried; steps = a .self .steps; program = a .self .program }) in
-    c .refused-curve .ensures ∙ a-refusal refusedCurve rebuilt (all-refusals (λ s. alongCurve s (a .curve) (a .order)) (a .self .surfaces) (e .2) (a .self .inputs) (g .given .result) (g .given .ensures) (e .0)) (c .before .if1 .taken)
+    let a = d .before .before .before .before .args in
+    c .refused-curve .ensures ∙ a-refusal refusedCurve (rebuilt (a .self) (a .curve) (a .order)) (refusals d) (c .before .if1 .taken)
 
 build-requires : tie.Need-build-requires
 build-requires c κs = search needs
@@ -40,11 +53,11 @@ returns-2 c =
     let g = d .before in
     let a = g .before .before .before .args in
     let e = d .carry-each .ensures in
-    let curves-carried = map (λ (x : CurveAnswer). x .jet) (map (λ s. alongCurve s (a .curve) (a .order)) (take (a .self .inputs) (a .self .surfaces))) in
-    let rebuilt = builtCurve (record { inputs = a .self .inputs; curves = curves-carried; steps = a .self .steps; program = a .self .program }) in
+    let l = d .carry-each .result .curves in
     c .build .ensures
-    ∙ built-same curves (a .self .inputs) (a .self .steps) (a .self .program) (d .carry-each .result .curves) curves-carried (all-carried (λ s. alongCurve s (a .curve) (a .order)) (a .self .surfaces) (e .2) (a .self .inputs) (g .given .result) (g .given .ensures) (d .carry-each .result .curves) (e .3) (e .1 (c .before .before .if1 .left)))
-    ∙ no-refusal refusedCurve rebuilt (all-refusals (λ s. alongCurve s (a .curve) (a .order)) (a .self .surfaces) (e .2) (a .self .inputs) (g .given .result) (g .given .ensures) (e .0)) (c .before .before .if1 .left)
+    ∙ built-same curves (a .self .inputs) (a .self .steps) (a .self .program) l (map (λ (x : CurveAnswer). x .jet) (carried (a .self) (a .curve) (a .order)))
+    (all-carried (λ s. alongCurve s (a .curve) (a .order)) (a .self .surfaces) (e .2) (a .self .inputs) (g .given .result) (g .given .ensures) l (e .3) (e .1 (c .before .before .if1 .left)))
+    ∙ no-refusal refusedCurve (rebuilt (a .self) (a .curve) (a .order)) (refusals d) (c .before .before .if1 .left)
 
 pub carry-then-build-spec : {M : Type 1} → statement M
 carry-then-build-spec =

@@ -32,13 +32,13 @@ returns : tie.Need-returns Inv-loop μ-loop
 returns c =
     let l = c .before .before .before .before in
     let a = l .before .args in
-    sym (sym (l .loop .inv .1) ∙ names-left (a .t3) _ (a .steps) (l .loop .i) (a .inputs + l .loop .i) (search needs) (search needs) (c .if1 .taken))
+    sym (names-left (a .t3) _ (a .steps) (l .loop .i) (a .inputs + l .loop .i) (search needs) (search needs) (c .if1 .taken)) ∙ l .loop .inv .1
 
 returns-2 : tie.Need-returns-2 Inv-loop μ-loop
 returns-2 c =
     let l = c .before .before .before .before .before .before in
     let a = l .before .args in
-    sym (sym (l .loop .inv .1) ∙ names-right (a .t3) _ (a .steps) (l .loop .i) (a .inputs + l .loop .i) (search needs) (search needs) (c .before .before .if1 .left) (c .if2 .taken))
+    sym (names-right (a .t3) _ (a .steps) (l .loop .i) (a .inputs + l .loop .i) (search needs) (search needs) (c .before .before .if1 .left) (c .if2 .taken)) ∙ l .loop .inv .1
 
 add-i : tie.Need-add-i Inv-loop μ-loop
 add-i c = search needs
@@ -58,7 +58,7 @@ loop-again c =
 returns-3 : tie.Need-returns-3 Inv-loop μ-loop
 returns-3 c =
     let a = c .before .before .args in
-    sym (sym (c .before .loop .inv .1) ∙ names-none (a .t3) (a .steps) (c .before .loop .i) (a .inputs + c .before .loop .i) (c .loop-test .left))
+    sym (names-none (a .t3) (a .steps) (c .before .loop .i) (a .inputs + c .before .loop .i) (c .loop-test .left)) ∙ c .before .loop .inv .1
 
 pub names-earlier-spec : {M : Type 1} → statement M
 names-earlier-spec =

@@ -1,8 +1,8 @@
 -- `roads::checks::smallest` meets its contract. The invariant: the least so far is the smallest of the orders from i on. Assumes nothing.
-use mathlib.Core.Path.{_≡_, sym, ap, _∙_}
+use mathlib.Core.Path.{_≡_, sym}
 use lib.ListN.{length, drop}
 use Rattle.roads.specs.Recipe.{smallest}
-use Prim.Native.Nat.{ℕ, _-_, _≤_}
+use Prim.Native.Nat.{_≤_}
 use native.Mathlib.Omega.{arith}
 use borrow.Author.Needs.{needs}
 use denote.Ref.{now}
@@ -47,7 +47,7 @@ loop-again-2 c =
 returns : tie.Need-returns Inv-loop μ-loop
 returns c =
     let e : c .before .loop .i ≡ 0 = omega arith in
-    c .before .loop .inv .1 ∙ ap (λ (k : ℕ). smallest (drop k (now (c .before .before .args .orders)))) e
+    rw e at (c .before .loop .inv .1)
 
 pub smallest-spec : {M : Type 1} → statement M
 smallest-spec =

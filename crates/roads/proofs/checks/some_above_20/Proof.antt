@@ -28,7 +28,7 @@ shared-slice-read-if1 c = search needs
 returns : tie.Need-returns Inv-loop μ-loop
 returns c =
     let l = c .before .before .before in
-    sym (sym (l .loop .inv .1) ∙ above-here (now (l .before .args .orders)) (l .loop .i) (search needs) (c .if1 .taken))
+    sym (above-here (now (l .before .args .orders)) (l .loop .i) (search needs) (c .if1 .taken)) ∙ l .loop .inv .1
 
 add-i : tie.Need-add-i Inv-loop μ-loop
 add-i c = search needs
@@ -42,7 +42,7 @@ loop-again c =
     (omega arith, sym (above-later (now (l .before .args .orders)) (l .loop .i) (search needs) (c .if1 .left)) ∙ l .loop .inv .1)
 
 returns-2 : tie.Need-returns-2 Inv-loop μ-loop
-returns-2 c = sym (sym (c .before .loop .inv .1) ∙ above-none (now (c .before .before .args .orders)) (c .before .loop .i) (c .loop-test .left))
+returns-2 c = sym (above-none (now (c .before .before .args .orders)) (c .before .loop .i) (c .loop-test .left)) ∙ c .before .loop .inv .1
 
 pub some-above-20-spec : {M : Type 1} → statement M
 some-above-20-spec =

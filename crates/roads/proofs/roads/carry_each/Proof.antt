@@ -18,7 +18,10 @@ refused-curve-requires : tie.Need-refused-curve-requires Inv-loop μ-loop
 refused-curve-requires c κs = search needs
 
 loop-holds : tie.Need-loop-holds Inv-loop μ-loop
-loop-holds c = carry-begins (λ s. alongCurve s (c .before .before .args .curve) (c .before .before .args .order)) (c .before .before .args .t1) (c .before .before .args .count) _ refl
+loop-holds c =
+    let s = c .before .before in
+    let four : length (s .args .t1) ≡ 4 = search needs in
+    carry-begins (λ x. alongCurve x (s .args .curve) (s .args .order)) four (s .pre) refl
 
 mul-s : tie.Need-mul-s Inv-loop μ-loop
 mul-s c = search needs
@@ -31,10 +34,8 @@ composite-derivatives-requires c κs = search needs
 
 returns : tie.Need-returns Inv-loop μ-loop
 returns c =
-    let l = c .before .before .before .before in
-    let a = l .before .before .before .args in
-    let four : length (a .t1) ≡ 4 = search needs in
-    (carry-stops (λ s. alongCurve s (a .curve) (a .order)) (a .t1) (a .count) four (l .before .before .before .pre) (l .loop .inv) (c .before .before .before .loop-test .taken) (c .before .composite-derivatives .ensures) (c .if1 .taken), λ e. absurd (c .if1 .taken e), four, l .loop .inv .long)
+    let w = c .before .before .before .before .loop .inv in
+    (carry-stops w (c .before .before .before .loop-test .taken) (c .before .composite-derivatives .ensures) (c .if1 .taken), λ e. absurd (c .if1 .taken e), w .four, w .long)
 
 mul-curves : tie.Need-mul-curves Inv-loop μ-loop
 mul-curves c = search needs
@@ -50,17 +51,13 @@ loop-less c = search needs
 
 loop-again : tie.Need-loop-again Inv-loop μ-loop
 loop-again c =
-    let l = c .before .before .before .before .before in
-    let a = l .before .before .before .args in
-    let four : length (a .t1) ≡ 4 = search needs in
-    carry-goes-on (λ s. alongCurve s (a .curve) (a .order)) (a .t1) (a .count) four (l .before .before .before .pre) (l .loop .inv) (c .before .before .before .before .loop-test .taken) (c .before .before .composite-derivatives .ensures) (c .before .if1 .left)
+    let t = c .before .before .before .before in
+    carry-goes-on (t .before .loop .inv) (t .loop-test .taken) (c .before .before .composite-derivatives .ensures) (c .before .if1 .left)
 
 returns-2 : tie.Need-returns-2 Inv-loop μ-loop
 returns-2 c =
-    let l = c .before in
-    let a = l .before .before .before .args in
-    let four : length (a .t1) ≡ 4 = search needs in
-    (carry-ends (λ s. alongCurve s (a .curve) (a .order)) (a .t1) (a .count) four (l .before .before .before .pre) (l .loop .inv) (c .loop-test .left), λ e. carry-done (λ s. alongCurve s (a .curve) (a .order)) (a .t1) (a .count) four (l .before .before .before .pre) (l .loop .inv) (c .loop-test .left), four, l .loop .inv .long)
+    let w = c .before .loop .inv in
+    (carry-ends w (c .loop-test .left), λ e. carry-done w (c .loop-test .left), w .four, w .long)
 
 pub carry-each-spec : {M : Type 1} → statement M
 carry-each-spec =

@@ -1,28 +1,21 @@
 -- `roads::surfaces::work` meets its contract. The invariant: what is left to work, on the jets in hand, comes to the whole. Assumes nothing.
-use mathlib.Core.Path.{_≡_, _∙_}
-use Prim.Native.Nat.{_+_, _-_}
+use mathlib.Core.Path.{_∙_}
+use Prim.Native.Nat.{_-_}
 use native.Mathlib.Omega.{arith}
-use lib.ListN.{length, length-set}
 use borrow.Author.Needs.{needs}
-use Rattle.roads.specs.declared.Step.{Step}
-use Rattle.roads.specs.declared.Operation.the-variants.{Sum}
 use Rattle.roads.specs.Roads.{surfaces}
-use Rattle.roads.proofs.Working.{Working, work-begins, names-left, names-right, work-stops, work-goes-on, work-ends}
+use Rattle.roads.proofs.Working.{Working, work-begins, left-in, right-in, work-stops, work-goes-on, work-ends}
 use Rattle.roads.proofs.surfaces.work.Statement.{statement}
 use Rattle.roads.proofs.surfaces.work.Tie as tie
 
--- what is read past a program's end
-abbrev none : Step
-none = record { operation = Sum; left = 0; right = 0 }
-
 abbrev Inv-loop : tie.InvT-loop
-Inv-loop inputs steps program hand₀ i₀ hand i = Working surfaces hand₀ inputs steps program hand i × (length hand ≡ 16)
+Inv-loop inputs steps program hand₀ i₀ hand i = Working surfaces hand₀ inputs steps program hand i
 
 abbrev μ-loop : tie.MeasureT-loop
 μ-loop inputs steps program hand₀ i₀ hand i = steps - i
 
 loop-holds : tie.Need-loop-holds Inv-loop μ-loop
-loop-holds c = (work-begins surfaces (c .args .start) (c .args .inputs) (c .args .steps) (c .args .t4) (c .pre .3), search needs)
+loop-holds c = work-begins surfaces (c .pre .1) (c .pre .2) (search needs) (search needs) (c .pre .3)
 
 mul-s : tie.Need-mul-s Inv-loop μ-loop
 mul-s c = search needs
@@ -31,32 +24,16 @@ array-copy-out-s : tie.Need-array-copy-out-s Inv-loop μ-loop
 array-copy-out-s c = search needs
 
 mul-a : tie.Need-mul-a Inv-loop μ-loop
-mul-a c =
-    let l = c .before .before in
-    let a = l .before .args in
-    let long : length (a .t4) ≡ 12 = search needs in
-    omega (arith, names-left surfaces (a .start) (a .inputs) (a .steps) (a .t4) (l .loop .inv .0) none (c .before .loop-test .taken) (omega (arith, long)), l .before .pre .1, l .before .pre .2, c .before .loop-test .taken)
+mul-a c = omega (arith, left-in (c .before .before .loop .inv) (c .before .loop-test .taken))
 
 array-copy-out-a : tie.Need-array-copy-out-a Inv-loop μ-loop
-array-copy-out-a c =
-    let l = c .before .before in
-    let a = l .before .args in
-    let long : length (a .t4) ≡ 12 = search needs in
-    omega (arith, names-left surfaces (a .start) (a .inputs) (a .steps) (a .t4) (l .loop .inv .0) none (c .before .loop-test .taken) (omega (arith, long)), l .before .pre .1, l .before .pre .2, c .before .loop-test .taken)
+array-copy-out-a c = omega (arith, left-in (c .before .before .loop .inv) (c .before .loop-test .taken))
 
 mul-b : tie.Need-mul-b Inv-loop μ-loop
-mul-b c =
-    let l = c .before .before .before in
-    let a = l .before .args in
-    let long : length (a .t4) ≡ 12 = search needs in
-    omega (arith, names-right surfaces (a .start) (a .inputs) (a .steps) (a .t4) (l .loop .inv .0) none (c .before .before .loop-test .taken) (omega (arith, long)), l .before .pre .1, l .before .pre .2, c .before .before .loop-test .taken)
+mul-b c = omega (arith, right-in (c .before .before .before .loop .inv) (c .before .before .loop-test .taken))
 
 array-copy-out-b : tie.Need-array-copy-out-b Inv-loop μ-loop
-array-copy-out-b c =
-    let l = c .before .before .before in
-    let a = l .before .args in
-    let long : length (a .t4) ≡ 12 = search needs in
-    omega (arith, names-right surfaces (a .start) (a .inputs) (a .steps) (a .t4) (l .loop .inv .0) none (c .before .before .loop-test .taken) (omega (arith, long)), l .before .pre .1, l .before .pre .2, c .before .before .loop-test .taken)
+array-copy-out-b c = omega (arith, right-in (c .before .before .before .loop .inv) (c .before .before .loop-test .taken))
 
 on-surfaces-requires : tie.Need-on-surfaces-requires Inv-loop μ-loop
 on-surfaces-requires c κs = search needs
@@ -66,10 +43,8 @@ refused-surface-requires c κs = search needs
 
 returns : tie.Need-returns Inv-loop μ-loop
 returns c =
-    let l = c .before .before .before .before .before .before .before in
-    let a = l .before .args in
-    let long : length (a .t4) ≡ 12 = search needs in
-    c .refused-surface .ensures ∙ work-stops surfaces (a .start) (a .inputs) (a .steps) (a .t4) (l .loop .inv .0) none (c .before .before .before .before .before .before .loop-test .taken) (omega (arith, long)) (c .before .before .on-surfaces .ensures) (c .before .if1 .taken)
+    let t = c .before .before .before .before .before .before in
+    c .refused-surface .ensures ∙ work-stops (t .before .loop .inv) (t .loop-test .taken) (c .before .before .on-surfaces .ensures) (c .before .if1 .taken)
 
 add-m : tie.Need-add-m Inv-loop μ-loop
 add-m c = search needs
@@ -88,12 +63,8 @@ loop-less c = search needs
 
 loop-again : tie.Need-loop-again Inv-loop μ-loop
 loop-again c =
-    let l = c .before .before .before .before .before .before .before in
-    let a = l .before .args in
-    let long : length (a .t4) ≡ 12 = search needs in (
-      work-goes-on surfaces (a .start) (a .inputs) (a .steps) (a .t4) (l .loop .inv .0) none (c .before .before .before .before .before .before .loop-test .taken) (omega (arith, long)) (c .before .before .on-surfaces .ensures) (c .before .if1 .left) (omega (arith, l .loop .inv .1, l .before .pre .1, l .before .pre .2)),
-      length-set (l .loop .hand) (a .inputs + l .loop .i) (c .before .before .on-surfaces .result .jet) ∙ l .loop .inv .1,
-    )
+    let t = c .before .before .before .before .before .before in
+    work-goes-on (t .before .loop .inv) (t .loop-test .taken) (c .before .before .on-surfaces .ensures) (c .before .if1 .left)
 
 add-last : tie.Need-add-last Inv-loop μ-loop
 add-last c = search needs
@@ -108,10 +79,7 @@ array-copy-out-jet : tie.Need-array-copy-out-jet Inv-loop μ-loop
 array-copy-out-jet c = search needs
 
 returns-2 : tie.Need-returns-2 Inv-loop μ-loop
-returns-2 c =
-    let l = c .before .before in
-    let a = l .before .args in
-    work-ends surfaces (a .start) (a .inputs) (a .steps) (a .t4) (l .loop .inv .0) (c .before .loop-test .left)
+returns-2 c = work-ends (c .before .before .loop .inv) (c .before .loop-test .left)
 
 pub work-spec : {M : Type 1} → statement M
 work-spec =
