@@ -4,7 +4,7 @@ use mathlib.Core.List.{List, [], _∷_, _++_}
 use Prim.Native.Nat.{ℕ}
 use lib.IntN.{ℤ, pos}
 use lib.ListN.{replicate}
-use lib.Ieee.{Float, binary64, ofBits, ofInt, add, mul}
+use lib.Ieee.{Float, ofBits, ofInt, add, mul}
 use Rattle.partitions.specs.Walk.{started}
 use Rattle.whole.specs.Checked.{formed, divided}
 use Rattle.calculus.specs.InTurn.{inTurn}
@@ -19,6 +19,7 @@ use Rattle.roads.specs.declared.Step.{Step}
 use Rattle.roads.specs.declared.Operation.the-variants.{Sum}
 use Rattle.roads.specs.Recipe.{namesEarlier, someAbove20}
 use Rattle.roads.specs.Roads.{builtSurface}
+use Rattle.vectors.proofs.Floats.{huge}
 use Rattle.derivatives.specs.declared.CurveDerivatives.{CurveDerivatives}
 use Rattle.derivatives.specs.Real.{nil, real}
 use Rattle.derivatives.specs.Answer as floats
@@ -58,9 +59,6 @@ with-remainder = refl
 -- 9 is `times-two` of the figures
 
 -- 10: 1e308 times 1e308
-abbrev huge : Float
-huge = ofBits binary64 0x7FE1_CCF3_85EB_C8A0
-
 abbrev single : Float → CurveDerivatives
 single x = record { order = 0; entries = x ∷ replicate 20 nil }
 

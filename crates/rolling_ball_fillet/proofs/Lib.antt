@@ -2,12 +2,12 @@ pub mod Orders
 pub mod Figures
 pub mod Entries
 pub mod Parts
+pub mod Tests
 pub mod Tested
 pub mod CenterFigures
 pub mod Filled
 pub mod AxisAngle
 pub mod Parameters
-pub mod Tests
 pub mod Decisions
 pub mod PartialFigures
 pub mod Untouched

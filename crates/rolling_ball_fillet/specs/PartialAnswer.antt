@@ -3,7 +3,6 @@
 use Prim.Native.Nat.{ℕ, suc}
 use mathlib.Core.Bool.{Bool, cond, _&&_, _||_}
 use lib.Dec.{ltb, eqb}
-use lib.ListN.{replicate}
 use lib.Ieee.{Float}
 use lib.Ieee.Scale.{finite}
 use Rattle.vectors.specs.declared.Vector3.{Vector3}
@@ -14,28 +13,14 @@ use Rattle.derivatives.specs.Real.{nil}
 use Rattle.derivatives.specs.Answer.{curveNumbers}
 use Rattle.derivatives.specs.VectorAnswer.{tested}
 use Rattle.derivatives.specs.declared.CurveDerivatives.{CurveDerivatives}
-use Rattle.derivatives.specs.declared.ParameterCurve.{ParameterCurve}
-use Rattle.derivatives.specs.declared.VectorCurveDerivatives.{VectorCurveDerivatives}
 use Rattle.rolling_ball_fillet.specs.Center.{finiteContacts}
-use Rattle.rolling_ball_fillet.specs.Jets.{farContacts, shortContacts, finiteJet, finiteNumbers}
+use Rattle.rolling_ball_fillet.specs.Jets.{noVectors, noNumbers, noDers, farContacts, shortContacts, finiteJet, finiteNumbers}
 use Rattle.rolling_ball_fillet.specs.AxisAngle.{arm0, arm1, lengths, divisionByZero, infoOf, cosine}
 use Rattle.rolling_ball_fillet.specs.declared.CenterContactDers.{CenterContactDers}
 use Rattle.rolling_ball_fillet.specs.declared.VderInfo.{VderInfo}
 use Rattle.rolling_ball_fillet.specs.declared.VderInfoAnswer.{VderInfoAnswer}
 
 -- ---- axis and angle
-abbrev pub noVectors : VectorCurveDerivatives
-noVectors = record { order = 0; entries = replicate 63 nil }
-
-abbrev pub noNumbers : CurveDerivatives
-noNumbers = record { order = 0; entries = replicate 21 nil }
-
-abbrev pub noParameter : ParameterCurve
-noParameter = record { order = 0; u = replicate 21 nil; v = replicate 21 nil }
-
-abbrev pub noDers : CenterContactDers
-noDers = record { «center_ders» = noVectors; «contact0_ders» = noVectors; «contact1_ders» = noVectors; «uv0_ders» = noParameter; «uv1_ders» = noParameter }
-
 abbrev pub refusedInfo : ℕ → VderInfoAnswer
 refusedInfo c = record { refusal = c; info = record { «cc_ders» = noDers; «axis_ders» = noVectors; «angle_ders» = noNumbers }; cosine = nil }
 

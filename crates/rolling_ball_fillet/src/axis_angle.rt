@@ -8,17 +8,16 @@ ghost use Rattle.derivatives.specs.Answer.{curveNumbers};
 ghost use Rattle.derivatives.specs.Vector.{vectorNumbers, vectorArray};
 ghost use Rattle.rolling_ball_fillet.specs.AxisAngle.{arm as armOf, crosses as crossesOf, dots as dotsOf, rateEntry, rates as ratesOf, turnEntry, turns as turnsOf, angles as anglesFrom};
 ghost use Rattle.rolling_ball_fillet.specs.AxisAngle.{clamped as clampedOf, cosine as cosineOf, divisionByZero};
-ghost use Rattle.rolling_ball_fillet.specs.PartialAnswer.{noVectors, noParameter, noDers, refusedInfo, vderInfo};
+ghost use Rattle.rolling_ball_fillet.specs.PartialAnswer.{refusedInfo, vderInfo};
 use crate::CenterContactDers;
 use crate::VderInfo;
 use crate::VderInfoAnswer;
-use crate::answers::either;
+use crate::arrays;
 use crate::jets;
 use derivatives::CurveDerivatives;
-use derivatives::ParameterCurve;
 use derivatives::VectorCurveDerivatives;
 use derivatives::raw;
-use vectors::Vector3;
+use ieee::either;
 
 // From the centre to a contact point, up to the order n.
 fn arm(contact: VectorCurveDerivatives, center: VectorCurveDerivatives, n: usize) -> [f64; 63]
@@ -39,10 +38,8 @@ fn crosses(p: &[f64; 63], q: &[f64; 63], n: usize) -> [f64; 63]
     let mut m = 0;
     while m <= n {
         let e = raw::cross(p, q, m);
-        let i = 3 * m;
-        r[i] = e.x;
-        r[i + 1] = e.y;
-        r[i + 2] = e.z;
+        let more = arrays::put(r, m, e);
+        r = more;
         m += 1;
     }
     r
@@ -155,8 +152,8 @@ fn clamped(x: f64) -> f64
 fn cosine(p: &[f64; 63], q: &[f64; 63], r: f64) -> f64
     ensures { λ x. ⌜ x ≡ cosineOf (vectorNumbers (now (p .entry)) 0) (vectorNumbers (now (q .entry)) 0) r ⌝ }
 {
-    let a = jets::vector_at(p, 0);
-    let b = jets::vector_at(q, 0);
+    let a = arrays::vector_at(p, 0);
+    let b = arrays::vector_at(q, 0);
     clamped(a.dot(b) / (r * r))
 }
 
@@ -167,47 +164,11 @@ fn division_by_zero(length: f64, r: f64) -> bool
     either(first, r * r == 0.0)
 }
 
-fn no_vectors() -> VectorCurveDerivatives
-    ensures { λ r. ⌜ r ≡ noVectors ⌝ }
-{
-    let z = [0.0f64; 63];
-    VectorCurveDerivatives {
-        order: 0,
-        entries: z,
-    }
-}
-
-fn no_parameter() -> ParameterCurve
-    ensures { λ r. ⌜ r ≡ noParameter ⌝ }
-{
-    let y = [0.0f64; 21];
-    let z = [0.0f64; 21];
-    ParameterCurve {
-        order: 0,
-        u: y,
-        v: z,
-    }
-}
-
-fn no_ders() -> CenterContactDers
-    ensures { λ r. ⌜ r ≡ noDers ⌝ }
-{
-    let a = no_vectors();
-    let p = no_parameter();
-    CenterContactDers {
-        center_ders: a,
-        contact0_ders: a,
-        contact1_ders: a,
-        uv0_ders: p,
-        uv1_ders: p,
-    }
-}
-
 pub fn refused(c: u8) -> VderInfoAnswer
     ensures { λ r. ⌜ r ≡ refusedInfo c ⌝ }
 {
-    let d = no_ders();
-    let a = no_vectors();
+    let d = jets::no_ders();
+    let a = jets::no_vectors();
     let z = [0.0f64; 21];
     VderInfoAnswer {
         refusal: c,

@@ -12,6 +12,7 @@ use crate::CenterContactDers;
 use crate::ContactCircle;
 use crate::RollingBallFilletSurface;
 use crate::arrays;
+use crate::jets;
 use crate::surface_info;
 use crate::surface_info::SurfaceInfo;
 use derivatives::ParameterCurve;
@@ -141,26 +142,9 @@ fn formed(f: RollingBallFilletSurface, cc: ContactCircle, n: usize) -> Contacts
 pub fn refused(c: u8) -> CenterContactAnswer
     ensures { λ r. ⌜ r ≡ refusedContacts c ⌝ }
 {
-    let y = [0.0f64; 21];
-    let z = [0.0f64; 63];
-    let point = VectorCurveDerivatives {
-        order: 0,
-        entries: z,
-    };
-    let foot = ParameterCurve {
-        order: 0,
-        u: y,
-        v: y,
-    };
     CenterContactAnswer {
         refusal: c,
-        ders: CenterContactDers {
-            center_ders: point,
-            contact0_ders: point,
-            contact1_ders: point,
-            uv0_ders: foot,
-            uv1_ders: foot,
-        },
+        ders: jets::no_ders(),
     }
 }
 

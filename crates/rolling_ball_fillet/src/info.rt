@@ -10,12 +10,13 @@ ghost use Rattle.rolling_ball_fillet.specs.PartialAnswer.{returnedInfo, 
 use crate::CenterContactDers;
 use crate::VderInfo;
 use crate::VderInfoAnswer;
-use crate::answers::both;
-use crate::answers::either;
 use crate::axis_angle;
+use crate::checks;
 use crate::given;
 use crate::jets;
 use derivatives::CurveDerivatives;
+use ieee::both;
+use ieee::either;
 
 // Of the centre and contacts, worked at the order n, and the radius.
 pub fn beyond(d: CenterContactDers, r: CurveDerivatives, n: usize) -> bool
@@ -81,8 +82,7 @@ pub fn finite_inputs(i: VderInfo, k: usize, u: f64, s: f64, c: f64) -> bool
     ensures { λ r. ⌜ r ≡ (finiteInfo i k && finite u && finite s && finite c) ⌝ }
 {
     let share = both(finite_info(i, k), ieee::is_finite(u));
-    let sine = both(share, ieee::is_finite(s));
-    both(sine, ieee::is_finite(c))
+    checks::finite_with(share, s, c)
 }
 
 // What has been worked out: 10 where it is not finite. A refusal stays as it is.

@@ -3,7 +3,6 @@ ghost use mathlib.Core.Path.{_≡_};
 ghost use Prim.Native.Nat.{ℕ, _+_, _≤_};
 ghost use Rattle.vectors.specs.Matrices.{sum3};
 ghost use Rattle.calculus.specs.InTurn.{inTurn, inRows};
-ghost use Rattle.rolling_ball_fillet.specs.Rotation.{zeros};
 ghost use Rattle.rolling_ball_fillet.specs.Partials.{parameter as parameterAt, times-in, byOne, byTwo, oneTerm, twoTerm, oneTerms, twoTerms, turnV, turnByAxis, turnByAngle};
 ghost use Rattle.rolling_ball_fillet.specs.Partials.{byV, byUV, byVV, armAt, centerAt, derivativeV, derivativeUV, derivativeVV};
 use crate::VderInfo;
@@ -75,25 +74,10 @@ fn two_term(axis: Vector3, s: f64, c: f64, a: Vector3, t: f64, i: usize, j: usiz
     m.mul(x * y)
 }
 
-fn zero() -> Matrix3
-    ensures { λ r. ⌜ r ≡ zeros ⌝ }
-{
-    let z = Vector3 {
-        x: 0.0,
-        y: 0.0,
-        z: 0.0,
-    };
-    Matrix3 {
-        c0: z,
-        c1: z,
-        c2: z,
-    }
-}
-
 fn one_terms(axis: Vector3, s: f64, c: f64, a: Vector3, t: f64) -> Matrix3
     ensures { λ r. ⌜ r ≡ oneTerms axis s c a t ⌝ }
 {
-    let mut sum = zero();
+    let mut sum = rotation::zero();
     let mut i = 0;
     while i < 4 {
         let e = one_term(axis, s, c, a, t, i);
@@ -120,7 +104,7 @@ fn row(from: Matrix3, axis: Vector3, s: f64, c: f64, a: Vector3, t: f64, i: usiz
 fn two_terms(axis: Vector3, s: f64, c: f64, a: Vector3, t: f64) -> Matrix3
     ensures { λ r. ⌜ r ≡ twoTerms axis s c a t ⌝ }
 {
-    let mut sum = zero();
+    let mut sum = rotation::zero();
     let mut i = 0;
     while i < 4 {
         let e = row(sum, axis, s, c, a, t, i);

@@ -112,7 +112,7 @@ fn symmetric(xx: f64, xy: f64, xz: f64, yy: f64, yz: f64, zz: f64) -> Matrix3
     matrix(xx, xy, xz, xy, yy, yz, xz, yz, zz)
 }
 
-fn zero() -> Matrix3
+pub fn zero() -> Matrix3
     ensures { λ r. ⌜ r ≡ zeros ⌝ }
 {
     symmetric(0.0, 0.0, 0.0, 0.0, 0.0, 0.0)

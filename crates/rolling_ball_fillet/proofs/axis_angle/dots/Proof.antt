@@ -3,10 +3,9 @@ use Rattle.derivatives.proofs.Curves.{CurveFilled}
 use Rattle.calculus.proofs.Filling.{curve-none, curve-more, curve-all}
 use lib.Ieee.{nan}
 use Rattle.derivatives.specs.Real.{nil}
-use Rattle.ieee.proofs.Tests.{second}
-use borrow.Author.Tests.{le-ltb}
 use Rattle.derivatives.specs.Vector.{vectorNumbers}
 use Rattle.rolling_ball_fillet.specs.AxisAngle.{dots}
+use Rattle.rolling_ball_fillet.proofs.Entries.{served}
 use borrow.Author.Needs.{needs}
 use denote.Ref.{now}
 use native.Mathlib.Omega.{arith}
@@ -45,7 +44,7 @@ loop-again c =
     let l = c .before .before .loop in
     let f = dots (vectorNumbers (now (s .p))) (vectorNumbers (now (s .q))) in
     let h : l .m ≤ 20 = omega arith in
-    (curve-more 21 nan nil (λ k v. f k ≡ v) (c .dot .result) (l .inv .0) (omega arith) (sym (c .dot .ensures ∙ second nil (f (l .m)) (le-ltb 20 (l .m) h))), omega arith)
+    (curve-more 21 nan nil (λ k v. f k ≡ v) (c .dot .result) (l .inv .0) (omega arith) (sym (c .dot .ensures ∙ served 20 (l .m) nil (f (l .m)) h)), omega arith)
 
 returns : tie.Need-returns Inv-loop μ-loop
 returns c =

@@ -1,8 +1,8 @@
 -- `served` meets its contract: each order is tested. Assumes nothing.
 use mathlib.Core.Path.{_∙_}
 use Rattle.vectors.proofs.Picked.{both}
-use Rattle.rolling_ball_fillet.proofs.answers.served.Statement.{statement}
-use Rattle.rolling_ball_fillet.proofs.answers.served.Tie as tie
+use Rattle.rolling_ball_fillet.proofs.checks.served.Statement.{statement}
+use Rattle.rolling_ball_fillet.proofs.checks.served.Tie as tie
 
 order-served-requires : tie.Need-order-served-requires
 order-served-requires c κs = tt
