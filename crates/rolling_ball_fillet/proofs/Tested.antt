@@ -31,11 +31,25 @@ use Rattle.rolling_ball_fillet.specs.declared.VderInfo.{VderInfo}
 use Rattle.rolling_ball_fillet.specs.declared.sub_der.EdgePartial.{EdgePartial}
 use Rattle.rolling_ball_fillet.proofs.Tests.{as-tested, or-left, or-right, order-below, not-far}
 
+module _ (f : RollingBallFilletSurface) (cc : ContactCircle) where
+  -- ---- 6 and 7: what is inverted, and what is divided by
+  abbrev pub planes-zero : Bool
+  planes-zero = isZero (determinant3 (planes f))
+
+  abbrev pub form0-zero : Bool
+  form0-zero = isZero (determinant2 (form (first f) (apart (start f cc .ders) (start f cc .s0info) 0)))
+
+  abbrev pub form1-zero : Bool
+  form1-zero = isZero (determinant2 (form (second f) (apart (start f cc .ders) (start f cc .s1info) 0)))
+
+  abbrev pub norm0-zero : Bool
+  norm0-zero = isZero (curveNumbers (start f cc .s0info .absders) 0)
+
+  abbrev pub norm1-zero : Bool
+  norm1-zero = isZero (curveNumbers (start f cc .s1info .absders) 0)
+
 module _ (f : RollingBallFilletSurface) (cc : ContactCircle) (n : ℕ) where
-  -- ---- 6 and 7
-  pub solved : {b0 b1 b2 b3 b4 b5 : Bool} → eqb n 0 ≡ b0 → isZero (determinant3 (planes f)) ≡ b1 →
-      isZero (determinant2 (form (first f) (apart (start f cc .ders) (start f cc .s0info) 0))) ≡ b2 → isZero (curveNumbers (start f cc .s0info .absders) 0) ≡ b3 →
-      isZero (determinant2 (form (second f) (apart (start f cc .ders) (start f cc .s1info) 0))) ≡ b4 → isZero (curveNumbers (start f cc .s1info .absders) 0) ≡ b5 →
+  pub solved : {b0 b1 b2 b3 b4 b5 : Bool} → eqb n 0 ≡ b0 → planes-zero f cc ≡ b1 → form0-zero f cc ≡ b2 → norm0-zero f cc ≡ b3 → form1-zero f cc ≡ b4 → norm1-zero f cc ≡ b5 →
       cond b0 (answeredContacts n (contactsOf f cc n)) (cond b1 (refusedContacts 6) (cond b2 (refusedContacts 6) (cond b3 (refusedContacts 7)
       (cond b4 (refusedContacts 6) (cond b5 (refusedContacts 7) (answeredContacts n (contactsOf f cc n))))))) ≡ centerContacts f cc n
   unfolding centerContacts

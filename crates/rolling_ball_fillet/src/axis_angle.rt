@@ -59,7 +59,7 @@ fn dots(p: &[f64; 63], q: &[f64; 63], n: usize) -> [f64; 21]
     r
 }
 
-// The entry m of r'/r, from the entries q before it.
+// The entry m of r'/r, from the entries q before it; then its entries up to the order n.
 fn rate(r: &[f64; 21], q: &[f64; 21], m: usize) -> f64
     requires { ⌜ m < 20 ⌝ }
     ensures { λ x. ⌜ x ≡ rateEntry (curveNumbers (now (r .entry))) (curveNumbers (now (q .entry))) m ⌝ }
@@ -85,7 +85,7 @@ fn rates(r: &[f64; 21], n: usize) -> [f64; 21]
     q
 }
 
-// The entry m of the angle's derivative, from the entries q before it.
+// The entry m of the angle's derivative, from the entries q before it; then its first n entries.
 fn turn(rate: &[f64; 21], dot: &[f64; 21], length: &[f64; 21], q: &[f64; 21], m: usize) -> f64
     requires { ⌜ m < 20 ⌝ }
     ensures { λ r. ⌜ r ≡ turnEntry (curveNumbers (now (rate .entry))) (curveNumbers (now (dot .entry))) (curveNumbers (now (length .entry))) (curveNumbers (now (q .entry))) m ⌝ }
@@ -95,7 +95,6 @@ fn turn(rate: &[f64; 21], dot: &[f64; 21], length: &[f64; 21], q: &[f64; 21], m:
     (2.0 * sum1 - dot[m + 1] - sum0) / length[0]
 }
 
-// Its first n entries.
 fn turns(rate: &[f64; 21], dot: &[f64; 21], length: &[f64; 21], n: usize) -> [f64; 21]
     requires { ⌜ n ≤ 20 ⌝ }
     ensures { λ r. ⌜ r ≡ filled 21 nil (turnsOf (curveNumbers (now (rate .entry))) (curveNumbers (now (dot .entry))) (curveNumbers (now (length .entry)))) n ⌝ }
@@ -110,7 +109,7 @@ fn turns(rate: &[f64; 21], dot: &[f64; 21], length: &[f64; 21], n: usize) -> [f6
     q
 }
 
-// The angle before its derivative.
+// The angle, and after it the entries of its derivative.
 fn with_angle(angle: f64, turn: &[f64; 21], n: usize) -> [f64; 21]
     requires { ⌜ n ≤ 20 ⌝ }
     ensures { λ r. ⌜ r ≡ curveArray nil (anglesFrom angle (curveNumbers (now (turn .entry)))) n ⌝ }
@@ -142,13 +141,14 @@ fn angles(
     with_angle(angle, &turn, n)
 }
 
-// From above only; a NaN becomes 1.0.
+// At most 1.0, which a NaN becomes.
 fn clamped(x: f64) -> f64
     ensures { λ r. ⌜ r ≡ clampedOf x ⌝ }
 {
     if x < 1.0 { x } else { 1.0 }
 }
 
+// The cosine of the angle between p and q, both as long as the radius r.
 fn cosine(p: &[f64; 63], q: &[f64; 63], r: f64) -> f64
     ensures { λ x. ⌜ x ≡ cosineOf (vectorNumbers (now (p .entry)) 0) (vectorNumbers (now (q .entry)) 0) r ⌝ }
 {
@@ -157,6 +157,7 @@ fn cosine(p: &[f64; 63], q: &[f64; 63], r: f64) -> f64
     clamped(a.dot(b) / (r * r))
 }
 
+// Whether one is due: by the length of p × q, by the radius, or by its square, which may underflow.
 fn division_by_zero(length: f64, r: f64) -> bool
     ensures { λ x. ⌜ x ≡ divisionByZero length r ⌝ }
 {
@@ -164,6 +165,7 @@ fn division_by_zero(length: f64, r: f64) -> bool
     either(first, r * r == 0.0)
 }
 
+// A refusal's number beside zero jets.
 pub fn refused(c: u8) -> VderInfoAnswer
     ensures { λ r. ⌜ r ≡ refusedInfo c ⌝ }
 {

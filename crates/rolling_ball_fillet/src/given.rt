@@ -20,7 +20,7 @@ pub fn far(m: usize, n: usize) -> bool
     either(20 < m, 20 < n)
 }
 
-// Whether one of the jets' orders is.
+// Whether one of the four jets' orders is.
 pub fn far_jets(f: RollingBallFilletSurface) -> bool
     ensures { λ r. ⌜ r ≡ farJets f ⌝ }
 {
@@ -36,7 +36,7 @@ pub fn beyond(f: RollingBallFilletSurface, n: usize) -> bool
     either(19 < n, far_jets(f))
 }
 
-// Whether an order is below n.
+// Whether a jet's order is below n.
 pub fn short(f: RollingBallFilletSurface, n: usize) -> bool
     ensures { λ r. ⌜ r ≡ shortOf f n ⌝ }
 {
@@ -72,7 +72,7 @@ fn finite_upto(
     both(circle, both(curves, surfaces))
 }
 
-// Of the jets the entries up to the order n, and all of them.
+// The same up to one order for all jets, and up to each jet's own.
 pub fn finite_given(f: RollingBallFilletSurface, cc: ContactCircle, n: usize) -> bool
     requires { ⌜ n ≤ 20 ⌝ }
     ensures { λ r. ⌜ r ≡ finiteGiven f cc n ⌝ }
@@ -91,7 +91,7 @@ pub fn finite_whole(f: RollingBallFilletSurface, cc: ContactCircle) -> bool
     finite_upto(f, cc, e.order, r.order, s.order, t.order)
 }
 
-// Whether what is returned is finite.
+// Whether the five jets are finite: the centre up to the order n, the others up to n + 1.
 pub fn finite_contacts(d: CenterContactDers, n: usize) -> bool
     requires { ⌜ n < 20 ⌝ }
     ensures { λ r. ⌜ r ≡ finiteContacts d n ⌝ }
@@ -109,6 +109,7 @@ pub fn finite_contacts(d: CenterContactDers, n: usize) -> bool
     both(vectors, feet)
 }
 
+// What has been worked out: 10 where it is not finite.
 pub fn returned(a: CenterContactAnswer, n: usize) -> CenterContactAnswer
     requires { ⌜ n < 20 ⌝ }
     ensures { λ r. ⌜ r ≡ returnedContacts a n ⌝ }

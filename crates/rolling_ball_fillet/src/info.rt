@@ -1,4 +1,4 @@
-// The tests on axis and angle before they are worked out and before they are used, and on what is returned.
+// The tests before axis and angle are worked out and before they are used, and on what is returned.
 ghost use mathlib.Core.Path.{_≡_};
 ghost use mathlib.Core.Bool.{_&&_, _||_};
 ghost use Prim.Native.Nat.{suc, _<_};
@@ -18,7 +18,8 @@ use derivatives::CurveDerivatives;
 use ieee::both;
 use ieee::either;
 
-// Of the centre and contacts, worked at the order n, and the radius.
+// To work at the order n: whether it is above 19, or an order of the contacts or of the radius above 20; whether one is below k; whether what is
+// read is finite.
 pub fn beyond(d: CenterContactDers, r: CurveDerivatives, n: usize) -> bool
     ensures { λ x. ⌜ x ≡ (ltb 19 n || farContacts d || ltb 20 (r .order)) ⌝ }
 {
@@ -40,7 +41,7 @@ pub fn finite_given(d: CenterContactDers, r: CurveDerivatives, angle: f64, n: us
     both(jets, ieee::is_finite(angle))
 }
 
-// Of the centre, contacts, axis and angle, worked at the order k.
+// To use axis and angle at the order k: whether an order is above 20; whether one is too low; whether what is read is finite.
 pub fn far_info(i: VderInfo) -> bool
     ensures { λ r. ⌜ r ≡ farInfo i ⌝ }
 {

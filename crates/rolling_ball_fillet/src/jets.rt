@@ -1,4 +1,4 @@
-// The jets of the centre and contacts: single entries, cut jets, and the tests on orders and entries. Each `requires` is met by the callers.
+// The jets of the centre and contacts: single entries, zero jets, cut jets, and the tests on orders and entries. Each `requires` is met by the callers.
 ghost use mathlib.Core.Path.{_≡_};
 ghost use Prim.Native.Nat.{_≤_, _<_};
 ghost use Rattle.calculus.specs.Array.{curveArray};
@@ -128,6 +128,7 @@ pub fn cut_parameter(a: ParameterCurve, n: usize) -> ParameterCurve
     }
 }
 
+// The centre cut to the order n, and the contacts and their parameters one further.
 pub fn cut_ders(d: CenterContactDers, n: usize) -> CenterContactDers
     requires { ⌜ n < 20 ⌝ }
     ensures { λ r. ⌜ r ≡ cutDers d n ⌝ }

@@ -57,6 +57,7 @@ pub fn decide(m: usize, n: usize) -> Decision
     }
 }
 
+// How often a partial is derived along the edge.
 fn order(p: EdgePartial) -> usize
     ensures { λ r. ⌜ r ≡ orderOf p ⌝ }
     ensures small { λ r. ⌜ r ≤ 2 ⌝ }
@@ -78,6 +79,7 @@ fn partial(p: EdgePartial, info: VderInfo, u: f64, s: f64, c: f64) -> Vector3
     }
 }
 
+// From axis and angle that have been worked out, or their refusal.
 fn from_info(p: EdgePartial, a: VderInfoAnswer, u: f64, s: f64, c: f64) -> VectorAnswer
     ensures { λ r. ⌜ r ≡ fromInfo p a u s c ⌝ }
 {
@@ -134,6 +136,7 @@ fn finite_floats(angle: f64, u: f64, s: f64, c: f64) -> bool
     checks::finite_with(share, s, c)
 }
 
+// A partial along the edge reads the jets up to one order more.
 fn by_edge(
     p: EdgePartial,
     f: RollingBallFilletSurface,
@@ -164,6 +167,7 @@ pub fn far_pair(f: RollingBallFilletSurface, m: usize, n: usize) -> bool
     either(given::far(m, n), given::far_jets(f))
 }
 
+// A partial along the arc reads none of them, and tests all.
 fn by_arc(
     m: usize,
     f: RollingBallFilletSurface,
