@@ -46,6 +46,8 @@ pub names-5 : builtSurface (record { inputs = 1; surfaces = replicate 4 given; s
 unfolding namesEarlier someAbove20
 names-5 = refl
 
+-- 5 and 6 are `radius-nan` and `normals-equal` of rolling_ball_fillet/proofs/CenterFigures.antt
+
 -- 7: (4)/(0)
 pub by-zero : onCurves (quotient checked) (jet 0 (pos 4 ∷ [])) (jet 0 (pos 0 ∷ [])) ≡ refusedCurve 7
 unfolding choose inTurn before formed divided unlessRefused listed
@@ -65,3 +67,5 @@ single x = record { order = 0; entries = x ∷ replicate 20 nil }
 pub overflow : floats.onCurves (floats.byFormula (product real)) (single huge) (single huge) ≡ floats.refusedCurve 10
 unfolding choose inTurn add mul ofBits ofInt floats.allFinite
 overflow = refl
+
+-- 11 is `pair-2-1` of rolling_ball_fillet/proofs/PartialFigures.antt

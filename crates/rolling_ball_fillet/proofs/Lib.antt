@@ -1,5 +1,5 @@
 pub mod Orders
-pub mod Figures
+pub mod Examples
 pub mod Entries
 pub mod Parts
 pub mod Tests

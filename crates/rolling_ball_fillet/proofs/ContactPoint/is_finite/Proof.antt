@@ -1,7 +1,4 @@
 -- `ContactPoint::is_finite` meets its contract. Assumes nothing.
-use mathlib.Core.Path.{ap, _∙_}
-use mathlib.Core.Bool.{Bool, _&&_}
-use lib.Ieee.Scale.{finite}
 use Rattle.rolling_ball_fillet.proofs.ContactPoint.is_finite.Statement.{statement}
 use Rattle.rolling_ball_fillet.proofs.ContactPoint.is_finite.Tie as tie
 
@@ -12,9 +9,7 @@ finite-with-requires : tie.Need-finite-with-requires
 finite-with-requires c κs = tt
 
 returns : tie.Need-returns
-returns c =
-    let r = c .before .before .before .before .args in
-    c .finite-with .ensures ∙ ap (λ (b : Bool). b && finite (r .self .uv .x) && finite (r .self .uv .y)) (c .before .is-finite .ensures)
+returns c = cc
 
 pub is-finite-spec : {M : Type 1} → statement M
 is-finite-spec = tie.close (tie.spec is-finite-requires finite-with-requires returns)

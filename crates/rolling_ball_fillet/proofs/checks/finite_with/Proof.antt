@@ -1,7 +1,4 @@
 -- `finite_with` meets its contract: each float is tested. Assumes nothing.
-use mathlib.Core.Path.{ap, _∙_}
-use mathlib.Core.Bool.{_&&_}
-use Rattle.vectors.proofs.Picked.{both}
 use Rattle.rolling_ball_fillet.proofs.checks.finite_with.Statement.{statement}
 use Rattle.rolling_ball_fillet.proofs.checks.finite_with.Tie as tie
 
@@ -18,9 +15,7 @@ both-requires-2 : tie.Need-both-requires-2
 both-requires-2 c κs = tt
 
 returns : tie.Need-returns
-returns c =
-    let given = c .before .before .before .before .args .given in
-    c .both2 .ensures ∙ both (c .before .before .both .ensures ∙ ap (_&&_ given) (c .before .before .before .is-finite .ensures)) (c .before .is-finite2 .ensures)
+returns c = cc
 
 pub finite-with-spec : {M : Type 1} → statement M
 finite-with-spec = tie.close (tie.spec is-finite-requires both-requires is-finite-requires-2 both-requires-2 returns)

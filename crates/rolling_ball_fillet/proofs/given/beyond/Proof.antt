@@ -1,8 +1,5 @@
 -- `beyond` meets its contract: each order is tested. Assumes nothing.
 use borrow.Author.Needs.{needs}
-use mathlib.Core.Path.{ap, _∙_}
-use mathlib.Core.Bool.{Bool, _||_}
-use lib.Dec.{ltb}
 use Rattle.rolling_ball_fillet.proofs.given.beyond.Statement.{statement}
 use Rattle.rolling_ball_fillet.proofs.given.beyond.Tie as tie
 
@@ -13,7 +10,7 @@ either-requires : tie.Need-either-requires
 either-requires c κs = search needs
 
 returns : tie.Need-returns
-returns c = c .either .ensures ∙ ap (λ (b : Bool). ltb 19 (c .before .before .args .n) || b) (c .before .far-jets .ensures)
+returns c = cc
 
 pub beyond-spec : {M : Type 1} → statement M
 beyond-spec = tie.close (tie.spec far-jets-requires either-requires returns)

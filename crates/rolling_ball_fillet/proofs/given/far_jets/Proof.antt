@@ -1,7 +1,5 @@
 -- `far_jets` meets its contract: each order is tested. Assumes nothing.
 use borrow.Author.Needs.{needs}
-use mathlib.Core.Path.{ap₂, _∙_}
-use mathlib.Core.Bool.{_||_}
 use Rattle.rolling_ball_fillet.proofs.given.far_jets.Statement.{statement}
 use Rattle.rolling_ball_fillet.proofs.given.far_jets.Tie as tie
 
@@ -15,7 +13,7 @@ either-requires : tie.Need-either-requires
 either-requires c κs = search needs
 
 returns : tie.Need-returns
-returns c = c .either .ensures ∙ ap₂ _||_ (c .before .before .far .ensures) (c .before .far2 .ensures)
+returns c = cc
 
 pub far-jets-spec : {M : Type 1} → statement M
 far-jets-spec = tie.close (tie.spec far-requires far-requires-2 either-requires returns)

@@ -1,7 +1,5 @@
 -- `finite_contacts` meets its contract: each part is tested. Assumes nothing.
 use borrow.Author.Needs.{needs}
-use mathlib.Core.Path.{_∙_}
-use Rattle.vectors.proofs.Picked.{both}
 use Rattle.rolling_ball_fillet.proofs.given.finite_contacts.Statement.{statement}
 use Rattle.rolling_ball_fillet.proofs.given.finite_contacts.Tie as tie
 
@@ -36,11 +34,7 @@ both-requires-4 : tie.Need-both-requires-4
 both-requires-4 c κs = search needs
 
 returns : tie.Need-returns
-returns c =
-    let points = c .before .before .before .before .before .before .both .ensures ∙ both (c .before .before .before .before .before .before .before .before .finite-jet .ensures) (c .before .before .before .before .before .before .before .finite-jet2 .ensures) in
-    let vectors = c .before .before .before .before .both2 .ensures ∙ both (c .before .before .before .before .before .finite-jet3 .ensures) points in
-    let feet = c .before .both3 .ensures ∙ both (c .before .before .before .finite-parameter .ensures) (c .before .before .finite-parameter2 .ensures) in
-    c .both4 .ensures ∙ both vectors feet
+returns c = cc
 
 pub finite-contacts-spec : {M : Type 1} → statement M
 finite-contacts-spec = tie.close (tie.spec add-k finite-jet-requires finite-jet-requires-2 both-requires finite-jet-requires-3 both-requires-2 finite-parameter-requires finite-parameter-requires-2 both-requires-3 both-requires-4 returns)

@@ -1,7 +1,5 @@
 -- `finite_upto` meets its contract: each part is tested. Assumes nothing.
 use borrow.Author.Needs.{needs}
-use mathlib.Core.Path.{_∙_}
-use Rattle.vectors.proofs.Picked.{both}
 use Rattle.rolling_ball_fillet.proofs.given.finite_upto.Statement.{statement}
 use Rattle.rolling_ball_fillet.proofs.given.finite_upto.Tie as tie
 
@@ -45,12 +43,7 @@ both-requires-6 : tie.Need-both-requires-6
 both-requires-6 c κs = search needs
 
 returns : tie.Need-returns
-returns c =
-    let normals = c .before .before .before .before .before .before .before .before .before .before .both .ensures ∙ both (c .before .before .before .before .before .before .before .before .before .before .before .before .is-finite .ensures) (c .before .before .before .before .before .before .before .before .before .before .before .is-finite2 .ensures) in
-    let circle = c .before .before .before .before .before .before .before .before .both2 .ensures ∙ both (c .before .before .before .before .before .before .before .before .before .is-finite3 .ensures) normals in
-    let curves = c .before .before .before .before .before .both3 .ensures ∙ both (c .before .before .before .before .before .before .before .finite-jet .ensures) (c .before .before .before .before .before .before .finite-numbers .ensures) in
-    let surfaces = c .before .before .both4 .ensures ∙ both (c .before .before .before .before .finite-surface .ensures) (c .before .before .before .finite-surface2 .ensures) in
-    c .both6 .ensures ∙ both circle (c .before .both5 .ensures ∙ both curves surfaces)
+returns c = cc
 
 pub finite-upto-spec : {M : Type 1} → statement M
 finite-upto-spec = tie.close (tie.spec is-finite-requires is-finite-requires-2 both-requires is-finite-requires-3 both-requires-2 finite-jet-requires finite-numbers-requires both-requires-3 finite-surface-requires finite-surface-requires-2 both-requires-4 both-requires-5 both-requires-6 returns)

@@ -1,7 +1,5 @@
 -- `far_pair` meets its contract: each order is tested. Assumes nothing.
 use borrow.Author.Needs.{needs}
-use mathlib.Core.Path.{ap₂, _∙_}
-use mathlib.Core.Bool.{_||_}
 use Rattle.rolling_ball_fillet.proofs.sub_der.far_pair.Statement.{statement}
 use Rattle.rolling_ball_fillet.proofs.sub_der.far_pair.Tie as tie
 
@@ -15,7 +13,7 @@ either-requires : tie.Need-either-requires
 either-requires c κs = search needs
 
 returns : tie.Need-returns
-returns c = c .either .ensures ∙ ap₂ _||_ (c .before .before .far .ensures) (c .before .far-jets .ensures)
+returns c = cc
 
 pub far-pair-spec : {M : Type 1} → statement M
 far-pair-spec = tie.close (tie.spec far-requires far-jets-requires either-requires returns)
