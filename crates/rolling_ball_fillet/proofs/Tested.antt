@@ -3,7 +3,6 @@ use mathlib.Core.Path.{_≡_, refl, sym, ap, ap₂, _∙_}
 use mathlib.Core.Bool.{Bool, true, false, cond, _&&_, _||_}
 use Prim.Native.Nat.{ℕ, zero, suc, _+_, _*_, _≤_, _<_}
 use native.Mathlib.Omega.{arith}
-use native.Mathlib.Numerals.{add-one}
 use lib.Dec.{ltb, eqb}
 use lib.ListN.{replicate, getD-replicate}
 use lib.Ieee.{Float, nan, ofBits}
@@ -20,16 +19,16 @@ use Rattle.derivatives.specs.Vector.{origin, vectorNumbers, allVectorsFinite, f
 use Rattle.derivatives.specs.VectorAnswer.{tested, far}
 use Rattle.derivatives.specs.declared.CurveDerivatives.{CurveDerivatives}
 use Rattle.rolling_ball_fillet.specs.SurfaceInfo.{apart, form}
-use Rattle.rolling_ball_fillet.specs.Center.{radii, first, second, start, planes, contactsOf, answeredContacts, refusedContacts, centerContacts, farJets, beyond, short, finiteGiven, finiteContacts, returnedContacts, centerContactAnswer}
-use Rattle.rolling_ball_fillet.specs.Jets.{farContacts, shortContacts, finiteNumbers}
-use Rattle.rolling_ball_fillet.specs.PartialAnswer.{refusedInfo, vderInfo, finiteInfo, returnedInfo, vderInfoAnswer, farInfo, shortInfo, partialAnswer}
+use Rattle.rolling_ball_fillet.specs.Center.{radii, first, second, start, planes, contactsOf, answeredContacts, refusedContacts, centerContacts, farJets, beyond, short, finiteGiven, returnedContacts, centerContactAnswer}
+use Rattle.rolling_ball_fillet.specs.PartialAnswer.{beyond as infoBeyond, short as infoShort, finiteGiven as infoGiven}
+use Rattle.rolling_ball_fillet.specs.PartialAnswer.{refusedInfo, vderInfo, returnedInfo, vderInfoAnswer, farInfo, shortInfo, finiteInputs, partialAnswer}
 use Rattle.rolling_ball_fillet.specs.SubDer.{orderOf, partialBy, fromContacts, finiteFloats, byEdge}
 use Rattle.rolling_ball_fillet.specs.declared.ContactCircle.{ContactCircle}
 use Rattle.rolling_ball_fillet.specs.declared.RollingBallFilletSurface.{RollingBallFilletSurface}
 use Rattle.rolling_ball_fillet.specs.declared.CenterContactDers.{CenterContactDers}
 use Rattle.rolling_ball_fillet.specs.declared.VderInfo.{VderInfo}
 use Rattle.rolling_ball_fillet.specs.declared.sub_der.EdgePartial.{EdgePartial}
-use Rattle.rolling_ball_fillet.proofs.Tests.{as-tested, or-left, or-right, order-below, not-far}
+use Rattle.rolling_ball_fillet.proofs.Tests.{as-tested, or-left, or-right, not-far}
 
 module _ (f : RollingBallFilletSurface) (cc : ContactCircle) where
   -- ---- 6 and 7: what is inverted, and what is divided by
@@ -81,25 +80,15 @@ module _ (d : CenterContactDers) (r : CurveDerivatives) (angle : Float) where
   abbrev n : ℕ
   n = d .«center_ders» .order
 
-  pub info-asked : {b1 b2 b3 : Bool} → (ltb 19 n || farContacts d || ltb 20 (r .order)) ≡ b1 → (shortContacts d (suc n) || ltb (r .order) (suc n)) ≡ b2 →
-      (finiteContacts d n && finiteNumbers r (suc n) && finite angle) ≡ b3 →
+  pub info-asked : {b1 b2 b3 : Bool} → infoBeyond d r n ≡ b1 → infoShort d r (suc n) ≡ b2 → infoGiven d r angle n ≡ b3 →
       tested refusedInfo b1 b2 b3 (returnedInfo (vderInfo d (curveNumbers (r .entries)) angle n) n) ≡ vderInfoAnswer d r angle
-  info-asked =
-      as-tested refusedInfo (returnedInfo (vderInfo d (curveNumbers (r .entries)) angle n) n) (ltb 19 n || farContacts d || ltb 20 (r .order))
-      (shortContacts d (suc n) || ltb (r .order) (suc n)) (finiteContacts d n && finiteNumbers r (suc n) && finite angle)
-
-  -- the code's n + 1
-  pub short-next : (shortContacts d (n + 1) || ltb (r .order) (n + 1)) ≡ (shortContacts d (suc n) || ltb (r .order) (suc n))
-  short-next = ap (λ (k : ℕ). shortContacts d k || ltb (r .order) k) (add-one n)
-
-  pub info-within : (ltb 19 n || farContacts d || ltb 20 (r .order)) ≡ false → n ≤ 19
-  info-within = order-below 19 n (farContacts d) (ltb 20 (r .order))
+  info-asked = as-tested refusedInfo (returnedInfo (vderInfo d (curveNumbers (r .entries)) angle n) n) (infoBeyond d r n) (infoShort d r (suc n)) (infoGiven d r angle n)
 
 pub partial-asked : (p : EdgePartial) (i : VderInfo) (u s c : Float) {b1 b2 b3 : Bool} → farInfo i ≡ b1 → shortInfo i (orderOf p) ≡ b2 →
-    (finiteInfo i (orderOf p) && finite u && finite s && finite c) ≡ b3 →
+    finiteInputs i (orderOf p) u s c ≡ b3 →
     tested Refused b1 b2 b3 (returnedVector (partialBy p i u s c)) ≡ partialAnswer (partialBy p) (orderOf p) i u s c
 partial-asked p i u s c =
-    as-tested Refused (returnedVector (partialBy p i u s c)) (farInfo i) (shortInfo i (orderOf p)) (finiteInfo i (orderOf p) && finite u && finite s && finite c)
+    as-tested Refused (returnedVector (partialBy p i u s c)) (farInfo i) (shortInfo i (orderOf p)) (finiteInputs i (orderOf p) u s c)
 
 pub edge-asked : (p : EdgePartial) (f : RollingBallFilletSurface) (cc : ContactCircle) (angle u s c : Float) {b2 b3 : Bool} → short f (suc (orderOf p)) ≡ b2 →
     (finiteGiven f cc (suc (orderOf p)) && finiteFloats angle u s c) ≡ b3 →

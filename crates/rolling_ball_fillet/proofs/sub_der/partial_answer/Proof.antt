@@ -1,11 +1,9 @@
 -- `partial_answer` meets its contract: each arm returns what the tests pick. Assumes nothing.
 use borrow.Author.Needs.{needs}
 use mathlib.Core.Path.{refl, sym, ap, _∙_}
-use mathlib.Core.Bool.{_&&_}
 use Prim.Native.Nat.{ℕ}
-use lib.Ieee.Scale.{finite}
 use Rattle.vectors.proofs.Picked.{vector-from}
-use Rattle.rolling_ball_fillet.specs.PartialAnswer.{finiteInfo, shortInfo}
+use Rattle.rolling_ball_fillet.specs.PartialAnswer.{shortInfo, finiteInputs}
 use Rattle.rolling_ball_fillet.proofs.Tested.{partial-asked}
 use Rattle.rolling_ball_fillet.proofs.sub_der.partial_answer.Statement.{statement}
 use Rattle.rolling_ball_fillet.proofs.sub_der.partial_answer.Tie as tie
@@ -44,7 +42,7 @@ returns-3 : tie.Need-returns-3
 returns-3 c =
     let a = c .before .before .before .before .before .before .before .before .args in
     let n = c .before .before .before .before .before .before .before .order .ensures .0 in
-    let inputs = c .before .before .finite-inputs .ensures ∙ ap (λ (k : ℕ). finiteInfo (a .i) k && finite (a .u) && finite (a .s) && finite (a .c)) n in
+    let inputs = c .before .before .finite-inputs .ensures ∙ ap (λ (k : ℕ). finiteInputs (a .i) k (a .u) (a .s) (a .c)) n in
     c .vector-from .ensures ∙ vector-from inputs (c .before .partial .ensures)
     ∙ partial-asked (a .p) (a .i) (a .u) (a .s) (a .c) (sym (c .before .before .before .before .before .before .far-info .ensures) ∙ c .before .before .before .before .before .if1 .left)
     (sym (c .before .before .before .before .short-info .ensures ∙ ap (shortInfo (a .i)) n) ∙ c .before .before .before .if2 .left) refl
