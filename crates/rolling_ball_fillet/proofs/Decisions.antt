@@ -5,7 +5,6 @@ use Prim.Native.Nat.{ℕ, _≤_}
 use borrow.Author.Tests.{le-leb, leb-true, eq-eqb, eqb-true}
 use lib.Dec.{leb, eqb}
 use Rattle.rolling_ball_fillet.specs.declared.sub_der.EdgePartial.the-variants as along
-use Rattle.rolling_ball_fillet.specs.declared.sub_der.Decision.{Decision}
 use Rattle.rolling_ball_fillet.specs.declared.sub_der.Decision.the-variants.{Arc, Edge, Unserved}
 use Rattle.rolling_ball_fillet.specs.SubDer.{decided}
 

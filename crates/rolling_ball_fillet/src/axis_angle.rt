@@ -1,7 +1,7 @@
 // How the circle's axis and angle move along the edge. A NaN or an infinity passes through; a division by zero is 7. Each `requires` is met
 // by the callers.
 ghost use mathlib.Core.Path.{_≡_};
-ghost use Prim.Native.Nat.{suc, _≤_, _<_};
+ghost use Prim.Native.Nat.{_≤_, _<_};
 ghost use Rattle.calculus.specs.Array.{filled, curveArray};
 ghost use Rattle.derivatives.specs.Real.{nil};
 ghost use Rattle.derivatives.specs.Answer.{curveNumbers};

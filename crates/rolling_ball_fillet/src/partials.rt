@@ -1,8 +1,8 @@
 // The fillet's partial derivatives by v, by u and v, and twice by v. A NaN or an infinity passes through.
 ghost use mathlib.Core.Path.{_≡_};
-ghost use Prim.Native.Nat.{ℕ, _+_, _≤_};
+ghost use Prim.Native.Nat.{_+_, _≤_};
 ghost use Rattle.vectors.specs.Matrices.{sum3};
-ghost use Rattle.calculus.specs.InTurn.{inTurn, inRows};
+ghost use Rattle.calculus.specs.InTurn.{inTurn};
 ghost use Rattle.rolling_ball_fillet.specs.Partials.{parameter as parameterAt, times-in, byOne, byTwo, oneTerm, twoTerm, oneTerms, twoTerms, turnV, turnByAxis, turnByAngle};
 ghost use Rattle.rolling_ball_fillet.specs.Partials.{byV, byUV, byVV, armAt, centerAt, derivativeV, derivativeUV, derivativeVV};
 use crate::VderInfo;
