@@ -4,7 +4,7 @@ use mathlib.Core.List.{List, [], _∷_, _++_}
 use Prim.Native.Nat.{ℕ, _^_, _-_}
 use lib.IntN.{ℤ, pos}
 use lib.ListN.{replicate}
-use lib.Ieee.{Float, binary64, ofBits, ofInt, add, sub, mul, div, neg, eq}
+use lib.Ieee.{ofBits, ofInt, add, sub, mul, div, neg, eq}
 use Rattle.partitions.specs.Parts.{total, fact, parts, lists, divide, runsFrom, runs, multiplicity}
 use Rattle.partitions.specs.Count.{counted, falls, totalCount}
 use Rattle.partitions.specs.Walk.{started}
@@ -30,6 +30,7 @@ use Rattle.exact.specs.Composite.{alongCurveAt, alongCurve}
 use Rattle.ieee.specs.SquareRoot.{squareRoot}
 use Rattle.vectors.specs.Vectors.{vector}
 use Rattle.vectors.specs.Matrices.{columns}
+use Rattle.vectors.proofs.Floats.{minusOne, one, three, four, five, seven}
 use Rattle.derivatives.specs.Real.{nil}
 use Rattle.derivatives.specs.Vector.{allVectorsFinite}
 use Rattle.derivatives.specs.Answer.{allFinite}
@@ -129,24 +130,6 @@ unfolding unlessRefused formed listed index throughLen alongList inTurn factors 
 carried-608 = refl
 
 -- ---- floats: `absolute_derivatives`, `from_axis_angle`
-
-abbrev one : Float
-one = ofBits binary64 0x3FF0_0000_0000_0000
-
-abbrev minusOne : Float
-minusOne = ofBits binary64 0xBFF0_0000_0000_0000
-
-abbrev three : Float
-three = ofBits binary64 0x4008_0000_0000_0000
-
-abbrev four : Float
-four = ofBits binary64 0x4010_0000_0000_0000
-
-abbrev five : Float
-five = ofBits binary64 0x4014_0000_0000_0000
-
-abbrev seven : Float
-seven = ofBits binary64 0x401C_0000_0000_0000
 
 -- the vectors (3,4,0), (5,5,0) have the norm jet (5, 7)
 pub norm-5-7 : vectorAbsolute (record { order = 1; entries = three ∷ four ∷ nil ∷ five ∷ five ∷ nil ∷ replicate 57 nil })

@@ -1,10 +1,10 @@
 -- The small inputs of document 01's refusal table, each as what a public function's contract says of it. By computation; assumes nothing.
 use mathlib.Core.Path.{_≡_, refl}
-use mathlib.Core.List.{List, [], _∷_, _++_}
+use mathlib.Core.List.{List, [], _∷_}
 use Prim.Native.Nat.{ℕ}
 use lib.IntN.{ℤ, pos}
 use lib.ListN.{replicate}
-use lib.Ieee.{Float, binary64, ofBits, ofInt, add, mul}
+use lib.Ieee.{Float, ofBits, ofInt, add, mul}
 use Rattle.partitions.specs.Walk.{started}
 use Rattle.whole.specs.Checked.{formed, divided}
 use Rattle.calculus.specs.InTurn.{inTurn}
@@ -19,6 +19,7 @@ use Rattle.roads.specs.declared.Step.{Step}
 use Rattle.roads.specs.declared.Operation.the-variants.{Sum}
 use Rattle.roads.specs.Recipe.{namesEarlier, someAbove20}
 use Rattle.roads.specs.Roads.{builtSurface}
+use Rattle.vectors.proofs.Floats.{huge}
 use Rattle.derivatives.specs.declared.CurveDerivatives.{CurveDerivatives}
 use Rattle.derivatives.specs.Real.{nil, real}
 use Rattle.derivatives.specs.Answer as floats
@@ -45,6 +46,8 @@ pub names-5 : builtSurface (record { inputs = 1; surfaces = replicate 4 given; s
 unfolding namesEarlier someAbove20
 names-5 = refl
 
+-- 5 and 6 are `radius-nan` and `normals-equal` of rolling_ball_fillet/proofs/CenterFigures.antt
+
 -- 7: (4)/(0)
 pub by-zero : onCurves (quotient checked) (jet 0 (pos 4 ∷ [])) (jet 0 (pos 0 ∷ [])) ≡ refusedCurve 7
 unfolding choose inTurn before formed divided unlessRefused listed
@@ -58,12 +61,11 @@ with-remainder = refl
 -- 9 is `times-two` of the figures
 
 -- 10: 1e308 times 1e308
-abbrev huge : Float
-huge = ofBits binary64 0x7FE1_CCF3_85EB_C8A0
-
 abbrev single : Float → CurveDerivatives
 single x = record { order = 0; entries = x ∷ replicate 20 nil }
 
 pub overflow : floats.onCurves (floats.byFormula (product real)) (single huge) (single huge) ≡ floats.refusedCurve 10
 unfolding choose inTurn add mul ofBits ofInt floats.allFinite
 overflow = refl
+
+-- 11 is `pair-2-1` of rolling_ball_fillet/proofs/PartialFigures.antt

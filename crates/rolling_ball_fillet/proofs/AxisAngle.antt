@@ -1,13 +1,12 @@
 -- The formulas of axis and angle read of the entries before theirs only those that are formed, and of jets only the orders up to theirs.
 -- Assumes nothing.
-use mathlib.Core.Path.{_≡_, refl, sym, ap, ap₂, _∙_}
+use mathlib.Core.Path.{_≡_, refl, ap, ap₂, _∙_}
 use mathlib.Core.Bool.{cond}
 use mathlib.Core.List.{List}
 use Prim.Native.Nat.{ℕ, zero, suc, _+_, _≤_, _<_, zero-le}
 use native.Mathlib.Nat.{le-refl, not-suc-le-zero}
 use native.Mathlib.Numerals.{add-one}
 use native.Mathlib.Omega.{arith}
-use borrow.Author.Tests.{le-ltb}
 use lib.Dec.{ltb}
 use lib.ListN.{replicate}
 use lib.Ieee.{Float, nan}
@@ -20,7 +19,6 @@ use Rattle.calculus.specs.Curve.{product}
 use Rattle.calculus.proofs.UpTo.{CurvesAgree, productBy-upto, product-upto}
 use Rattle.calculus.proofs.Filling.{curve-earlier}
 use Rattle.ieee.specs.SquareRoot.{squareRoot}
-use Rattle.ieee.proofs.Tests.{second}
 use Rattle.derivatives.specs.Real.{nil, real}
 use Rattle.derivatives.specs.Answer.{curveNumbers}
 use Rattle.derivatives.specs.Rational.{rational}
@@ -31,7 +29,8 @@ use Rattle.derivatives.proofs.Quotients.{all-alike}
 use Rattle.derivatives.proofs.Upto.{rational-upto, norm-upto}
 use Rattle.rolling_ball_fillet.specs.Rotation.{two}
 use Rattle.rolling_ball_fillet.specs.AxisAngle.{crosses, lengths, axes, dots, rateEntry, rates, turnEntry, turns, angles, cosine, divisionByZero}
-use Rattle.rolling_ball_fillet.proofs.Filled.{filled-upto, vectors-upto, numbers-agree, vectors-agree}
+use Rattle.rolling_ball_fillet.proofs.Entries.{served, numbers-agree, vectors-agree}
+use Rattle.rolling_ball_fillet.proofs.Filled.{filled-upto, vectors-upto}
 
 -- ---- from the entries before
 rate-reads : (r p q : ℕ → Float) (m : ℕ) → CurvesAgree m p q → rateEntry r p m ≡ rateEntry r q m
@@ -94,7 +93,7 @@ module _ (p q : ℕ → Vector3) (n : ℕ) (h : n ≤ 20) {pa qa xa la : List Fl
 
   lengths-held : CurvesAgree n (curveNumbers la) (lengths p q)
   lengths-held i l =
-      numbers-agree (vectorNorm (vectorNumbers xa)) n h (el ∙ second (replicate 21 nil) (curveArray nil (vectorNorm (vectorNumbers xa)) n) (le-ltb 20 n h)) i l
+      numbers-agree (vectorNorm (vectorNumbers xa)) n h (el ∙ served 20 n (replicate 21 nil) (curveArray nil (vectorNorm (vectorNumbers xa)) n) h) i l
       ∙ norm-upto real squareRoot dot n crosses-held i l
 
   pub division-is : (r : Float) → divisionByZero (curveNumbers la 0) r ≡ divisionByZero (lengths p q 0) r
@@ -102,7 +101,7 @@ module _ (p q : ℕ → Vector3) (n : ℕ) (h : n ≤ 20) {pa qa xa la : List Fl
 
   pub axis-is : {a : List Float} → a ≡ cond (ltb 20 n) (replicate 63 nil) (vectorArray (rational vectors quotient (vectorNumbers xa) (curveNumbers la)) n) → a ≡ vectorArray (axes p q) n
   axis-is e =
-      e ∙ second (replicate 63 nil) (vectorArray (rational vectors quotient (vectorNumbers xa) (curveNumbers la)) n) (le-ltb 20 n h)
+      e ∙ served 20 n (replicate 63 nil) (vectorArray (rational vectors quotient (vectorNumbers xa) (curveNumbers la)) n) h
       ∙ vectors-upto (rational vectors quotient (vectorNumbers xa) (curveNumbers la)) (axes p q) n (rational-upto vectors quotient n crosses-held lengths-held)
 
   pub angle-is : (angle : Float) (rate : ℕ → Float) {a : List Float} →

@@ -1,6 +1,6 @@
 -- Document 01's small inputs for the refusals of the centre and the contacts. Assumes nothing.
 use mathlib.Core.Path.{_≡_, refl, sym, ap, _∙_}
-use mathlib.Core.Bool.{Bool, true, false, _&&_}
+use mathlib.Core.Bool.{true, false, and-false}
 use Prim.Native.Nat.{ℕ, suc, _+_, _≤_}
 use native.Mathlib.Omega.{arith}
 use borrow.Author.Tests.{ne-eqb}
@@ -8,33 +8,25 @@ use lib.Ieee.{nan, ofBits, add, sub, mul, eq}
 use lib.Ieee.Scale.{finite}
 use Rattle.vectors.specs.Vectors.{vector}
 use Rattle.vectors.specs.Matrices.{columns, transposed, determinant3}
-use Rattle.vectors.specs.Answers.{nought, finiteVector}
+use Rattle.vectors.specs.Answers.{nought}
 use Rattle.vectors.specs.declared.Vector3.{Vector3}
 use Rattle.derivatives.specs.Real.{isZero}
 use Rattle.derivatives.specs.Answer.{finiteCurve}
-use Rattle.derivatives.specs.Vector.{finiteVectors, finiteVectorSurface}
 use Rattle.derivatives.proofs.Finite.{stop}
 use Rattle.rolling_ball_fillet.specs.Rotation.{one}
-use Rattle.rolling_ball_fillet.specs.Answers.{finiteCircle}
-use Rattle.rolling_ball_fillet.specs.Center.{edge, radii, first, second, planes, refusedContacts, beyond, short, finiteGiven, returnedContacts, centerContactAnswer}
+use Rattle.rolling_ball_fillet.specs.Center.{edge, radii, planes, refusedContacts, beyond, short, finiteGiven, returnedContacts, centerContactAnswer}
 use Rattle.rolling_ball_fillet.specs.declared.ContactCircle.{ContactCircle}
 use Rattle.rolling_ball_fillet.specs.declared.RollingBallFilletSurface.{RollingBallFilletSurface}
 use Rattle.rolling_ball_fillet.specs.declared.CenterContactAnswer.{CenterContactAnswer}
 use Rattle.rolling_ball_fillet.proofs.Tested.{solved, asked, within, refused-stays}
-
-third-not : (a e s : Bool) {r : Bool} → r ≡ false → (a && ((e && r) && s)) ≡ false
-third-not true true s h = ap (λ (r : Bool). r && s) h
-third-not true false s h = refl
-third-not false e s h = refl
 
 -- ---- 5: a radius that is NaN, of any order up to n + 1
 pub radius-nan : (f : RollingBallFilletSurface) (cc : ContactCircle) (n k : ℕ) → beyond f n ≡ false → short f (n + 1) ≡ false →
     k ≤ n + 1 → radii f k ≡ nan → centerContactAnswer f cc n ≡ refusedContacts 5
 radius-nan f cc n k b s l e =
     let r : finiteCurve (radii f) (n + 1) ≡ false = sym (stop (radii f) (suc (n + 1)) (omega arith) (ap finite e)) in
-    sym (asked f cc n b s
-    (third-not (finiteCircle cc && (finiteVector (f .normal0) && finiteVector (f .normal1))) (finiteVectors (edge f) (n + 1))
-    (finiteVectorSurface (first f) (n + 1) && finiteVectorSurface (second f) (n + 1)) r))
+    let g : finiteGiven f cc (n + 1) ≡ false = simp (r, and-false) in
+    sym (asked f cc n b s g)
 
 -- ---- 6: both normals equal. Here the edge goes along x, and both normals are (0, 0, 1)
 abbrev x-axis : Vector3

@@ -1,16 +1,12 @@
 -- What the decision over a pair of orders is, from what is known of the two numbers. Assumes nothing.
 use mathlib.Core.Path.{_≡_, refl, sym}
-use mathlib.Core.Bool.{Bool, true, false, cond, _&&_, _||_}
+use mathlib.Core.Bool.{Bool, true, false, cond, _&&_}
 use Prim.Native.Nat.{ℕ, _≤_}
-use borrow.Author.Tests.{ltb-false, le-leb, leb-true, eq-eqb, eqb-true}
-use lib.Dec.{ltb, leb, eqb}
-use Rattle.derivatives.specs.VectorAnswer.{far}
+use borrow.Author.Tests.{le-leb, leb-true, eq-eqb, eqb-true}
+use lib.Dec.{leb, eqb}
 use Rattle.rolling_ball_fillet.specs.declared.sub_der.EdgePartial.the-variants as along
-use Rattle.rolling_ball_fillet.specs.declared.sub_der.Decision.{Decision}
 use Rattle.rolling_ball_fillet.specs.declared.sub_der.Decision.the-variants.{Arc, Edge, Unserved}
-use Rattle.rolling_ball_fillet.specs.declared.RollingBallFilletSurface.{RollingBallFilletSurface}
-use Rattle.rolling_ball_fillet.specs.SubDer.{decided, farPair}
-use Rattle.rolling_ball_fillet.proofs.Tests.{or-left, or-right}
+use Rattle.rolling_ball_fillet.specs.SubDer.{decided}
 
 -- two numbers that are known
 pub at : {m n p q : ℕ} → m ≡ p → n ≡ q → decided p q ≡ decided m n
@@ -34,19 +30,3 @@ unserved m n f g h k =
     let c = neither (eqb m 1) (eqb n 1) (λ p q. h (eqb-true m 1 p) (eqb-true n 1 q)) in
     let d = neither (eqb m 0) (eqb n 2) (λ p q. k (eqb-true m 0 p) (eqb-true n 2 q)) in
     sym (λ i. cond (a i) Arc (cond (b i) (Edge along.V) (cond (c i) (Edge along.Uv) (cond (d i) (Edge along.Vv) Unserved))))
-
--- ---- the orders of the jets, once none of them is above 20
-module _ (f : RollingBallFilletSurface) (m n : ℕ) (e : farPair f m n ≡ false) where
-  curves : far (f .«edge_curve» .order) (f .radius .order) ≡ false
-  curves = or-left (far (f .«edge_curve» .order) (f .radius .order)) (far (f .surface0 .order) (f .surface1 .order)) (or-right (far m n) (far (f .«edge_curve» .order) (f .radius .order) || far (f .surface0 .order) (f .surface1 .order)) e)
-
-  surfaces : far (f .surface0 .order) (f .surface1 .order) ≡ false
-  surfaces = or-right (far (f .«edge_curve» .order) (f .radius .order)) (far (f .surface0 .order) (f .surface1 .order)) (or-right (far m n) (far (f .«edge_curve» .order) (f .radius .order) || far (f .surface0 .order) (f .surface1 .order)) e)
-
-  pub orders-within : (f .«edge_curve» .order ≤ 20) × (f .radius .order ≤ 20) × (f .surface0 .order ≤ 20) × (f .surface1 .order ≤ 20)
-  orders-within = (
-    ltb-false 20 (f .«edge_curve» .order) (or-left (ltb 20 (f .«edge_curve» .order)) (ltb 20 (f .radius .order)) curves),
-    ltb-false 20 (f .radius .order) (or-right (ltb 20 (f .«edge_curve» .order)) (ltb 20 (f .radius .order)) curves),
-    ltb-false 20 (f .surface0 .order) (or-left (ltb 20 (f .surface0 .order)) (ltb 20 (f .surface1 .order)) surfaces),
-    ltb-false 20 (f .surface1 .order) (or-right (ltb 20 (f .surface0 .order)) (ltb 20 (f .surface1 .order)) surfaces),
-  )

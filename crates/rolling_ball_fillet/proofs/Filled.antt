@@ -1,28 +1,39 @@
--- An array that is filled up to an order, read again: up to that order it holds the entries, and other entries that agree so far fill it the same
--- way. Assumes nothing.
-use mathlib.Core.Path.{_≡_, refl, ap, _∙_, fun-ext}
+-- Arrays as loops fill them; entries that agree up to an order fill one the same way; and equal parts make equal records of jets. Assumes nothing.
+use mathlib.Core.Path.{_≡_, refl, sym, ap, fun-ext}
 use mathlib.Core.Bool.{Bool, true, false, cond}
 use mathlib.Core.List.{List}
-use Prim.Native.Nat.{ℕ, suc, _≤_, _<_}
+use Prim.Native.Nat.{ℕ, suc, _+_, _<_}
 use native.Mathlib.Omega.{arith}
-use borrow.Author.Tests.{lt-ltb, ltb-true}
+use borrow.Author.Tests.{ltb-true}
 use lib.Dec.{ltb}
+use lib.ListN.{set, replicate}
 use lib.Ieee.{Float, nan}
 use Rattle.calculus.specs.Array.{listed, filled}
-use Rattle.calculus.proofs.Filling.{filled-at}
+use Rattle.calculus.proofs.Filling.{curve-none, curve-more, curve-all}
 use Rattle.calculus.proofs.UpTo.{CurvesAgree}
 use Rattle.vectors.specs.declared.Vector3.{Vector3}
 use Rattle.derivatives.specs.Real.{nil}
-use Rattle.derivatives.specs.Answer.{curveNumbers}
-use Rattle.derivatives.specs.Vector.{origin, vectorNumbers, vectorArray, flat}
+use Rattle.derivatives.specs.Vector.{origin, vectorArray, flat}
+use Rattle.derivatives.proofs.Curves.{CurveFilled}
 use Rattle.derivatives.specs.declared.CurveDerivatives.{CurveDerivatives}
 use Rattle.derivatives.specs.declared.ParameterCurve.{ParameterCurve}
 use Rattle.derivatives.specs.declared.VectorCurveDerivatives.{VectorCurveDerivatives}
-use Rattle.rolling_ball_fillet.proofs.Entries.{vectors-at, numbers-at}
-use Rattle.rolling_ball_fillet.specs.PartialAnswer.{noNumbers}
+use Rattle.rolling_ball_fillet.specs.Jets.{noNumbers}
 use Rattle.rolling_ball_fillet.specs.declared.CenterContactDers.{CenterContactDers}
 use Rattle.rolling_ball_fillet.specs.declared.VderInfoAnswer.{VderInfoAnswer}
 
+-- ---- a loop that fills an array of floats, as derivatives/proofs/Vectors.antt has it for vectors
+module _ (f : ℕ → Float) where
+  pub numbers-none : CurveFilled f 0 (replicate 21 nil)
+  numbers-none = curve-none 21 nan nil (λ k v. f k ≡ v)
+
+  pub numbers-more : {r : List Float} {m : ℕ} (v : Float) → CurveFilled f m r → m < 21 → f m ≡ v → CurveFilled f (m + 1) (set r m v)
+  numbers-more = curve-more 21 nan nil (λ k v. f k ≡ v)
+
+  pub numbers-all : {r : List Float} (n : ℕ) {m : ℕ} → CurveFilled f m r → m ≡ n → r ≡ filled 21 nil f n
+  numbers-all = curve-all 21 nan nil (λ k v. f k ≡ v) f (λ k v e. sym e)
+
+-- ---- entries that agree up to an order
 pub filled-upto : {X : Type 0} (w : ℕ) (blank : X) (f g : ℕ → X) (n : ℕ) → ((k : ℕ) → k < n → f k ≡ g k) → filled w blank f n ≡ filled w blank g n
 filled-upto {X} w blank f g n h = ap (λ (x : ℕ → X). listed x 0 w) (fun-ext (λ k. go k (ltb k n) refl))
   where
@@ -32,17 +43,6 @@ filled-upto {X} w blank f g n h = ap (λ (x : ℕ → X). listed x 0 w) (fun-ext
 
 pub vectors-upto : (f g : ℕ → Vector3) (n : ℕ) → CurvesAgree n f g → vectorArray f n ≡ vectorArray g n
 vectors-upto f g n h = ap flat (filled-upto 21 origin f g (suc n) (λ k l. h k (omega arith)))
-
--- what is read
-pub numbers-held : (f : ℕ → Float) (n : ℕ) → n ≤ 21 → {r : List Float} → r ≡ filled 21 nil f n → (k : ℕ) → k < n → curveNumbers r k ≡ f k
-numbers-held f n l e k h =
-    ap (λ (x : List Float). curveNumbers x k) e ∙ filled-at 21 nan nil f n k (omega arith) ∙ ap (λ (b : Bool). cond b (f k) nil) (lt-ltb k n h)
-
-pub numbers-agree : (f : ℕ → Float) (n : ℕ) → n ≤ 20 → {r : List Float} → r ≡ filled 21 nil f (suc n) → CurvesAgree n (curveNumbers r) f
-numbers-agree f n l e k h = ap (λ (x : List Float). curveNumbers x k) e ∙ numbers-at f n k l h
-
-pub vectors-agree : (f : ℕ → Vector3) (n : ℕ) → n ≤ 20 → {r : List Float} → r ≡ vectorArray f n → CurvesAgree n (vectorNumbers r) f
-vectors-agree f n l e k h = ap (λ (x : List Float). vectorNumbers x k) e ∙ vectors-at f n k l h
 
 -- ---- records of jets whose parts are the same
 abbrev pub vectorJet : ℕ → List Float → VectorCurveDerivatives

@@ -27,8 +27,8 @@ three-tests true true false f = refl
 three-tests true true true f = absurd (f refl refl refl)
 
 -- orders of another total are other orders
-apart : (x y z p q r : ℕ) → p + q + r < x + y + z → same x y z p q r ≡ false
-apart x y z p q r h =
+other-total : (x y z p q r : ℕ) → p + q + r < x + y + z → same x y z p q r ≡ false
+other-total x y z p q r h =
     three-tests (eqb x p) (eqb y q) (eqb z r)
     (λ e f g.
     let ex = eqb-true x p e in
@@ -47,14 +47,14 @@ module _ (a : Vector3) (s c k : Float) where
   -- the third derivative by the axis is zero, and each after it
   pub third : (x y z : ℕ) → 3 ≤ x + y + z → zeros ≡ byAxis x y z a s c k
   third x y z h =
-      let e000 : same x y z 0 0 0 ≡ false = apart x y z 0 0 0 (omega (arith, h)) in
-      let e100 : same x y z 1 0 0 ≡ false = apart x y z 1 0 0 (omega (arith, h)) in
-      let e010 : same x y z 0 1 0 ≡ false = apart x y z 0 1 0 (omega (arith, h)) in
-      let e001 : same x y z 0 0 1 ≡ false = apart x y z 0 0 1 (omega (arith, h)) in
-      let e200 : same x y z 2 0 0 ≡ false = apart x y z 2 0 0 (omega (arith, h)) in
-      let e020 : same x y z 0 2 0 ≡ false = apart x y z 0 2 0 (omega (arith, h)) in
-      let e002 : same x y z 0 0 2 ≡ false = apart x y z 0 0 2 (omega (arith, h)) in
-      let e011 : same x y z 0 1 1 ≡ false = apart x y z 0 1 1 (omega (arith, h)) in
-      let e101 : same x y z 1 0 1 ≡ false = apart x y z 1 0 1 (omega (arith, h)) in
-      let e110 : same x y z 1 1 0 ≡ false = apart x y z 1 1 0 (omega (arith, h)) in
+      let e000 : same x y z 0 0 0 ≡ false = other-total x y z 0 0 0 (omega (arith, h)) in
+      let e100 : same x y z 1 0 0 ≡ false = other-total x y z 1 0 0 (omega (arith, h)) in
+      let e010 : same x y z 0 1 0 ≡ false = other-total x y z 0 1 0 (omega (arith, h)) in
+      let e001 : same x y z 0 0 1 ≡ false = other-total x y z 0 0 1 (omega (arith, h)) in
+      let e200 : same x y z 2 0 0 ≡ false = other-total x y z 2 0 0 (omega (arith, h)) in
+      let e020 : same x y z 0 2 0 ≡ false = other-total x y z 0 2 0 (omega (arith, h)) in
+      let e002 : same x y z 0 0 2 ≡ false = other-total x y z 0 0 2 (omega (arith, h)) in
+      let e011 : same x y z 0 1 1 ≡ false = other-total x y z 0 1 1 (omega (arith, h)) in
+      let e101 : same x y z 1 0 1 ≡ false = other-total x y z 1 0 1 (omega (arith, h)) in
+      let e110 : same x y z 1 1 0 ≡ false = other-total x y z 1 1 0 (omega (arith, h)) in
       simp (e000, e100, e010, e001, e200, e020, e002, e011, e101, e110)

@@ -5,7 +5,6 @@ use lib.Dec.{leb}
 use lib.Ieee.{Float}
 use lib.Ieee.Scale.{finite}
 use Rattle.vectors.specs.Answers.{finiteVector, vectorFrom, refused3, returned3}
-use Rattle.vectors.specs.declared.Vector2.{Vector2}
 use Rattle.vectors.specs.declared.Vector3.{Vector3}
 use Rattle.vectors.specs.declared.VectorAnswer.{VectorAnswer}
 use Rattle.vectors.specs.declared.VectorAnswer.the-variants.{Refused}

@@ -4,7 +4,6 @@ use mathlib.Core.Bool.{Bool, cond, _&&_, _||_}
 use mathlib.Core.List.{List}
 use Prim.Native.Nat.{ℕ, zero, suc, _+_, _-_}
 use lib.Dec.{ltb, eqb}
-use lib.ListN.{replicate}
 use lib.Ieee.{Float}
 use Rattle.vectors.specs.Vectors.{minus, vector, dot}
 use Rattle.vectors.specs.Matrices.{columns, transposed, determinant2, determinant3, inverse3, image3}
@@ -13,11 +12,12 @@ use Rattle.vectors.specs.declared.Vector3.{Vector3}
 use Rattle.vectors.specs.declared.Matrix3.{Matrix3}
 use Rattle.calculus.specs.Kind.{regular}
 use Rattle.calculus.specs.Curve.{derivative, difference, productBy}
-use Rattle.derivatives.specs.Real.{nil, real, isZero}
+use Rattle.derivatives.specs.Real.{real, isZero}
 use Rattle.derivatives.specs.Answer.{curveNumbers, finiteCurve}
 use Rattle.derivatives.specs.Vector.{vectors, vectorNumbers, vectorSurfaceNumbers, finiteVectors, finiteVectorSurface}
 use Rattle.derivatives.specs.VectorAnswer.{tested, far}
 use Rattle.rolling_ball_fillet.specs.Answers.{finiteCircle}
+use Rattle.rolling_ball_fillet.specs.Jets.{noDers, finiteJet, finiteParameter}
 use Rattle.rolling_ball_fillet.specs.SurfaceInfo.{put, begun, initial, apart, form, routine}
 use Rattle.rolling_ball_fillet.specs.declared.ContactCircle.{ContactCircle}
 use Rattle.rolling_ball_fillet.specs.declared.RollingBallFilletSurface.{RollingBallFilletSurface}
@@ -92,16 +92,7 @@ answeredContacts n k = record {
 }
 
 abbrev pub refusedContacts : ℕ → CenterContactAnswer
-refusedContacts c = record {
-  refusal = c;
-  ders = record {
-    «center_ders» = record { order = 0; entries = replicate 63 nil };
-    «contact0_ders» = record { order = 0; entries = replicate 63 nil };
-    «contact1_ders» = record { order = 0; entries = replicate 63 nil };
-    «uv0_ders» = record { order = 0; u = replicate 21 nil; v = replicate 21 nil };
-    «uv1_ders» = record { order = 0; u = replicate 21 nil; v = replicate 21 nil };
-  };
-}
+refusedContacts c = record { refusal = c; ders = noDers }
 
 -- ---- 6 and 7. Every order inverts the same matrices and divides by the same entries of order 0 (proofs/Untouched.antt), first for the centre, then
 -- for each surface: so the order 1 meets the first zero, if there is one, and without the order 1 nothing is inverted or divided.
@@ -121,24 +112,33 @@ centerContacts f cc n =
     cond (eqb n 0) r (ifSolvable f (start f cc) r)
 
 -- ---- the tests before the work: the jets have the order n + 1 or more, and are finite up to it
+abbrev pub farJets : RollingBallFilletSurface → Bool
+farJets f = far (f .«edge_curve» .order) (f .radius .order) || far (f .surface0 .order) (f .surface1 .order)
+
 abbrev pub beyond : RollingBallFilletSurface → ℕ → Bool
-beyond f n = ltb 19 n || (far (f .«edge_curve» .order) (f .radius .order) || far (f .surface0 .order) (f .surface1 .order))
+beyond f n = ltb 19 n || farJets f
 
 abbrev pub short : RollingBallFilletSurface → ℕ → Bool
 short f n = (ltb (f .«edge_curve» .order) n || ltb (f .radius .order) n) || (ltb (f .surface0 .order) n || ltb (f .surface1 .order) n)
 
-abbrev pub finiteGiven : RollingBallFilletSurface → ContactCircle → ℕ → Bool
-finiteGiven f cc n =
+-- the edge up to the order e, the radius up to r, and the surfaces up to s and t
+abbrev pub finiteUpTo : RollingBallFilletSurface → ContactCircle → (e r s t : ℕ) → Bool
+finiteUpTo f cc e r s t =
     (finiteCircle cc && (finiteVector (f .normal0) && finiteVector (f .normal1)))
-    && ((finiteVectors (edge f) n && finiteCurve (radii f) n) && (finiteVectorSurface (first f) n && finiteVectorSurface (second f) n))
+    && ((finiteVectors (edge f) e && finiteCurve (radii f) r) && (finiteVectorSurface (first f) s && finiteVectorSurface (second f) t))
+
+abbrev pub finiteGiven : RollingBallFilletSurface → ContactCircle → ℕ → Bool
+finiteGiven f cc n = finiteUpTo f cc n n n n
+
+-- all entries
+abbrev pub finiteWhole : RollingBallFilletSurface → ContactCircle → Bool
+finiteWhole f cc = finiteUpTo f cc (f .«edge_curve» .order) (f .radius .order) (f .surface0 .order) (f .surface1 .order)
 
 -- ---- and after it: refused jets are finite, and stay what they are
 abbrev pub finiteContacts : CenterContactDers → ℕ → Bool
 finiteContacts d n =
-    (finiteVectors (vectorNumbers (d .«center_ders» .entries)) n
-    && (finiteVectors (vectorNumbers (d .«contact0_ders» .entries)) (n + 1) && finiteVectors (vectorNumbers (d .«contact1_ders» .entries)) (n + 1)))
-    && ((finiteCurve (curveNumbers (d .«uv0_ders» .u)) (n + 1) && finiteCurve (curveNumbers (d .«uv0_ders» .v)) (n + 1))
-    && (finiteCurve (curveNumbers (d .«uv1_ders» .u)) (n + 1) && finiteCurve (curveNumbers (d .«uv1_ders» .v)) (n + 1)))
+    (finiteJet (d .«center_ders») n && (finiteJet (d .«contact0_ders») (n + 1) && finiteJet (d .«contact1_ders») (n + 1)))
+    && (finiteParameter (d .«uv0_ders») (n + 1) && finiteParameter (d .«uv1_ders») (n + 1))
 
 abbrev pub returnedContacts : CenterContactAnswer → ℕ → CenterContactAnswer
 returnedContacts a n = cond (finiteContacts (a .ders) n) a (refusedContacts 10)

@@ -1,8 +1,8 @@
--- The jets that stand for the ball's centre and contacts, read as functions of the order: cut to an order, and tested up to one. Assumes nothing.
+-- The jets that stand for the ball's centre and contacts: none beside a refusal, cut to an order, and tested up to one. Assumes nothing.
 use Prim.Native.Nat.{ℕ, suc}
-use mathlib.Core.Bool.{Bool, _||_}
+use mathlib.Core.Bool.{Bool, _&&_, _||_}
 use lib.Dec.{ltb}
-use lib.Ieee.{Float}
+use lib.ListN.{replicate}
 use Rattle.calculus.specs.Array.{curveArray}
 use Rattle.derivatives.specs.Real.{nil}
 use Rattle.derivatives.specs.Answer.{curveNumbers, finiteCurve}
@@ -11,6 +11,19 @@ use Rattle.derivatives.specs.declared.CurveDerivatives.{CurveDerivatives}
 use Rattle.derivatives.specs.declared.ParameterCurve.{ParameterCurve}
 use Rattle.derivatives.specs.declared.VectorCurveDerivatives.{VectorCurveDerivatives}
 use Rattle.rolling_ball_fillet.specs.declared.CenterContactDers.{CenterContactDers}
+
+-- ---- the zero jets of order 0, which stand beside a refusal
+abbrev pub noVectors : VectorCurveDerivatives
+noVectors = record { order = 0; entries = replicate 63 nil }
+
+abbrev pub noNumbers : CurveDerivatives
+noNumbers = record { order = 0; entries = replicate 21 nil }
+
+abbrev pub noParameter : ParameterCurve
+noParameter = record { order = 0; u = replicate 21 nil; v = replicate 21 nil }
+
+abbrev pub noDers : CenterContactDers
+noDers = record { «center_ders» = noVectors; «contact0_ders» = noVectors; «contact1_ders» = noVectors; «uv0_ders» = noParameter; «uv1_ders» = noParameter }
 
 -- ---- the entries up to the order n, and zeros past them
 abbrev pub cutVectors : VectorCurveDerivatives → ℕ → VectorCurveDerivatives
@@ -42,3 +55,6 @@ finiteJet a n = finiteVectors (vectorNumbers (a .entries)) n
 
 abbrev pub finiteNumbers : CurveDerivatives → ℕ → Bool
 finiteNumbers a n = finiteCurve (curveNumbers (a .entries)) n
+
+abbrev pub finiteParameter : ParameterCurve → ℕ → Bool
+finiteParameter a n = finiteCurve (curveNumbers (a .u)) n && finiteCurve (curveNumbers (a .v)) n

@@ -1,9 +1,9 @@
 pub mod Rotation
 pub mod Circle
 pub mod Answers
+pub mod Jets
 pub mod SurfaceInfo
 pub mod Center
-pub mod Jets
 pub mod AxisAngle
 pub mod Partials
 pub mod PartialAnswer

@@ -3,7 +3,6 @@
 use Prim.Native.Nat.{ℕ, suc}
 use mathlib.Core.Bool.{Bool, cond, _&&_, _||_}
 use lib.Dec.{ltb, eqb}
-use lib.ListN.{replicate}
 use lib.Ieee.{Float}
 use lib.Ieee.Scale.{finite}
 use Rattle.vectors.specs.declared.Vector3.{Vector3}
@@ -14,28 +13,14 @@ use Rattle.derivatives.specs.Real.{nil}
 use Rattle.derivatives.specs.Answer.{curveNumbers}
 use Rattle.derivatives.specs.VectorAnswer.{tested}
 use Rattle.derivatives.specs.declared.CurveDerivatives.{CurveDerivatives}
-use Rattle.derivatives.specs.declared.ParameterCurve.{ParameterCurve}
-use Rattle.derivatives.specs.declared.VectorCurveDerivatives.{VectorCurveDerivatives}
 use Rattle.rolling_ball_fillet.specs.Center.{finiteContacts}
-use Rattle.rolling_ball_fillet.specs.Jets.{farContacts, shortContacts, finiteJet, finiteNumbers}
+use Rattle.rolling_ball_fillet.specs.Jets.{noVectors, noNumbers, noDers, farContacts, shortContacts, finiteJet, finiteNumbers}
 use Rattle.rolling_ball_fillet.specs.AxisAngle.{arm0, arm1, lengths, divisionByZero, infoOf, cosine}
 use Rattle.rolling_ball_fillet.specs.declared.CenterContactDers.{CenterContactDers}
 use Rattle.rolling_ball_fillet.specs.declared.VderInfo.{VderInfo}
 use Rattle.rolling_ball_fillet.specs.declared.VderInfoAnswer.{VderInfoAnswer}
 
 -- ---- axis and angle
-abbrev pub noVectors : VectorCurveDerivatives
-noVectors = record { order = 0; entries = replicate 63 nil }
-
-abbrev pub noNumbers : CurveDerivatives
-noNumbers = record { order = 0; entries = replicate 21 nil }
-
-abbrev pub noParameter : ParameterCurve
-noParameter = record { order = 0; u = replicate 21 nil; v = replicate 21 nil }
-
-abbrev pub noDers : CenterContactDers
-noDers = record { «center_ders» = noVectors; «contact0_ders» = noVectors; «contact1_ders» = noVectors; «uv0_ders» = noParameter; «uv1_ders» = noParameter }
-
 abbrev pub refusedInfo : ℕ → VderInfoAnswer
 refusedInfo c = record { refusal = c; info = record { «cc_ders» = noDers; «axis_ders» = noVectors; «angle_ders» = noNumbers }; cosine = nil }
 
@@ -54,12 +39,20 @@ finiteInfo i n = finiteContacts (i .«cc_ders») n && finiteJet (i .«axis_ders�
 abbrev pub returnedInfo : VderInfoAnswer → ℕ → VderInfoAnswer
 returnedInfo a n = cond (eqb (a .refusal) 0) (cond (finiteInfo (a .info) n && finite (a .cosine)) a (refusedInfo 10)) a
 
+-- the tests before the work: the contacts, their parameters and the radius have the order n + 1 or more, and are finite up to it
+abbrev pub beyond : CenterContactDers → CurveDerivatives → ℕ → Bool
+beyond d r n = ltb 19 n || farContacts d || ltb 20 (r .order)
+
+abbrev pub short : CenterContactDers → CurveDerivatives → ℕ → Bool
+short d r k = shortContacts d k || ltb (r .order) k
+
+abbrev pub finiteGiven : CenterContactDers → CurveDerivatives → Float → ℕ → Bool
+finiteGiven d r angle n = finiteContacts d n && finiteNumbers r (suc n) && finite angle
+
 abbrev pub vderInfoAnswer : CenterContactDers → CurveDerivatives → Float → VderInfoAnswer
 vderInfoAnswer d r angle =
     let n = d .«center_ders» .order in
-    tested refusedInfo (ltb 19 n || farContacts d || ltb 20 (r .order)) (shortContacts d (suc n) || ltb (r .order) (suc n))
-    (finiteContacts d n && finiteNumbers r (suc n) && finite angle)
-    (returnedInfo (vderInfo d (curveNumbers (r .entries)) angle n) n)
+    tested refusedInfo (beyond d r n) (short d r (suc n)) (finiteGiven d r angle n) (returnedInfo (vderInfo d (curveNumbers (r .entries)) angle n) n)
 
 -- ---- partials, worked at the order k
 abbrev pub farInfo : VderInfo → Bool
@@ -69,6 +62,8 @@ abbrev pub shortInfo : VderInfo → ℕ → Bool
 shortInfo i k =
     ltb (i .«cc_ders» .«center_ders» .order) k || shortContacts (i .«cc_ders») (suc k) || ltb (i .«axis_ders» .order) k || ltb (i .«angle_ders» .order) k
 
+abbrev pub finiteInputs : VderInfo → ℕ → (u s c : Float) → Bool
+finiteInputs i k u s c = finiteInfo i k && finite u && finite s && finite c
+
 abbrev pub partialAnswer : (VderInfo → (u s c : Float) → Vector3) → ℕ → VderInfo → (u s c : Float) → VectorAnswer
-partialAnswer partial k i u s c =
-    tested Refused (farInfo i) (shortInfo i k) (finiteInfo i k && finite u && finite s && finite c) (returnedVector (partial i u s c))
+partialAnswer partial k i u s c = tested Refused (farInfo i) (shortInfo i k) (finiteInputs i k u s c) (returnedVector (partial i u s c))

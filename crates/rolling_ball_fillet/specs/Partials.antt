@@ -7,12 +7,13 @@ use lib.Dec.{eqb}
 use lib.Ieee.{Float}
 use Rattle.vectors.specs.declared.Vector3.{Vector3}
 use Rattle.vectors.specs.declared.Matrix3.{Matrix3}
-use Rattle.vectors.specs.Vectors.{times, sum, difference}
+use Rattle.vectors.specs.Vectors.{times, sum}
 use Rattle.vectors.specs.Matrices.{image3, sum3, multiple3}
 use Rattle.calculus.specs.InTurn.{inTurn, inRows}
 use Rattle.derivatives.specs.Answer.{curveNumbers}
 use Rattle.derivatives.specs.Vector.{vectorNumbers}
 use Rattle.rolling_ball_fillet.specs.Rotation.{two, zeros, rotation}
+use Rattle.rolling_ball_fillet.specs.AxisAngle.{arm0}
 use Rattle.rolling_ball_fillet.specs.declared.VderInfo.{VderInfo}
 
 -- ---- the rotation has four parameters: the axis' x, y and z, which are numbered 0, 1 and 2, and the angle, number 3
@@ -76,7 +77,7 @@ module _ (axis : Vector3) (s c : Float) where
 
 -- ---- at a share u of the arc, whose sine and cosine are s and c
 abbrev pub armAt : VderInfo → ℕ → Vector3
-armAt i k = difference (vectorNumbers (i .«cc_ders» .«contact0_ders» .entries) k) (vectorNumbers (i .«cc_ders» .«center_ders» .entries) k)
+armAt i = arm0 (i .«cc_ders»)
 
 abbrev pub centerAt : VderInfo → ℕ → Vector3
 centerAt i = vectorNumbers (i .«cc_ders» .«center_ders» .entries)

@@ -8,13 +8,10 @@ use lib.Ieee.Scale.{finite}
 use Rattle.vectors.specs.declared.Vector3.{Vector3}
 use Rattle.vectors.specs.declared.VectorAnswer.{VectorAnswer}
 use Rattle.vectors.specs.declared.VectorAnswer.the-variants.{Refused}
-use Rattle.vectors.specs.Answers.{finiteVector, returnedVector, vectorFrom}
-use Rattle.derivatives.specs.Answer.{finiteCurve}
-use Rattle.derivatives.specs.Vector.{finiteVectors, finiteVectorSurface}
+use Rattle.vectors.specs.Answers.{returnedVector, vectorFrom}
 use Rattle.derivatives.specs.VectorAnswer.{far}
-use Rattle.rolling_ball_fillet.specs.Answers.{finiteCircle}
 use Rattle.rolling_ball_fillet.specs.Circle.{derivative}
-use Rattle.rolling_ball_fillet.specs.Center.{edge, radii, first, second, centerContacts, short, finiteGiven}
+use Rattle.rolling_ball_fillet.specs.Center.{radii, centerContacts, farJets, short, finiteGiven, finiteWhole}
 use Rattle.rolling_ball_fillet.specs.Partials.{derivativeV, derivativeUV, derivativeVV}
 use Rattle.rolling_ball_fillet.specs.PartialAnswer.{vderInfo}
 use Rattle.rolling_ball_fillet.specs.declared.ContactCircle.{ContactCircle}
@@ -64,13 +61,7 @@ byEdge p f cc angle u s c =
     cond (short f k) (Refused 2)
     (cond (finiteGiven f cc k && finiteFloats angle u s c) (fromContacts p (centerContacts f cc (orderOf p)) (radii f) angle u s c) (Refused 5))
 
--- a partial along the arc needs none, and cuts nothing: their entries up to their own orders count
-abbrev pub finiteWhole : RollingBallFilletSurface → ContactCircle → Bool
-finiteWhole f cc =
-    (finiteCircle cc && (finiteVector (f .normal0) && finiteVector (f .normal1)))
-    && ((finiteVectors (edge f) (f .«edge_curve» .order) && finiteCurve (radii f) (f .radius .order))
-    && (finiteVectorSurface (first f) (f .surface0 .order) && finiteVectorSurface (second f) (f .surface1 .order)))
-
+-- a partial along the arc needs none, and cuts nothing: all their entries count
 abbrev pub byArc : ℕ → RollingBallFilletSurface → ContactCircle → (angle u s c : Float) → VectorAnswer
 byArc m f cc angle u s c = vectorFrom (finiteWhole f cc && finiteFloats angle u s c) (derivative cc m s c)
 
@@ -81,7 +72,7 @@ byDecision Unserved m f cc angle u s c = Refused 11
 
 -- an order of the pair or of a jet is above 20
 abbrev pub farPair : RollingBallFilletSurface → (m n : ℕ) → Bool
-farPair f m n = far m n || (far (f .«edge_curve» .order) (f .radius .order) || far (f .surface0 .order) (f .surface1 .order))
+farPair f m n = far m n || farJets f
 
 abbrev pub subDerMn : RollingBallFilletSurface → (m n : ℕ) → Float → ContactCircle → (angle s c : Float) → VectorAnswer
 subDerMn f m n u cc angle s c = cond (farPair f m n) (Refused 1) (byDecision (decided m n) m f cc angle u s c)

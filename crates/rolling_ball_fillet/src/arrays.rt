@@ -14,6 +14,7 @@ ghost use Rattle.rolling_ball_fillet.specs.SurfaceInfo.{put as putOf, be
 use derivatives::raw;
 use vectors::Vector3;
 
+// The vector numbered k of an array: three floats side by side.
 pub fn vector_at(a: &[f64], k: usize) -> Vector3
     requires { ⌜ 3 * k + 2 < length (now a) ⌝ }
     ensures { λ r. ⌜ r ≡ vectorNumbers (now (a .entry)) k ⌝ }
@@ -26,6 +27,7 @@ pub fn vector_at(a: &[f64], k: usize) -> Vector3
     }
 }
 
+// The array with the entry m stored.
 pub fn put(a: [f64; 63], m: usize, e: Vector3) -> [f64; 63]
     requires { ⌜ m ≤ 20 ⌝ }
     ensures { λ r. ⌜ r ≡ putOf a m e ⌝ }

@@ -1,24 +1,23 @@
 // How the circle's axis and angle move along the edge. A NaN or an infinity passes through; a division by zero is 7. Each `requires` is met
 // by the callers.
 ghost use mathlib.Core.Path.{_≡_};
-ghost use Prim.Native.Nat.{suc, _≤_, _<_};
+ghost use Prim.Native.Nat.{_≤_, _<_};
 ghost use Rattle.calculus.specs.Array.{filled, curveArray};
 ghost use Rattle.derivatives.specs.Real.{nil};
 ghost use Rattle.derivatives.specs.Answer.{curveNumbers};
 ghost use Rattle.derivatives.specs.Vector.{vectorNumbers, vectorArray};
 ghost use Rattle.rolling_ball_fillet.specs.AxisAngle.{arm as armOf, crosses as crossesOf, dots as dotsOf, rateEntry, rates as ratesOf, turnEntry, turns as turnsOf, angles as anglesFrom};
 ghost use Rattle.rolling_ball_fillet.specs.AxisAngle.{clamped as clampedOf, cosine as cosineOf, divisionByZero};
-ghost use Rattle.rolling_ball_fillet.specs.PartialAnswer.{noVectors, noParameter, noDers, refusedInfo, vderInfo};
+ghost use Rattle.rolling_ball_fillet.specs.PartialAnswer.{refusedInfo, vderInfo};
 use crate::CenterContactDers;
 use crate::VderInfo;
 use crate::VderInfoAnswer;
-use crate::answers::either;
+use crate::arrays;
 use crate::jets;
 use derivatives::CurveDerivatives;
-use derivatives::ParameterCurve;
 use derivatives::VectorCurveDerivatives;
 use derivatives::raw;
-use vectors::Vector3;
+use ieee::either;
 
 // From the centre to a contact point, up to the order n.
 fn arm(contact: VectorCurveDerivatives, center: VectorCurveDerivatives, n: usize) -> [f64; 63]
@@ -39,10 +38,8 @@ fn crosses(p: &[f64; 63], q: &[f64; 63], n: usize) -> [f64; 63]
     let mut m = 0;
     while m <= n {
         let e = raw::cross(p, q, m);
-        let i = 3 * m;
-        r[i] = e.x;
-        r[i + 1] = e.y;
-        r[i + 2] = e.z;
+        let more = arrays::put(r, m, e);
+        r = more;
         m += 1;
     }
     r
@@ -62,7 +59,7 @@ fn dots(p: &[f64; 63], q: &[f64; 63], n: usize) -> [f64; 21]
     r
 }
 
-// The entry m of r'/r, from the entries q before it.
+// The entry m of r'/r, from the entries q before it; then its entries up to the order n.
 fn rate(r: &[f64; 21], q: &[f64; 21], m: usize) -> f64
     requires { ⌜ m < 20 ⌝ }
     ensures { λ x. ⌜ x ≡ rateEntry (curveNumbers (now (r .entry))) (curveNumbers (now (q .entry))) m ⌝ }
@@ -88,7 +85,7 @@ fn rates(r: &[f64; 21], n: usize) -> [f64; 21]
     q
 }
 
-// The entry m of the angle's derivative, from the entries q before it.
+// The entry m of the angle's derivative, from the entries q before it; then its first n entries.
 fn turn(rate: &[f64; 21], dot: &[f64; 21], length: &[f64; 21], q: &[f64; 21], m: usize) -> f64
     requires { ⌜ m < 20 ⌝ }
     ensures { λ r. ⌜ r ≡ turnEntry (curveNumbers (now (rate .entry))) (curveNumbers (now (dot .entry))) (curveNumbers (now (length .entry))) (curveNumbers (now (q .entry))) m ⌝ }
@@ -98,7 +95,6 @@ fn turn(rate: &[f64; 21], dot: &[f64; 21], length: &[f64; 21], q: &[f64; 21], m:
     (2.0 * sum1 - dot[m + 1] - sum0) / length[0]
 }
 
-// Its first n entries.
 fn turns(rate: &[f64; 21], dot: &[f64; 21], length: &[f64; 21], n: usize) -> [f64; 21]
     requires { ⌜ n ≤ 20 ⌝ }
     ensures { λ r. ⌜ r ≡ filled 21 nil (turnsOf (curveNumbers (now (rate .entry))) (curveNumbers (now (dot .entry))) (curveNumbers (now (length .entry)))) n ⌝ }
@@ -113,7 +109,7 @@ fn turns(rate: &[f64; 21], dot: &[f64; 21], length: &[f64; 21], n: usize) -> [f6
     q
 }
 
-// The angle before its derivative.
+// The angle, and after it the entries of its derivative.
 fn with_angle(angle: f64, turn: &[f64; 21], n: usize) -> [f64; 21]
     requires { ⌜ n ≤ 20 ⌝ }
     ensures { λ r. ⌜ r ≡ curveArray nil (anglesFrom angle (curveNumbers (now (turn .entry)))) n ⌝ }
@@ -145,21 +141,23 @@ fn angles(
     with_angle(angle, &turn, n)
 }
 
-// From above only; a NaN becomes 1.0.
+// At most 1.0, which a NaN becomes.
 fn clamped(x: f64) -> f64
     ensures { λ r. ⌜ r ≡ clampedOf x ⌝ }
 {
     if x < 1.0 { x } else { 1.0 }
 }
 
+// The cosine of the angle between p and q, both as long as the radius r.
 fn cosine(p: &[f64; 63], q: &[f64; 63], r: f64) -> f64
     ensures { λ x. ⌜ x ≡ cosineOf (vectorNumbers (now (p .entry)) 0) (vectorNumbers (now (q .entry)) 0) r ⌝ }
 {
-    let a = jets::vector_at(p, 0);
-    let b = jets::vector_at(q, 0);
+    let a = arrays::vector_at(p, 0);
+    let b = arrays::vector_at(q, 0);
     clamped(a.dot(b) / (r * r))
 }
 
+// Whether one is due: by the length of p × q, by the radius, or by its square, which may underflow.
 fn division_by_zero(length: f64, r: f64) -> bool
     ensures { λ x. ⌜ x ≡ divisionByZero length r ⌝ }
 {
@@ -167,47 +165,12 @@ fn division_by_zero(length: f64, r: f64) -> bool
     either(first, r * r == 0.0)
 }
 
-fn no_vectors() -> VectorCurveDerivatives
-    ensures { λ r. ⌜ r ≡ noVectors ⌝ }
-{
-    let z = [0.0f64; 63];
-    VectorCurveDerivatives {
-        order: 0,
-        entries: z,
-    }
-}
-
-fn no_parameter() -> ParameterCurve
-    ensures { λ r. ⌜ r ≡ noParameter ⌝ }
-{
-    let y = [0.0f64; 21];
-    let z = [0.0f64; 21];
-    ParameterCurve {
-        order: 0,
-        u: y,
-        v: z,
-    }
-}
-
-fn no_ders() -> CenterContactDers
-    ensures { λ r. ⌜ r ≡ noDers ⌝ }
-{
-    let a = no_vectors();
-    let p = no_parameter();
-    CenterContactDers {
-        center_ders: a,
-        contact0_ders: a,
-        contact1_ders: a,
-        uv0_ders: p,
-        uv1_ders: p,
-    }
-}
-
+// A refusal's number beside zero jets.
 pub fn refused(c: u8) -> VderInfoAnswer
     ensures { λ r. ⌜ r ≡ refusedInfo c ⌝ }
 {
-    let d = no_ders();
-    let a = no_vectors();
+    let d = jets::no_ders();
+    let a = jets::no_vectors();
     let z = [0.0f64; 21];
     VderInfoAnswer {
         refusal: c,

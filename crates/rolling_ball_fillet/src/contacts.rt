@@ -12,6 +12,7 @@ use crate::CenterContactDers;
 use crate::ContactCircle;
 use crate::RollingBallFilletSurface;
 use crate::arrays;
+use crate::jets;
 use crate::surface_info;
 use crate::surface_info::SurfaceInfo;
 use derivatives::ParameterCurve;
@@ -28,6 +29,7 @@ pub struct Contacts {
     pub s1info: SurfaceInfo,
 }
 
+// The entries of order 0.
 fn start(f: RollingBallFilletSurface, cc: ContactCircle) -> Contacts
     ensures { λ r. ⌜ r ≡ startOf f cc ⌝ }
 {
@@ -65,6 +67,7 @@ fn planes(f: RollingBallFilletSurface) -> Matrix3
     by_rows(e, p, q)
 }
 
+// What the known entries give at the order m.
 fn right_side(edge: &[f64; 63], radius: &[f64; 21], k: Contacts, m: usize) -> Vector3
     requires { ⌜ (0 < m) × (m < 20) ⌝ }
     ensures { λ r. ⌜ r ≡ rightSide (vectorNumbers (now (edge .entry))) (curveNumbers (now (radius .entry))) k m ⌝ }
@@ -86,6 +89,7 @@ fn right_side(edge: &[f64; 63], radius: &[f64; 21], k: Contacts, m: usize) -> Ve
     }
 }
 
+// With the entry m of the centre, and then with those of both surfaces.
 fn with_center(
     edge: &[f64; 63],
     radius: &[f64; 21],
@@ -118,7 +122,7 @@ fn with_contacts(s: &[f64; 693], t: &[f64; 693], k: Contacts, m: usize) -> Conta
     }
 }
 
-// The entries up to the order n.
+// All entries up to the order n.
 fn formed(f: RollingBallFilletSurface, cc: ContactCircle, n: usize) -> Contacts
     requires { ⌜ n < 20 ⌝ }
     ensures { λ r. ⌜ r ≡ contactsOf f cc n ⌝ }
@@ -138,32 +142,17 @@ fn formed(f: RollingBallFilletSurface, cc: ContactCircle, n: usize) -> Contacts
     k
 }
 
+// A refusal's number beside zero jets.
 pub fn refused(c: u8) -> CenterContactAnswer
     ensures { λ r. ⌜ r ≡ refusedContacts c ⌝ }
 {
-    let y = [0.0f64; 21];
-    let z = [0.0f64; 63];
-    let point = VectorCurveDerivatives {
-        order: 0,
-        entries: z,
-    };
-    let foot = ParameterCurve {
-        order: 0,
-        u: y,
-        v: y,
-    };
     CenterContactAnswer {
         refusal: c,
-        ders: CenterContactDers {
-            center_ders: point,
-            contact0_ders: point,
-            contact1_ders: point,
-            uv0_ders: foot,
-            uv1_ders: foot,
-        },
+        ders: jets::no_ders(),
     }
 }
 
+// The five jets beside 0.
 fn answered(n: usize, k: Contacts) -> CenterContactAnswer
     requires { ⌜ n < 20 ⌝ }
     ensures { λ r. ⌜ r ≡ answeredContacts n k ⌝ }
@@ -214,7 +203,7 @@ fn form_at(s: &[f64; 693], center: &[f64; 63], info: SurfaceInfo) -> Matrix2
     surface_info::form(s, surface_info::apart(&t, center))
 }
 
-// On all floats, finite or not.
+// 6 or 7 where a step would meet one, or the five jets. On all floats, finite or not.
 pub fn center_contacts(
     f: RollingBallFilletSurface,
     cc: ContactCircle,

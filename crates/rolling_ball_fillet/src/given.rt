@@ -1,16 +1,17 @@
 // The tests on what is given for the centre and the contacts, and on what is returned.
 ghost use mathlib.Core.Path.{_≡_};
+ghost use mathlib.Core.Bool.{false};
 ghost use Prim.Native.Nat.{_≤_, _<_};
 ghost use Rattle.derivatives.specs.VectorAnswer.{far as farOf};
-ghost use Rattle.rolling_ball_fillet.specs.Center.{beyond as beyondOf, short as shortOf, finiteGiven, finiteContacts, returnedContacts};
+ghost use Rattle.rolling_ball_fillet.specs.Center.{farJets, beyond as beyondOf, short as shortOf, finiteUpTo, finiteGiven, finiteWhole, finiteContacts, returnedContacts};
 use crate::CenterContactAnswer;
 use crate::CenterContactDers;
 use crate::ContactCircle;
 use crate::RollingBallFilletSurface;
-use crate::answers::both;
-use crate::answers::either;
 use crate::contacts;
-use derivatives::raw;
+use crate::jets;
+use ieee::both;
+use ieee::either;
 
 // Whether one of two orders is above 20.
 pub fn far(m: usize, n: usize) -> bool
@@ -19,16 +20,23 @@ pub fn far(m: usize, n: usize) -> bool
     either(20 < m, 20 < n)
 }
 
+// Whether one of the four jets' orders is.
+pub fn far_jets(f: RollingBallFilletSurface) -> bool
+    ensures { λ r. ⌜ r ≡ farJets f ⌝ }
+{
+    let curves = far(f.edge_curve.order, f.radius.order);
+    let surfaces = far(f.surface0.order, f.surface1.order);
+    either(curves, surfaces)
+}
+
 // Whether n is above 19, or an order above 20.
 pub fn beyond(f: RollingBallFilletSurface, n: usize) -> bool
     ensures { λ r. ⌜ r ≡ beyondOf f n ⌝ }
 {
-    let curves = far(f.edge_curve.order, f.radius.order);
-    let surfaces = far(f.surface0.order, f.surface1.order);
-    either(19 < n, either(curves, surfaces))
+    either(19 < n, far_jets(f))
 }
 
-// Whether an order is below n.
+// Whether a jet's order is below n.
 pub fn short(f: RollingBallFilletSurface, n: usize) -> bool
     ensures { λ r. ⌜ r ≡ shortOf f n ⌝ }
 {
@@ -37,44 +45,71 @@ pub fn short(f: RollingBallFilletSurface, n: usize) -> bool
     either(curves, surfaces)
 }
 
-// Whether what is given is finite, of the jets the entries up to the order n.
-pub fn finite_given(f: RollingBallFilletSurface, cc: ContactCircle, n: usize) -> bool
-    requires { ⌜ n ≤ 20 ⌝ }
-    ensures { λ r. ⌜ r ≡ finiteGiven f cc n ⌝ }
+// Whether what is given is finite, of the edge, the radius and the surfaces the entries up to the orders e, r, s and t.
+fn finite_upto(
+    f: RollingBallFilletSurface,
+    cc: ContactCircle,
+    e: usize,
+    r: usize,
+    s: usize,
+    t: usize,
+) -> bool
+    requires { ⌜ (e ≤ 20) × (r ≤ 20) × (s ≤ 20) × (t ≤ 20) ⌝ }
+    ensures { λ x. ⌜ x ≡ finiteUpTo f cc e r s t ⌝ }
 {
-    let e = f.edge_curve.entries;
-    let r = f.radius.entries;
-    let s = f.surface0.entries;
-    let t = f.surface1.entries;
     let p = f.normal0;
     let q = f.normal1;
     let normals = both(p.is_finite(), q.is_finite());
     let circle = both(cc.is_finite(), normals);
-    let curves = both(raw::finite_vectors(&e, n), raw::finite_numbers(&r, n));
-    let surfaces = both(raw::finite_surface(&s, n), raw::finite_surface(&t, n));
+    let curves = both(
+        jets::finite_jet(f.edge_curve, e),
+        jets::finite_numbers(f.radius, r),
+    );
+    let surfaces = both(
+        jets::finite_surface(f.surface0, s),
+        jets::finite_surface(f.surface1, t),
+    );
     both(circle, both(curves, surfaces))
 }
 
-// Whether what is returned is finite.
+// The same up to one order for all jets, and up to each jet's own.
+pub fn finite_given(f: RollingBallFilletSurface, cc: ContactCircle, n: usize) -> bool
+    requires { ⌜ n ≤ 20 ⌝ }
+    ensures { λ r. ⌜ r ≡ finiteGiven f cc n ⌝ }
+{
+    finite_upto(f, cc, n, n, n, n)
+}
+
+pub fn finite_whole(f: RollingBallFilletSurface, cc: ContactCircle) -> bool
+    requires { ⌜ farJets f ≡ false ⌝ }
+    ensures { λ r. ⌜ r ≡ finiteWhole f cc ⌝ }
+{
+    let e = f.edge_curve;
+    let r = f.radius;
+    let s = f.surface0;
+    let t = f.surface1;
+    finite_upto(f, cc, e.order, r.order, s.order, t.order)
+}
+
+// Whether the five jets are finite: the centre up to the order n, the others up to n + 1.
 pub fn finite_contacts(d: CenterContactDers, n: usize) -> bool
     requires { ⌜ n < 20 ⌝ }
     ensures { λ r. ⌜ r ≡ finiteContacts d n ⌝ }
 {
     let k = n + 1;
-    let center = d.center_ders.entries;
-    let p = d.contact0_ders.entries;
-    let q = d.contact1_ders.entries;
-    let u0 = d.uv0_ders.u;
-    let v0 = d.uv0_ders.v;
-    let u1 = d.uv1_ders.u;
-    let v1 = d.uv1_ders.v;
-    let points = both(raw::finite_vectors(&p, k), raw::finite_vectors(&q, k));
-    let vectors = both(raw::finite_vectors(&center, n), points);
-    let foot0 = both(raw::finite_numbers(&u0, k), raw::finite_numbers(&v0, k));
-    let foot1 = both(raw::finite_numbers(&u1, k), raw::finite_numbers(&v1, k));
-    both(vectors, both(foot0, foot1))
+    let points = both(
+        jets::finite_jet(d.contact0_ders, k),
+        jets::finite_jet(d.contact1_ders, k),
+    );
+    let vectors = both(jets::finite_jet(d.center_ders, n), points);
+    let feet = both(
+        jets::finite_parameter(d.uv0_ders, k),
+        jets::finite_parameter(d.uv1_ders, k),
+    );
+    both(vectors, feet)
 }
 
+// What has been worked out: 10 where it is not finite.
 pub fn returned(a: CenterContactAnswer, n: usize) -> CenterContactAnswer
     requires { ⌜ n < 20 ⌝ }
     ensures { λ r. ⌜ r ≡ returnedContacts a n ⌝ }

@@ -1,45 +1,43 @@
-// The tests on axis and angle before they are worked out and before they are used, and on what is returned.
+// The tests before axis and angle are worked out and before they are used, and on what is returned.
 ghost use mathlib.Core.Path.{_≡_};
-ghost use mathlib.Core.Bool.{_&&_, _||_};
-ghost use Prim.Native.Nat.{suc, _<_};
-ghost use lib.Dec.{ltb};
-ghost use lib.Ieee.Scale.{finite};
-ghost use Rattle.rolling_ball_fillet.specs.Center.{finiteContacts};
-ghost use Rattle.rolling_ball_fillet.specs.Jets.{farContacts, shortContacts, finiteNumbers};
-ghost use Rattle.rolling_ball_fillet.specs.PartialAnswer.{returnedInfo, finiteInfo, farInfo, shortInfo};
+ghost use Prim.Native.Nat.{_<_};
+ghost use Rattle.rolling_ball_fillet.specs.PartialAnswer.{beyond as beyondOf, short as shortOf, finiteGiven};
+ghost use Rattle.rolling_ball_fillet.specs.PartialAnswer.{farInfo, shortInfo, finiteInfo, finiteInputs, returnedInfo};
 use crate::CenterContactDers;
 use crate::VderInfo;
 use crate::VderInfoAnswer;
-use crate::answers::both;
-use crate::answers::either;
 use crate::axis_angle;
+use crate::checks;
 use crate::given;
 use crate::jets;
 use derivatives::CurveDerivatives;
+use ieee::both;
+use ieee::either;
 
-// Of the centre and contacts, worked at the order n, and the radius.
+// To work at the order n: whether it is above 19, or an order of the contacts or of the radius above 20; whether one is below k; whether what is
+// read is finite.
 pub fn beyond(d: CenterContactDers, r: CurveDerivatives, n: usize) -> bool
-    ensures { λ x. ⌜ x ≡ (ltb 19 n || farContacts d || ltb 20 (r .order)) ⌝ }
+    ensures { λ x. ⌜ x ≡ beyondOf d r n ⌝ }
 {
     let contacts = either(19 < n, jets::far_contacts(d));
     either(contacts, 20 < r.order)
 }
 
 pub fn short(d: CenterContactDers, r: CurveDerivatives, k: usize) -> bool
-    ensures { λ x. ⌜ x ≡ (shortContacts d k || ltb (r .order) k) ⌝ }
+    ensures { λ x. ⌜ x ≡ shortOf d r k ⌝ }
 {
     either(jets::short_contacts(d, k), r.order < k)
 }
 
 pub fn finite_given(d: CenterContactDers, r: CurveDerivatives, angle: f64, n: usize) -> bool
     requires { ⌜ n < 20 ⌝ }
-    ensures { λ x. ⌜ x ≡ (finiteContacts d n && finiteNumbers r (suc n) && finite angle) ⌝ }
+    ensures { λ x. ⌜ x ≡ finiteGiven d r angle n ⌝ }
 {
     let jets = both(given::finite_contacts(d, n), jets::finite_numbers(r, n + 1));
     both(jets, ieee::is_finite(angle))
 }
 
-// Of the centre, contacts, axis and angle, worked at the order k.
+// To use axis and angle at the order k: whether an order is above 20; whether one is too low; whether what is read is finite.
 pub fn far_info(i: VderInfo) -> bool
     ensures { λ r. ⌜ r ≡ farInfo i ⌝ }
 {
@@ -78,11 +76,10 @@ fn finite_info(i: VderInfo, n: usize) -> bool
 
 pub fn finite_inputs(i: VderInfo, k: usize, u: f64, s: f64, c: f64) -> bool
     requires { ⌜ k < 20 ⌝ }
-    ensures { λ r. ⌜ r ≡ (finiteInfo i k && finite u && finite s && finite c) ⌝ }
+    ensures { λ r. ⌜ r ≡ finiteInputs i k u s c ⌝ }
 {
     let share = both(finite_info(i, k), ieee::is_finite(u));
-    let sine = both(share, ieee::is_finite(s));
-    both(sine, ieee::is_finite(c))
+    checks::finite_with(share, s, c)
 }
 
 // What has been worked out: 10 where it is not finite. A refusal stays as it is.

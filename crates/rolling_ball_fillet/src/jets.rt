@@ -1,38 +1,30 @@
-// The jets of the centre and contacts: single entries, cut jets, and the tests on orders and entries. Each `requires` is met by the callers.
+// The jets of the centre and contacts: single entries, zero jets, cut jets, and the tests on orders and entries. Each `requires` is met by the callers.
 ghost use mathlib.Core.Path.{_≡_};
 ghost use Prim.Native.Nat.{_≤_, _<_};
 ghost use Rattle.calculus.specs.Array.{curveArray};
 ghost use Rattle.derivatives.specs.Real.{nil};
 ghost use Rattle.derivatives.specs.Answer.{curveNumbers};
-ghost use Rattle.derivatives.specs.Vector.{vectorNumbers, vectorArray};
-ghost use Rattle.rolling_ball_fillet.specs.Jets.{cutVectors, cutParameter, cutDers, farContacts, shortContacts, finiteJet, finiteNumbers};
+ghost use Rattle.derivatives.specs.Vector.{vectorNumbers, vectorSurfaceNumbers, vectorArray, finiteVectorSurface};
+ghost use Rattle.rolling_ball_fillet.specs.Jets.{noVectors, noParameter, noDers, cutVectors, cutParameter, cutDers};
+ghost use Rattle.rolling_ball_fillet.specs.Jets.{farContacts, shortContacts, finiteJet, finiteNumbers, finiteParameter};
 use crate::CenterContactDers;
-use crate::answers::either;
+use crate::arrays;
 use derivatives::CurveDerivatives;
 use derivatives::ParameterCurve;
 use derivatives::VectorCurveDerivatives;
+use derivatives::VectorSurfaceDerivatives;
 use derivatives::raw;
+use ieee::both;
+use ieee::either;
 use vectors::Vector3;
 
 // The entry of the order k.
-pub fn vector_at(a: &[f64; 63], k: usize) -> Vector3
-    requires { ⌜ k ≤ 20 ⌝ }
-    ensures { λ r. ⌜ r ≡ vectorNumbers (now (a .entry)) k ⌝ }
-{
-    let i = 3 * k;
-    Vector3 {
-        x: a[i],
-        y: a[i + 1],
-        z: a[i + 2],
-    }
-}
-
 pub fn vector_of(a: VectorCurveDerivatives, k: usize) -> Vector3
     requires { ⌜ k ≤ 20 ⌝ }
     ensures { λ r. ⌜ r ≡ vectorNumbers (a .entries) k ⌝ }
 {
     let x = a.entries;
-    vector_at(&x, k)
+    arrays::vector_at(&x, k)
 }
 
 pub fn number_of(a: CurveDerivatives, k: usize) -> f64
@@ -43,6 +35,43 @@ pub fn number_of(a: CurveDerivatives, k: usize) -> f64
     x[k]
 }
 
+// The zero jets of order 0, which stand beside a refusal.
+pub fn no_vectors() -> VectorCurveDerivatives
+    ensures { λ r. ⌜ r ≡ noVectors ⌝ }
+{
+    let z = [0.0f64; 63];
+    VectorCurveDerivatives {
+        order: 0,
+        entries: z,
+    }
+}
+
+fn no_parameter() -> ParameterCurve
+    ensures { λ r. ⌜ r ≡ noParameter ⌝ }
+{
+    let y = [0.0f64; 21];
+    let z = [0.0f64; 21];
+    ParameterCurve {
+        order: 0,
+        u: y,
+        v: z,
+    }
+}
+
+pub fn no_ders() -> CenterContactDers
+    ensures { λ r. ⌜ r ≡ noDers ⌝ }
+{
+    let a = no_vectors();
+    let p = no_parameter();
+    CenterContactDers {
+        center_ders: a,
+        contact0_ders: a,
+        contact1_ders: a,
+        uv0_ders: p,
+        uv1_ders: p,
+    }
+}
+
 // The entries up to the order n, and zeros past them.
 fn cut_entries(a: &[f64; 63], n: usize) -> [f64; 63]
     requires { ⌜ n ≤ 20 ⌝ }
@@ -51,11 +80,9 @@ fn cut_entries(a: &[f64; 63], n: usize) -> [f64; 63]
     let mut r = [0.0f64; 63];
     let mut m = 0;
     while m <= n {
-        let e = vector_at(a, m);
-        let i = 3 * m;
-        r[i] = e.x;
-        r[i + 1] = e.y;
-        r[i + 2] = e.z;
+        let e = arrays::vector_at(a, m);
+        let more = arrays::put(r, m, e);
+        r = more;
         m += 1;
     }
     r
@@ -101,6 +128,7 @@ pub fn cut_parameter(a: ParameterCurve, n: usize) -> ParameterCurve
     }
 }
 
+// The centre cut to the order n, and the contacts and their parameters one further.
 pub fn cut_ders(d: CenterContactDers, n: usize) -> CenterContactDers
     requires { ⌜ n < 20 ⌝ }
     ensures { λ r. ⌜ r ≡ cutDers d n ⌝ }
@@ -160,4 +188,21 @@ pub fn finite_numbers(a: CurveDerivatives, n: usize) -> bool
 {
     let x = a.entries;
     raw::finite_numbers(&x, n)
+}
+
+pub fn finite_parameter(a: ParameterCurve, n: usize) -> bool
+    requires { ⌜ n ≤ 20 ⌝ }
+    ensures { λ r. ⌜ r ≡ finiteParameter a n ⌝ }
+{
+    let u = a.u;
+    let v = a.v;
+    both(raw::finite_numbers(&u, n), raw::finite_numbers(&v, n))
+}
+
+pub fn finite_surface(a: VectorSurfaceDerivatives, n: usize) -> bool
+    requires { ⌜ n ≤ 20 ⌝ }
+    ensures { λ r. ⌜ r ≡ finiteVectorSurface (vectorSurfaceNumbers (a .entries)) n ⌝ }
+{
+    let x = a.entries;
+    raw::finite_surface(&x, n)
 }

@@ -7,18 +7,21 @@ ghost use Rattle.rolling_ball_fillet.specs.Center.{centerContactAnswer};
 ghost use Rattle.rolling_ball_fillet.specs.Partials.{derivativeV, derivativeUV, derivativeVV};
 ghost use Rattle.rolling_ball_fillet.specs.PartialAnswer.{vderInfoAnswer, partialAnswer};
 ghost use Rattle.rolling_ball_fillet.specs.SubDer.{subDerMn};
+use crate::sub_der::EdgePartial;
 use derivatives::CurveDerivatives;
 use derivatives::ParameterCurve;
 use derivatives::VectorCurveDerivatives;
 use derivatives::VectorSurfaceDerivatives;
+use ieee::both;
 use vectors::Matrix3Answer;
 use vectors::Vector2;
 use vectors::Vector3;
 use vectors::VectorAnswer;
+use vectors::answers;
 
-mod answers;
 mod arrays;
 mod axis_angle;
+mod checks;
 mod circle;
 mod contacts;
 mod given;
@@ -100,13 +103,13 @@ pub fn rot_der_n(
 ) -> Matrix3Answer
     ensures { λ r. ⌜ r ≡ rotationAnswer x y z n axis s c ⌝ }
 {
-    if answers::served(x, y, z, n) {
-        if answers::finite_turn(axis, s, c) {
-            return answers::returned(rotation::rotation(x, y, z, n, axis, s, c));
+    if checks::served(x, y, z, n) {
+        if checks::finite_turn(axis, s, c) {
+            return answers::returned3(rotation::rotation(x, y, z, n, axis, s, c));
         }
-        return answers::refused(5);
+        return answers::refused3(5);
     }
-    answers::refused(1)
+    answers::refused3(1)
 }
 
 pub fn from_axis_angle(axis: Vector3, s: f64, c: f64) -> Matrix3Answer
@@ -121,8 +124,7 @@ impl ContactPoint {
     {
         let p = self.point;
         let uv = self.uv;
-        let pu = answers::both(p.is_finite(), ieee::is_finite(uv.x));
-        answers::both(pu, ieee::is_finite(uv.y))
+        checks::finite_with(p.is_finite(), uv.x, uv.y)
     }
 }
 
@@ -134,19 +136,18 @@ impl ContactCircle {
         let axis = self.axis;
         let p = self.contact_point0;
         let q = self.contact_point1;
-        let vectors = answers::both(center.is_finite(), axis.is_finite());
-        let turn = answers::both(vectors, ieee::is_finite(self.angle));
-        let first = answers::both(turn, p.is_finite());
-        answers::both(first, q.is_finite())
+        let vectors = both(center.is_finite(), axis.is_finite());
+        let turn = both(vectors, ieee::is_finite(self.angle));
+        let first = both(turn, p.is_finite());
+        both(first, q.is_finite())
     }
 
     // The derivative of order m along the arc, by the share u of it that is passed; s and c are the sine and cosine of angle·u.
     pub fn derivative_n(self, m: usize, s: f64, c: f64) -> VectorAnswer
         ensures { λ r. ⌜ r ≡ derivativeAnswer self m s c ⌝ }
     {
-        if answers::order_served(m) {
-            let pair = answers::both(self.is_finite(), ieee::is_finite(s));
-            let inputs = answers::both(pair, ieee::is_finite(c));
+        if checks::order_served(m) {
+            let inputs = checks::finite_with(self.is_finite(), s, c);
             return answers::vector_from(inputs, circle::derivative(self, m, s, c));
         }
         VectorAnswer::Refused(1)
@@ -181,40 +182,19 @@ impl VderInfo {
     pub fn derivative_v(self, u: f64, s: f64, c: f64) -> VectorAnswer
         ensures { λ r. ⌜ r ≡ partialAnswer derivativeV 1 self u s c ⌝ }
     {
-        if info::far_info(self) {
-            return VectorAnswer::Refused(1);
-        }
-        if info::short_info(self, 1) {
-            return VectorAnswer::Refused(2);
-        }
-        let inputs = info::finite_inputs(self, 1, u, s, c);
-        answers::vector_from(inputs, partials::derivative_v(self, u, s, c))
+        sub_der::partial_answer(EdgePartial::V, self, u, s, c)
     }
 
     pub fn derivative_uv(self, u: f64, s: f64, c: f64) -> VectorAnswer
         ensures { λ r. ⌜ r ≡ partialAnswer derivativeUV 1 self u s c ⌝ }
     {
-        if info::far_info(self) {
-            return VectorAnswer::Refused(1);
-        }
-        if info::short_info(self, 1) {
-            return VectorAnswer::Refused(2);
-        }
-        let inputs = info::finite_inputs(self, 1, u, s, c);
-        answers::vector_from(inputs, partials::derivative_uv(self, u, s, c))
+        sub_der::partial_answer(EdgePartial::Uv, self, u, s, c)
     }
 
     pub fn derivative_vv(self, u: f64, s: f64, c: f64) -> VectorAnswer
         ensures { λ r. ⌜ r ≡ partialAnswer derivativeVV 2 self u s c ⌝ }
     {
-        if info::far_info(self) {
-            return VectorAnswer::Refused(1);
-        }
-        if info::short_info(self, 2) {
-            return VectorAnswer::Refused(2);
-        }
-        let inputs = info::finite_inputs(self, 2, u, s, c);
-        answers::vector_from(inputs, partials::derivative_vv(self, u, s, c))
+        sub_der::partial_answer(EdgePartial::Vv, self, u, s, c)
     }
 }
 

@@ -1,9 +1,8 @@
-// The fillet's partial derivatives by v. A NaN or an infinity passes through.
+// The fillet's partial derivatives by v, by u and v, and twice by v. A NaN or an infinity passes through.
 ghost use mathlib.Core.Path.{_≡_};
-ghost use Prim.Native.Nat.{ℕ, _+_, _≤_};
+ghost use Prim.Native.Nat.{_+_, _≤_};
 ghost use Rattle.vectors.specs.Matrices.{sum3};
-ghost use Rattle.calculus.specs.InTurn.{inTurn, inRows};
-ghost use Rattle.rolling_ball_fillet.specs.Rotation.{zeros};
+ghost use Rattle.calculus.specs.InTurn.{inTurn};
 ghost use Rattle.rolling_ball_fillet.specs.Partials.{parameter as parameterAt, times-in, byOne, byTwo, oneTerm, twoTerm, oneTerms, twoTerms, turnV, turnByAxis, turnByAngle};
 ghost use Rattle.rolling_ball_fillet.specs.Partials.{byV, byUV, byVV, armAt, centerAt, derivativeV, derivativeUV, derivativeVV};
 use crate::VderInfo;
@@ -12,7 +11,7 @@ use crate::rotation;
 use vectors::Matrix3;
 use vectors::Vector3;
 
-// Of the rotation's four parameters, the one that is numbered i.
+// The rotation has four parameters: the axis' x, y and z, numbered 0, 1 and 2, and the angle, number 3.
 fn parameter(axis: Vector3, angle: f64, i: usize) -> f64
     ensures { λ r. ⌜ r ≡ parameterAt axis angle i ⌝ }
 {
@@ -24,6 +23,7 @@ fn parameter(axis: Vector3, angle: f64, i: usize) -> f64
     }
 }
 
+// How often the parameter p is in a derivative by i, and in one by i and j.
 fn times_in(p: usize, i: usize) -> usize
     ensures { λ r. ⌜ r ≡ times-in p i ⌝ }
     ensures small { λ r. ⌜ r ≤ 1 ⌝ }
@@ -31,6 +31,7 @@ fn times_in(p: usize, i: usize) -> usize
     if i == p { 1 } else { 0 }
 }
 
+// The rotation derived by the parameter i, and by i and j.
 fn by_one(axis: Vector3, s: f64, c: f64, i: usize) -> Matrix3
     ensures { λ r. ⌜ r ≡ byOne axis s c i ⌝ }
 {
@@ -59,6 +60,7 @@ fn by_two(axis: Vector3, s: f64, c: f64, i: usize, j: usize) -> Matrix3
     rotation::rotation(x, y, z, n, axis, s, c)
 }
 
+// What the parameter i, and the pair of i and j, add to the rotation's derivative, where a and t are those of the axis and of angle·u.
 fn one_term(axis: Vector3, s: f64, c: f64, a: Vector3, t: f64, i: usize) -> Matrix3
     ensures { λ r. ⌜ r ≡ oneTerm axis s c a t i ⌝ }
 {
@@ -75,25 +77,11 @@ fn two_term(axis: Vector3, s: f64, c: f64, a: Vector3, t: f64, i: usize, j: usiz
     m.mul(x * y)
 }
 
-fn zero() -> Matrix3
-    ensures { λ r. ⌜ r ≡ zeros ⌝ }
-{
-    let z = Vector3 {
-        x: 0.0,
-        y: 0.0,
-        z: 0.0,
-    };
-    Matrix3 {
-        c0: z,
-        c1: z,
-        c2: z,
-    }
-}
-
+// All four added to zero.
 fn one_terms(axis: Vector3, s: f64, c: f64, a: Vector3, t: f64) -> Matrix3
     ensures { λ r. ⌜ r ≡ oneTerms axis s c a t ⌝ }
 {
-    let mut sum = zero();
+    let mut sum = rotation::zero();
     let mut i = 0;
     while i < 4 {
         let e = one_term(axis, s, c, a, t, i);
@@ -103,7 +91,7 @@ fn one_terms(axis: Vector3, s: f64, c: f64, a: Vector3, t: f64) -> Matrix3
     sum
 }
 
-// What the pairs of i and each other parameter add.
+// What the pairs of i and each parameter add; then all sixteen, added to zero.
 fn row(from: Matrix3, axis: Vector3, s: f64, c: f64, a: Vector3, t: f64, i: usize) -> Matrix3
     ensures { λ r. ⌜ r ≡ inTurn sum3 from (twoTerm axis s c a t i) 4 ⌝ }
 {
@@ -120,7 +108,7 @@ fn row(from: Matrix3, axis: Vector3, s: f64, c: f64, a: Vector3, t: f64, i: usiz
 fn two_terms(axis: Vector3, s: f64, c: f64, a: Vector3, t: f64) -> Matrix3
     ensures { λ r. ⌜ r ≡ twoTerms axis s c a t ⌝ }
 {
-    let mut sum = zero();
+    let mut sum = rotation::zero();
     let mut i = 0;
     while i < 4 {
         let e = row(sum, axis, s, c, a, t, i);
@@ -143,6 +131,7 @@ fn turn_v(axis: Vector3, s: f64, c: f64, a: Vector3, t: f64) -> Matrix3
     xyz.add(n)
 }
 
+// The derivative by u and v of the rotation, as far as the axis moves, and as far as the angle does.
 fn turn_by_axis(axis: Vector3, s: f64, c: f64, a: Vector3, angle: f64) -> Matrix3
     ensures { λ r. ⌜ r ≡ turnByAxis axis s c a angle ⌝ }
 {
@@ -167,6 +156,7 @@ fn turn_by_angle(axis: Vector3, s: f64, c: f64, angle: f64, dangle: f64, u: f64)
     first.add(second)
 }
 
+// The partials from their parts: the arm and its derivatives are contact point 0 less the centre.
 fn by_v(
     axis: Vector3,
     s: f64,

@@ -41,6 +41,7 @@ fn matrix(a: f64, b: f64, c: f64, d: f64, e: f64, f: f64, g: f64, h: f64, i: f64
     }
 }
 
+// c·I + s·[axis]× + k·axis axisᵀ.
 fn rodrigues(axis: Vector3, s: f64, c: f64, k: f64) -> Matrix3
     ensures { λ r. ⌜ r ≡ rodriguesBy axis s c k ⌝ }
 {
@@ -57,6 +58,7 @@ fn rodrigues(axis: Vector3, s: f64, c: f64, k: f64) -> Matrix3
     )
 }
 
+// Derived by one component of the axis.
 fn by_x(axis: Vector3, s: f64, k: f64) -> Matrix3
     ensures { λ r. ⌜ r ≡ byX axis s k ⌝ }
 {
@@ -112,7 +114,7 @@ fn symmetric(xx: f64, xy: f64, xz: f64, yy: f64, yz: f64, zz: f64) -> Matrix3
     matrix(xx, xy, xz, xy, yy, yz, xz, yz, zz)
 }
 
-fn zero() -> Matrix3
+pub fn zero() -> Matrix3
     ensures { λ r. ⌜ r ≡ zeros ⌝ }
 {
     symmetric(0.0, 0.0, 0.0, 0.0, 0.0, 0.0)

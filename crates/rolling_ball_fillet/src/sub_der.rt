@@ -1,24 +1,26 @@
 // The fillet's partial derivatives by the pair of their orders. Each `requires` is met by the caller.
 ghost use mathlib.Core.Path.{_≡_};
-ghost use Prim.Native.Nat.{suc, _≤_};
-ghost use Rattle.derivatives.specs.Answer.{curveNumbers};
-ghost use Rattle.rolling_ball_fillet.specs.SubDer.{decided, orderOf, partialBy, fromInfo, fromContacts, finiteFloats, byEdge, finiteWhole, byArc, byDecision, farPair};
-ghost use Rattle.rolling_ball_fillet.specs.Center.{centerContacts, radii};
+ghost use mathlib.Core.Bool.{false};
+ghost use Prim.Native.Nat.{_≤_};
+ghost use Rattle.rolling_ball_fillet.specs.SubDer.{decided, orderOf, partialBy, fromInfo, fromContacts, finiteFloats, byEdge, byArc, byDecision, farPair};
+ghost use Rattle.rolling_ball_fillet.specs.Center.{centerContacts, radii, farJets};
+ghost use Rattle.rolling_ball_fillet.specs.PartialAnswer.{partialAnswer};
 use crate::ContactCircle;
 use crate::RollingBallFilletSurface;
 use crate::VderInfo;
 use crate::VderInfoAnswer;
-use crate::answers;
-use crate::answers::both;
-use crate::answers::either;
 use crate::axis_angle;
+use crate::checks;
 use crate::circle;
 use crate::contacts;
 use crate::given;
+use crate::info;
 use crate::partials;
-use derivatives::raw;
+use ieee::both;
+use ieee::either;
 use vectors::Vector3;
 use vectors::VectorAnswer;
+use vectors::answers;
 
 // The partials along the edge that are served.
 pub enum EdgePartial {
@@ -55,6 +57,7 @@ pub fn decide(m: usize, n: usize) -> Decision
     }
 }
 
+// How often a partial is derived along the edge.
 fn order(p: EdgePartial) -> usize
     ensures { λ r. ⌜ r ≡ orderOf p ⌝ }
     ensures small { λ r. ⌜ r ≤ 2 ⌝ }
@@ -76,6 +79,7 @@ fn partial(p: EdgePartial, info: VderInfo, u: f64, s: f64, c: f64) -> Vector3
     }
 }
 
+// From axis and angle that have been worked out, or their refusal.
 fn from_info(p: EdgePartial, a: VderInfoAnswer, u: f64, s: f64, c: f64) -> VectorAnswer
     ensures { λ r. ⌜ r ≡ fromInfo p a u s c ⌝ }
 {
@@ -83,7 +87,22 @@ fn from_info(p: EdgePartial, a: VderInfoAnswer, u: f64, s: f64, c: f64) -> Vecto
     if refusal != 0 {
         return VectorAnswer::Refused(refusal);
     }
-    answers::vector_from(true, partial(p, a.info, u, s, c))
+    answers::returned_vector(partial(p, a.info, u, s, c))
+}
+
+// From axis and angle that a caller hands in.
+pub fn partial_answer(p: EdgePartial, i: VderInfo, u: f64, s: f64, c: f64) -> VectorAnswer
+    ensures { λ r. ⌜ r ≡ partialAnswer (partialBy p) (orderOf p) i u s c ⌝ }
+{
+    let n = order(p);
+    if info::far_info(i) {
+        return VectorAnswer::Refused(1);
+    }
+    if info::short_info(i, n) {
+        return VectorAnswer::Refused(2);
+    }
+    let inputs = info::finite_inputs(i, n, u, s, c);
+    answers::vector_from(inputs, partial(p, i, u, s, c))
 }
 
 // The centre and contacts, axis and angle, and the partial.
@@ -114,10 +133,10 @@ fn finite_floats(angle: f64, u: f64, s: f64, c: f64) -> bool
     ensures { λ r. ⌜ r ≡ finiteFloats angle u s c ⌝ }
 {
     let share = both(ieee::is_finite(angle), ieee::is_finite(u));
-    let sine = both(share, ieee::is_finite(s));
-    both(sine, ieee::is_finite(c))
+    checks::finite_with(share, s, c)
 }
 
+// A partial along the edge reads the jets up to one order more.
 fn by_edge(
     p: EdgePartial,
     f: RollingBallFilletSurface,
@@ -145,44 +164,10 @@ fn by_edge(
 pub fn far_pair(f: RollingBallFilletSurface, m: usize, n: usize) -> bool
     ensures { λ r. ⌜ r ≡ farPair f m n ⌝ }
 {
-    let e = f.edge_curve;
-    let r = f.radius;
-    let a = f.surface0;
-    let b = f.surface1;
-    let pair = given::far(m, n);
-    let curves = given::far(e.order, r.order);
-    let surfaces = given::far(a.order, b.order);
-    either(pair, either(curves, surfaces))
+    either(given::far(m, n), given::far_jets(f))
 }
 
-// Whether what is given is finite, of the jets all entries.
-fn finite_whole(f: RollingBallFilletSurface, cc: ContactCircle) -> bool
-    requires { ⌜ (f .«edge_curve» .order ≤ 20) × (f .radius .order ≤ 20) × (f .surface0 .order ≤ 20) × (f .surface1 .order ≤ 20) ⌝ }
-    ensures { λ r. ⌜ r ≡ finiteWhole f cc ⌝ }
-{
-    let e = f.edge_curve;
-    let r = f.radius;
-    let a = f.surface0;
-    let b = f.surface1;
-    let x = e.entries;
-    let y = r.entries;
-    let z = a.entries;
-    let w = b.entries;
-    let p = f.normal0;
-    let q = f.normal1;
-    let normals = both(p.is_finite(), q.is_finite());
-    let circle = both(cc.is_finite(), normals);
-    let curves = both(
-        raw::finite_vectors(&x, e.order),
-        raw::finite_numbers(&y, r.order),
-    );
-    let surfaces = both(
-        raw::finite_surface(&z, a.order),
-        raw::finite_surface(&w, b.order),
-    );
-    both(circle, both(curves, surfaces))
-}
-
+// A partial along the arc reads none of them, and tests all.
 fn by_arc(
     m: usize,
     f: RollingBallFilletSurface,
@@ -192,10 +177,10 @@ fn by_arc(
     s: f64,
     c: f64,
 ) -> VectorAnswer
-    requires { ⌜ (f .«edge_curve» .order ≤ 20) × (f .radius .order ≤ 20) × (f .surface0 .order ≤ 20) × (f .surface1 .order ≤ 20) ⌝ }
+    requires { ⌜ farJets f ≡ false ⌝ }
     ensures { λ r. ⌜ r ≡ byArc m f cc angle u s c ⌝ }
 {
-    let jets = finite_whole(f, cc);
+    let jets = given::finite_whole(f, cc);
     let inputs = both(jets, finite_floats(angle, u, s, c));
     answers::vector_from(inputs, circle::derivative(cc, m, s, c))
 }
@@ -210,7 +195,7 @@ pub fn by_decision(
     s: f64,
     c: f64,
 ) -> VectorAnswer
-    requires { ⌜ (f .«edge_curve» .order ≤ 20) × (f .radius .order ≤ 20) × (f .surface0 .order ≤ 20) × (f .surface1 .order ≤ 20) ⌝ }
+    requires { ⌜ farJets f ≡ false ⌝ }
     ensures { λ r. ⌜ r ≡ byDecision d m f cc angle u s c ⌝ }
 {
     match d {

@@ -2,32 +2,14 @@
 use mathlib.Core.Path.{_≡_, refl}
 use mathlib.Core.Bool.{true}
 use lib.Ieee
-use lib.Ieee.{Float, nan, binary64, ofBits, add, sub, mul, div, eq}
+use lib.Ieee.{nan, binary64, ofBits, add, sub, mul, div, eq}
 use Rattle.ieee.specs.SquareRoot.{squareRoot}
 use Rattle.vectors.specs.Vectors.{vector, multiple, cross, magnitude}
 use Rattle.vectors.specs.Matrices.{square, columns, inverse2, inverse3, image3}
 use Rattle.vectors.specs.Answers.{nought, vectorFrom, quotientFrom, finiteVector, inverseAnswer2, inverseAnswer3, refused2, refused3}
 use Rattle.vectors.specs.declared.Matrix3.{Matrix3}
 use Rattle.vectors.specs.declared.VectorAnswer.the-variants.{Refused}
-
--- 1.0 to 5.0, and 1e308
-abbrev one : Float
-one = ofBits binary64 0x3FF0_0000_0000_0000
-
-abbrev two : Float
-two = ofBits binary64 0x4000_0000_0000_0000
-
-abbrev three : Float
-three = ofBits binary64 0x4008_0000_0000_0000
-
-abbrev four : Float
-four = ofBits binary64 0x4010_0000_0000_0000
-
-abbrev five : Float
-five = ofBits binary64 0x4014_0000_0000_0000
-
-abbrev huge : Float
-huge = ofBits binary64 0x7FE1_CCF3_85EB_C8A0
+use Rattle.vectors.proofs.Floats.{one, two, three, four, five, huge}
 
 pub magnitude-3-4-0 : magnitude (vector three four nought) ≡ five
 unfolding squareRoot add mul ofBits

@@ -1,3 +1,4 @@
 pub mod Alike
 pub mod Picked
+pub mod Floats
 pub mod Examples

@@ -17,40 +17,40 @@ finite-turn-requires c κs = tt
 rotation-requires : tie.Need-rotation-requires
 rotation-requires c κs = tt
 
-returned-requires : tie.Need-returned-requires
-returned-requires c κs = tt
+returned3-requires : tie.Need-returned3-requires
+returned3-requires c κs = tt
 
 returns : tie.Need-returns
 returns c =
     let d = c .before .before .before in
     let f = d .before .before in
     let r = f .before .args in
-    c .returned .ensures
+    c .returned3 .ensures
     ∙ ap returned3 (c .before .rotation .ensures)
     ∙ sym (inner (returned3 (rotation (r .x) (r .y) (r .z) (r .n) (r .axis) (r .s) (r .c))) (refused3 5) (refused3 1) (sym (f .served .ensures) ∙ d .before .if1 .taken)
     (sym (d .finite-turn .ensures) ∙ c .before .before .if2 .taken))
 
-refused-requires : tie.Need-refused-requires
-refused-requires c κs = tt
+refused3-requires : tie.Need-refused3-requires
+refused3-requires c κs = tt
 
 returns-2 : tie.Need-returns-2
 returns-2 c =
     let d = c .before .before in
     let f = d .before .before in
     let r = f .before .args in
-    c .refused .ensures
+    c .refused3 .ensures
     ∙ sym (outer (returned3 (rotation (r .x) (r .y) (r .z) (r .n) (r .axis) (r .s) (r .c))) (refused3 5) (refused3 1) (sym (f .served .ensures) ∙ d .before .if1 .taken)
     (sym (d .finite-turn .ensures) ∙ c .before .if2 .left))
 
-refused-requires-2 : tie.Need-refused-requires-2
-refused-requires-2 c κs = tt
+refused3-requires-2 : tie.Need-refused3-requires-2
+refused3-requires-2 c κs = tt
 
 returns-3 : tie.Need-returns-3
 returns-3 c =
     let f = c .before .before in
     let r = f .before .args in
-    c .refused2 .ensures
+    c .refused32 .ensures
     ∙ sym (second (cond (finiteTurn (r .axis) (r .s) (r .c)) (returned3 (rotation (r .x) (r .y) (r .z) (r .n) (r .axis) (r .s) (r .c))) (refused3 5)) (refused3 1) (sym (f .served .ensures) ∙ c .before .if1 .left))
 
 pub rot-der-n-spec : {M : Type 1} → statement M
-rot-der-n-spec = tie.close (tie.spec served-requires finite-turn-requires rotation-requires returned-requires returns refused-requires returns-2 refused-requires-2 returns-3)
+rot-der-n-spec = tie.close (tie.spec served-requires finite-turn-requires rotation-requires returned3-requires returns refused3-requires returns-2 refused3-requires-2 returns-3)

@@ -1,11 +1,11 @@
 -- `ContactCircle::derivative_n` meets its contract: each arm returns what the test picks. Assumes nothing.
-use mathlib.Core.Path.{sym, _∙_}
-use mathlib.Core.Bool.{_&&_}
+use mathlib.Core.Path.{sym, ap, _∙_}
+use mathlib.Core.Bool.{Bool, _&&_}
 use lib.Ieee.Scale.{finite}
 use Rattle.ieee.proofs.Tests.{first, second}
 use Rattle.vectors.specs.Answers.{vectorFrom}
 use Rattle.vectors.specs.declared.VectorAnswer.the-variants.{Refused}
-use Rattle.vectors.proofs.Picked.{both, vector-from}
+use Rattle.vectors.proofs.Picked.{vector-from}
 use Rattle.rolling_ball_fillet.specs.Circle.{derivative}
 use Rattle.rolling_ball_fillet.specs.Answers.{finiteCircle}
 use Rattle.rolling_ball_fillet.proofs.ContactCircle.derivative_n.Statement.{statement}
@@ -17,17 +17,8 @@ order-served-requires c κs = tt
 is-finite-requires : tie.Need-is-finite-requires
 is-finite-requires c κs = tt
 
-is-finite-requires-2 : tie.Need-is-finite-requires-2
-is-finite-requires-2 c κs = tt
-
-both-requires : tie.Need-both-requires
-both-requires c κs = tt
-
-is-finite-requires-3 : tie.Need-is-finite-requires-3
-is-finite-requires-3 c κs = tt
-
-both-requires-2 : tie.Need-both-requires-2
-both-requires-2 c κs = tt
+finite-with-requires : tie.Need-finite-with-requires
+finite-with-requires c κs = tt
 
 derivative-requires : tie.Need-derivative-requires
 derivative-requires c κs = tt
@@ -37,13 +28,13 @@ vector-from-requires c κs = tt
 
 returns : tie.Need-returns
 returns c =
-    let f = c .before .before .before .before .before .before .before .before in
+    let f = c .before .before .before .before .before in
     let r = f .before .args in
     c .vector-from .ensures
     ∙ vector-from
-    (c .before .before .both2 .ensures ∙ both (c .before .before .before .before .both .ensures ∙ both (c .before .before .before .before .before .before .is-finite .ensures) (c .before .before .before .before .before .is-finite2 .ensures)) (c .before .before .before .is-finite3 .ensures))
+    (c .before .before .finite-with .ensures ∙ ap (λ (b : Bool). b && finite (r .s) && finite (r .c)) (c .before .before .before .is-finite .ensures))
     (c .before .derivative .ensures)
-    ∙ sym (first (vectorFrom (finiteCircle (r .self) && finite (r .s) && finite (r .c)) (derivative (r .self) (r .m) (r .s) (r .c))) (Refused 1) (sym (f .order-served .ensures) ∙ c .before .before .before .before .before .before .before .if1 .taken))
+    ∙ sym (first (vectorFrom (finiteCircle (r .self) && finite (r .s) && finite (r .c)) (derivative (r .self) (r .m) (r .s) (r .c))) (Refused 1) (sym (f .order-served .ensures) ∙ c .before .before .before .before .if1 .taken))
 
 returns-2 : tie.Need-returns-2
 returns-2 c =
@@ -52,4 +43,4 @@ returns-2 c =
     sym (second (vectorFrom (finiteCircle (r .self) && finite (r .s) && finite (r .c)) (derivative (r .self) (r .m) (r .s) (r .c))) (Refused 1) (sym (f .order-served .ensures) ∙ c .if1 .left))
 
 pub derivative-n-spec : {M : Type 1} → statement M
-derivative-n-spec = tie.close (tie.spec order-served-requires is-finite-requires is-finite-requires-2 both-requires is-finite-requires-3 both-requires-2 derivative-requires vector-from-requires returns returns-2)
+derivative-n-spec = tie.close (tie.spec order-served-requires is-finite-requires finite-with-requires derivative-requires vector-from-requires returns returns-2)

@@ -1,6 +1,4 @@
 -- `ContactCircle::is_finite` meets its contract: each part is tested. Assumes nothing.
-use mathlib.Core.Path.{_∙_}
-use Rattle.vectors.proofs.Picked.{both}
 use Rattle.rolling_ball_fillet.proofs.ContactCircle.is_finite.Statement.{statement}
 use Rattle.rolling_ball_fillet.proofs.ContactCircle.is_finite.Tie as tie
 
@@ -32,7 +30,7 @@ both-requires-4 : tie.Need-both-requires-4
 both-requires-4 c κs = tt
 
 returns : tie.Need-returns
-returns c = c .both4 .ensures ∙ both (c .before .before .both3 .ensures ∙ both (c .before .before .before .before .both2 .ensures ∙ both (c .before .before .before .before .before .before .both .ensures ∙ both (c .before .before .before .before .before .before .before .before .is-finite .ensures) (c .before .before .before .before .before .before .before .is-finite2 .ensures)) (c .before .before .before .before .before .is-finite3 .ensures)) (c .before .before .before .is-finite4 .ensures)) (c .before .is-finite5 .ensures)
+returns c = cc
 
 pub is-finite-spec : {M : Type 1} → statement M
 is-finite-spec = tie.close (tie.spec is-finite-requires is-finite-requires-2 both-requires is-finite-requires-3 both-requires-2 is-finite-requires-4 both-requires-3 is-finite-requires-5 both-requires-4 returns)

@@ -3,7 +3,9 @@ use Rattle.ieee.proofs.Tests.{first, second}
 use Rattle.vectors.specs.declared.VectorAnswer.the-variants.{Refused}
 use Rattle.rolling_ball_fillet.specs.declared.sub_der.Decision.{Decision}
 use Rattle.rolling_ball_fillet.specs.SubDer.{decided, byDecision}
-use Rattle.rolling_ball_fillet.proofs.Decisions.{orders-within}
+use Rattle.rolling_ball_fillet.specs.Center.{farJets}
+use Rattle.derivatives.specs.VectorAnswer.{far}
+use Rattle.rolling_ball_fillet.proofs.Tests.{or-right}
 use borrow.Author.Needs.{needs}
 use mathlib.Core.Path.{sym, ap, _∙_}
 use Rattle.rolling_ball_fillet.proofs.RollingBallFilletSurface.sub_der_mn.Statement.{statement}
@@ -25,7 +27,7 @@ decide-requires c κs = search needs
 by-decision-requires : tie.Need-by-decision-requires
 by-decision-requires c κs =
     let s = c .before .before .before .args in
-    orders-within (s .self) (s .m) (s .n) (sym (c .before .before .far-pair .ensures) ∙ c .before .if1 .left)
+    or-right (far (s .m) (s .n)) (farJets (s .self)) (sym (c .before .before .far-pair .ensures) ∙ c .before .if1 .left)
 
 returns-2 : tie.Need-returns-2
 returns-2 c =

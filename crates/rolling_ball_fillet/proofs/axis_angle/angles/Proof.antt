@@ -3,7 +3,8 @@ use Rattle.derivatives.specs.Answer.{curveNumbers}
 use Rattle.derivatives.specs.Vector.{vectorNumbers}
 use Rattle.derivatives.specs.Real.{nil}
 use Rattle.rolling_ball_fillet.specs.AxisAngle.{rates, dots, turns, angles}
-use Rattle.rolling_ball_fillet.proofs.Filled.{filled-upto, numbers-held, numbers-agree}
+use Rattle.rolling_ball_fillet.proofs.Entries.{numbers-held, numbers-agree}
+use Rattle.rolling_ball_fillet.proofs.Filled.{filled-upto}
 use Rattle.rolling_ball_fillet.proofs.AxisAngle.{turns-upto, angles-upto}
 use borrow.Author.Needs.{needs}
 use denote.Ref.{now}

@@ -1,10 +1,9 @@
 -- `arm` meets its contract. Assumes nothing.
-use Rattle.ieee.proofs.Tests.{second}
-use borrow.Author.Tests.{le-ltb}
 use Rattle.derivatives.specs.Vector.{vectorArray}
 use Rattle.derivatives.specs.Real.{nil}
 use lib.ListN.{replicate}
 use Rattle.rolling_ball_fillet.specs.AxisAngle.{arm}
+use Rattle.rolling_ball_fillet.proofs.Entries.{served}
 use borrow.Author.Needs.{needs}
 use mathlib.Core.Path.{_∙_}
 use Rattle.rolling_ball_fillet.proofs.axis_angle.arm.Statement.{statement}
@@ -16,7 +15,7 @@ difference-requires c κs = search needs
 returns : tie.Need-returns
 returns c =
     let s = c .before .before .before .before .before in
-    c .difference .ensures ∙ second (replicate 63 nil) (vectorArray (arm (s .args .contact) (s .args .center)) (s .args .n)) (le-ltb 20 (s .args .n) (s .pre))
+    c .difference .ensures ∙ served 20 (s .args .n) (replicate 63 nil) (vectorArray (arm (s .args .contact) (s .args .center)) (s .args .n)) (s .pre)
 
 pub arm-spec : {M : Type 1} → statement M
 arm-spec = tie.close (tie.spec difference-requires returns)

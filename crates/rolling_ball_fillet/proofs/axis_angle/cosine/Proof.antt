@@ -21,8 +21,8 @@ clamped-requires c κs = search needs
 
 returns : tie.Need-returns
 returns c =
-    let r = c .before .before .before .before .args .r in
-    c .clamped .ensures ∙ ap (λ (x : Float). clamped (over x (times r r))) (c .before .dot .ensures ∙ ap₂ dot (c .before .before .before .vector-at .ensures) (c .before .before .vector-at2 .ensures))
+    let r = c .before .before .before .before .before .before .args .r in
+    c .clamped .ensures ∙ ap (λ (x : Float). clamped (over x (times r r))) (c .before .dot .ensures ∙ ap₂ dot (c .before .before .before .before .vector-at .ensures) (c .before .before .vector-at2 .ensures))
 
 pub cosine-spec : {M : Type 1} → statement M
 cosine-spec =

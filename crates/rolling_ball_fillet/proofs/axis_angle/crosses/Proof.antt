@@ -1,7 +1,5 @@
 -- `crosses` meets its contract. Assumes nothing.
 use Rattle.derivatives.proofs.Vectors.{VectorsFilled, vectors-none, vectors-more, vectors-all}
-use Rattle.ieee.proofs.Tests.{second}
-use borrow.Author.Tests.{le-ltb}
 use Rattle.derivatives.specs.Vector.{vectorNumbers, origin}
 use Rattle.rolling_ball_fillet.specs.AxisAngle.{crosses}
 use borrow.Author.Needs.{needs}
@@ -9,6 +7,7 @@ use denote.Ref.{now}
 use native.Mathlib.Omega.{arith}
 use Prim.Native.Nat.{suc, _-_, _≤_}
 use mathlib.Core.Path.{sym, _∙_}
+use Rattle.rolling_ball_fillet.proofs.Entries.{served}
 use Rattle.rolling_ball_fillet.proofs.axis_angle.crosses.Statement.{statement}
 use Rattle.rolling_ball_fillet.proofs.axis_angle.crosses.Tie as tie
 
@@ -24,32 +23,8 @@ loop-holds c = (vectors-none (crosses (vectorNumbers (now (c .args .p))) (vector
 cross-requires : tie.Need-cross-requires Inv-loop μ-loop
 cross-requires c κs = search needs
 
-mul-i : tie.Need-mul-i Inv-loop μ-loop
-mul-i c = search needs
-
-mul-r : tie.Need-mul-r Inv-loop μ-loop
-mul-r c = search needs
-
-array-write-r : tie.Need-array-write-r Inv-loop μ-loop
-array-write-r c = search needs
-
-add-r : tie.Need-add-r Inv-loop μ-loop
-add-r c = search needs
-
-mul-r-2 : tie.Need-mul-r-2 Inv-loop μ-loop
-mul-r-2 c = search needs
-
-array-write-r-2 : tie.Need-array-write-r-2 Inv-loop μ-loop
-array-write-r-2 c = search needs
-
-add-r-2 : tie.Need-add-r-2 Inv-loop μ-loop
-add-r-2 c = search needs
-
-mul-r-3 : tie.Need-mul-r-3 Inv-loop μ-loop
-mul-r-3 c = search needs
-
-array-write-r-3 : tie.Need-array-write-r-3 Inv-loop μ-loop
-array-write-r-3 c = search needs
+put-requires : tie.Need-put-requires Inv-loop μ-loop
+put-requires c κs = search needs
 
 add-m : tie.Need-add-m Inv-loop μ-loop
 add-m c = search needs
@@ -59,11 +34,11 @@ loop-less c = search needs
 
 loop-again : tie.Need-loop-again Inv-loop μ-loop
 loop-again c =
-    let s = c .before .before .before .args in
-    let l = c .before .before .loop in
+    let s = c .before .before .before .before .args in
+    let l = c .before .before .before .loop in
     let f = crosses (vectorNumbers (now (s .p))) (vectorNumbers (now (s .q))) in
-    let h : l .m ≤ 20 = omega arith in
-    (vectors-more f (c .cross .result) (l .inv .0) (omega arith) (sym (c .cross .ensures ∙ second origin (f (l .m)) (le-ltb 20 (l .m) h))), omega arith)
+    let e = c .before .cross .ensures ∙ served 20 (l .m) origin (f (l .m)) (omega arith) in
+    (rw (c .put .ensures) (vectors-more f (c .before .cross .result) (l .inv .0) (omega arith) (sym e)), omega arith)
 
 returns : tie.Need-returns Inv-loop μ-loop
 returns c =
@@ -78,15 +53,7 @@ crosses-spec =
     μ-loop
     loop-holds
     cross-requires
-    mul-i
-    mul-r
-    array-write-r
-    add-r
-    mul-r-2
-    array-write-r-2
-    add-r-2
-    mul-r-3
-    array-write-r-3
+    put-requires
     add-m
     loop-less
     loop-again

@@ -1,17 +1,15 @@
 -- `dots` meets its contract. Assumes nothing.
 use Rattle.derivatives.proofs.Curves.{CurveFilled}
-use Rattle.calculus.proofs.Filling.{curve-none, curve-more, curve-all}
-use lib.Ieee.{nan}
+use Rattle.rolling_ball_fillet.proofs.Filled.{numbers-none, numbers-more, numbers-all}
 use Rattle.derivatives.specs.Real.{nil}
-use Rattle.ieee.proofs.Tests.{second}
-use borrow.Author.Tests.{le-ltb}
 use Rattle.derivatives.specs.Vector.{vectorNumbers}
 use Rattle.rolling_ball_fillet.specs.AxisAngle.{dots}
+use Rattle.rolling_ball_fillet.proofs.Entries.{served}
 use borrow.Author.Needs.{needs}
 use denote.Ref.{now}
 use native.Mathlib.Omega.{arith}
 use Prim.Native.Nat.{suc, _-_, _≤_}
-use mathlib.Core.Path.{_≡_, sym, _∙_}
+use mathlib.Core.Path.{sym, _∙_}
 use Rattle.rolling_ball_fillet.proofs.axis_angle.dots.Statement.{statement}
 use Rattle.rolling_ball_fillet.proofs.axis_angle.dots.Tie as tie
 
@@ -22,7 +20,7 @@ abbrev μ-loop : tie.MeasureT-loop
 μ-loop p q n r₀ m₀ r m = suc n - m
 
 loop-holds : tie.Need-loop-holds Inv-loop μ-loop
-loop-holds c = (curve-none 21 nan nil (λ k v. dots (vectorNumbers (now (c .args .p))) (vectorNumbers (now (c .args .q))) k ≡ v), omega arith)
+loop-holds c = (numbers-none (dots (vectorNumbers (now (c .args .p))) (vectorNumbers (now (c .args .q)))), omega arith)
 
 dot-requires : tie.Need-dot-requires Inv-loop μ-loop
 dot-requires c κs = search needs
@@ -45,13 +43,13 @@ loop-again c =
     let l = c .before .before .loop in
     let f = dots (vectorNumbers (now (s .p))) (vectorNumbers (now (s .q))) in
     let h : l .m ≤ 20 = omega arith in
-    (curve-more 21 nan nil (λ k v. f k ≡ v) (c .dot .result) (l .inv .0) (omega arith) (sym (c .dot .ensures ∙ second nil (f (l .m)) (le-ltb 20 (l .m) h))), omega arith)
+    (numbers-more f (c .dot .result) (l .inv .0) (omega arith) (sym (c .dot .ensures ∙ served 20 (l .m) nil (f (l .m)) h)), omega arith)
 
 returns : tie.Need-returns Inv-loop μ-loop
 returns c =
     let s = c .before .before .args in
     let f = dots (vectorNumbers (now (s .p))) (vectorNumbers (now (s .q))) in
-    curve-all 21 nan nil (λ k v. f k ≡ v) f (λ k v e. sym e) (suc (s .n)) (c .before .loop .inv .0) (omega arith)
+    numbers-all f (suc (s .n)) (c .before .loop .inv .0) (omega arith)
 
 pub dots-spec : {M : Type 1} → statement M
 dots-spec =

@@ -1,8 +1,6 @@
 -- `rates` meets its contract. Assumes nothing.
 use Rattle.derivatives.proofs.Curves.{CurveFilled}
-use Rattle.calculus.proofs.Filling.{curve-none, curve-more, curve-all}
-use lib.Ieee.{nan}
-use Rattle.derivatives.specs.Real.{nil}
+use Rattle.rolling_ball_fillet.proofs.Filled.{numbers-none, numbers-more, numbers-all}
 use Rattle.derivatives.specs.Answer.{curveNumbers}
 use Rattle.rolling_ball_fillet.specs.AxisAngle.{rates}
 use Rattle.rolling_ball_fillet.proofs.AxisAngle.{rate-formed}
@@ -10,7 +8,7 @@ use borrow.Author.Needs.{needs}
 use denote.Ref.{now}
 use native.Mathlib.Omega.{arith}
 use Prim.Native.Nat.{suc, _-_, _≤_}
-use mathlib.Core.Path.{_≡_, sym, _∙_}
+use mathlib.Core.Path.{sym, _∙_}
 use Rattle.rolling_ball_fillet.proofs.axis_angle.rates.Statement.{statement}
 use Rattle.rolling_ball_fillet.proofs.axis_angle.rates.Tie as tie
 
@@ -21,7 +19,7 @@ abbrev μ-loop : tie.MeasureT-loop
 μ-loop r n q₀ m₀ q m = suc n - m
 
 loop-holds : tie.Need-loop-holds Inv-loop μ-loop
-loop-holds c = (curve-none 21 nan nil (λ k v. rates (curveNumbers (now (c .args .r))) k ≡ v), omega arith)
+loop-holds c = (numbers-none (rates (curveNumbers (now (c .args .r)))), omega arith)
 
 rate-requires : tie.Need-rate-requires Inv-loop μ-loop
 rate-requires c κs = search needs
@@ -43,13 +41,13 @@ loop-again c =
     let s = c .before .before .before .before .args in
     let l = c .before .before .before .loop in
     let f = rates (curveNumbers (now (s .r))) in
-    (curve-more 21 nan nil (λ k v. f k ≡ v) (c .rate .result) (l .inv .0) (omega arith) (rate-formed (curveNumbers (now (s .r))) (l .inv .0) (omega arith) ∙ sym (c .rate .ensures)), omega arith)
+    (numbers-more f (c .rate .result) (l .inv .0) (omega arith) (rate-formed (curveNumbers (now (s .r))) (l .inv .0) (omega arith) ∙ sym (c .rate .ensures)), omega arith)
 
 returns : tie.Need-returns Inv-loop μ-loop
 returns c =
     let s = c .before .before .args in
     let f = rates (curveNumbers (now (s .r))) in
-    curve-all 21 nan nil (λ k v. f k ≡ v) f (λ k v e. sym e) (suc (s .n)) (c .before .loop .inv .0) (omega arith)
+    numbers-all f (suc (s .n)) (c .before .loop .inv .0) (omega arith)
 
 pub rates-spec : {M : Type 1} → statement M
 rates-spec =

@@ -1,10 +1,9 @@
 -- `turn` meets its contract. Assumes nothing.
 use Rattle.derivatives.specs.Answer.{curveNumbers}
 use Rattle.derivatives.specs.Real.{nil, real}
-use Rattle.ieee.proofs.Tests.{second}
-use borrow.Author.Tests.{le-ltb}
 use Rattle.calculus.specs.Curve.{product}
 use Rattle.rolling_ball_fillet.proofs.AxisAngle.{turn-is}
+use Rattle.rolling_ball_fillet.proofs.Entries.{served}
 use borrow.Author.Needs.{needs}
 use denote.Ref.{now}
 use native.Mathlib.Omega.{arith}
@@ -40,7 +39,7 @@ returns c =
     let q = curveNumbers (now (s .args .q)) in
     let m = s .args .m in
     let h : m ≤ 20 = omega arith in
-    turn-is rate dot length q m (c .before .before .before .product .ensures ∙ second nil (product real q length m) (le-ltb 20 m h)) (c .before .before .product2 .ensures ∙ second nil (product real rate dot m) (le-ltb 20 m h))
+    turn-is rate dot length q m (c .before .before .before .product .ensures ∙ served 20 m nil (product real q length m) h) (c .before .before .product2 .ensures ∙ served 20 m nil (product real rate dot m) h)
 
 pub turn-spec : {M : Type 1} → statement M
 turn-spec =

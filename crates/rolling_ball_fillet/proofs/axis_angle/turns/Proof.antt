@@ -1,8 +1,6 @@
 -- `turns` meets its contract. Assumes nothing.
 use Rattle.derivatives.proofs.Curves.{CurveFilled}
-use Rattle.calculus.proofs.Filling.{curve-none, curve-more, curve-all}
-use lib.Ieee.{nan}
-use Rattle.derivatives.specs.Real.{nil}
+use Rattle.rolling_ball_fillet.proofs.Filled.{numbers-none, numbers-more, numbers-all}
 use Rattle.derivatives.specs.Answer.{curveNumbers}
 use Rattle.rolling_ball_fillet.specs.AxisAngle.{turns}
 use Rattle.rolling_ball_fillet.proofs.AxisAngle.{turn-formed}
@@ -10,7 +8,7 @@ use borrow.Author.Needs.{needs}
 use denote.Ref.{now}
 use native.Mathlib.Omega.{arith}
 use Prim.Native.Nat.{_-_, _≤_}
-use mathlib.Core.Path.{_≡_, sym, _∙_}
+use mathlib.Core.Path.{sym, _∙_}
 use Rattle.rolling_ball_fillet.proofs.axis_angle.turns.Statement.{statement}
 use Rattle.rolling_ball_fillet.proofs.axis_angle.turns.Tie as tie
 
@@ -23,7 +21,7 @@ abbrev μ-loop : tie.MeasureT-loop
 loop-holds : tie.Need-loop-holds Inv-loop μ-loop
 loop-holds c =
     let s = c .args in
-    (curve-none 21 nan nil (λ k v. turns (curveNumbers (now (s .rate))) (curveNumbers (now (s .dot))) (curveNumbers (now (s .length))) k ≡ v), omega arith)
+    (numbers-none (turns (curveNumbers (now (s .rate))) (curveNumbers (now (s .dot))) (curveNumbers (now (s .length)))), omega arith)
 
 turn-requires : tie.Need-turn-requires Inv-loop μ-loop
 turn-requires c κs = search needs
@@ -47,13 +45,13 @@ loop-again c =
     let rate = curveNumbers (now (s .rate)) in
     let dot = curveNumbers (now (s .dot)) in
     let length = curveNumbers (now (s .length)) in
-    (curve-more 21 nan nil (λ k v. turns rate dot length k ≡ v) (c .turn .result) (l .inv .0) (omega arith) (turn-formed rate dot length (l .inv .0) (omega arith) ∙ sym (c .turn .ensures)), omega arith)
+    (numbers-more (turns rate dot length) (c .turn .result) (l .inv .0) (omega arith) (turn-formed rate dot length (l .inv .0) (omega arith) ∙ sym (c .turn .ensures)), omega arith)
 
 returns : tie.Need-returns Inv-loop μ-loop
 returns c =
     let s = c .before .before .args in
     let f = turns (curveNumbers (now (s .rate))) (curveNumbers (now (s .dot))) (curveNumbers (now (s .length))) in
-    curve-all 21 nan nil (λ k v. f k ≡ v) f (λ k v e. sym e) (s .n) (c .before .loop .inv .0) (omega arith)
+    numbers-all f (s .n) (c .before .loop .inv .0) (omega arith)
 
 pub turns-spec : {M : Type 1} → statement M
 turns-spec =

@@ -1,8 +1,6 @@
 -- `with_angle` meets its contract. Assumes nothing.
 use Rattle.derivatives.proofs.Curves.{CurveFilled}
-use Rattle.calculus.proofs.Filling.{curve-none, curve-more, curve-all}
-use lib.Ieee.{nan}
-use Rattle.derivatives.specs.Real.{nil}
+use Rattle.rolling_ball_fillet.proofs.Filled.{numbers-none, numbers-more, numbers-all}
 use Rattle.derivatives.specs.Answer.{curveNumbers}
 use native.Mathlib.Numerals.{add-one}
 use Rattle.rolling_ball_fillet.specs.AxisAngle.{angles}
@@ -10,7 +8,7 @@ use borrow.Author.Needs.{needs}
 use denote.Ref.{now}
 use native.Mathlib.Omega.{arith}
 use Prim.Native.Nat.{suc, _+_, _-_, _≤_}
-use mathlib.Core.Path.{_≡_, refl, sym, ap}
+use mathlib.Core.Path.{refl, ap}
 use Rattle.rolling_ball_fillet.proofs.axis_angle.with_angle.Statement.{statement}
 use Rattle.rolling_ball_fillet.proofs.axis_angle.with_angle.Tie as tie
 
@@ -27,7 +25,7 @@ loop-holds : tie.Need-loop-holds Inv-loop μ-loop
 loop-holds c =
     let s = c .args in
     let f = angles (s .angle) (curveNumbers (now (s .turn))) in
-    (curve-more 21 nan nil (λ k v. f k ≡ v) (s .angle) (curve-none 21 nan nil (λ k v. f k ≡ v)) (omega arith) refl, omega arith)
+    (numbers-more f (s .angle) (numbers-none f) (omega arith) refl, omega arith)
 
 mul-r : tie.Need-mul-r Inv-loop μ-loop
 mul-r c = search needs
@@ -55,13 +53,13 @@ loop-again c =
     let s = c .before .before .before .args in
     let l = c .before .before .loop in
     let f = angles (s .angle) (curveNumbers (now (s .turn))) in
-    (curve-more 21 nan nil (λ k v. f k ≡ v) (curveNumbers (now (s .turn)) (l .m)) (l .inv .0) (omega arith) (ap f (add-one (l .m))), omega arith)
+    (numbers-more f (curveNumbers (now (s .turn)) (l .m)) (l .inv .0) (omega arith) (ap f (add-one (l .m))), omega arith)
 
 returns : tie.Need-returns Inv-loop μ-loop
 returns c =
     let s = c .before .before .args in
     let f = angles (s .angle) (curveNumbers (now (s .turn))) in
-    curve-all 21 nan nil (λ k v. f k ≡ v) f (λ k v e. sym e) (suc (s .n)) (c .before .loop .inv .0) (omega arith)
+    numbers-all f (suc (s .n)) (c .before .loop .inv .0) (omega arith)
 
 pub with-angle-spec : {M : Type 1} → statement M
 with-angle-spec =

@@ -1,6 +1,5 @@
 -- `derivative` meets its contract, call by call. Assumes nothing.
-use mathlib.Core.Path.{_≡_, ap, ap₂, _∙_}
-use lib.Ieee.{Float}
+use mathlib.Core.Path.{ap, ap₂, _∙_}
 use Rattle.vectors.specs.Vectors.{sum, multiple}
 use Rattle.vectors.specs.Matrices.{image3}
 use Rattle.rolling_ball_fillet.specs.declared.Pair.{Pair}

@@ -1,7 +1,5 @@
 -- `short` meets its contract: each order is tested. Assumes nothing.
 use borrow.Author.Needs.{needs}
-use mathlib.Core.Path.{ap₂, _∙_}
-use mathlib.Core.Bool.{_||_}
 use Rattle.rolling_ball_fillet.proofs.given.short.Statement.{statement}
 use Rattle.rolling_ball_fillet.proofs.given.short.Tie as tie
 
@@ -15,7 +13,7 @@ either-requires-3 : tie.Need-either-requires-3
 either-requires-3 c κs = search needs
 
 returns : tie.Need-returns
-returns c = c .either3 .ensures ∙ ap₂ _||_ (c .before .before .before .before .either .ensures) (c .before .either2 .ensures)
+returns c = cc
 
 pub short-spec : {M : Type 1} → statement M
 short-spec = tie.close (tie.spec either-requires either-requires-2 either-requires-3 returns)

@@ -1,9 +1,6 @@
 -- `finite_given` meets its contract. Assumes nothing.
-use Rattle.vectors.proofs.Picked.{both}
 use native.Mathlib.Numerals.{add-one}
-use Rattle.rolling_ball_fillet.specs.Jets.{finiteNumbers}
 use borrow.Author.Needs.{needs}
-use mathlib.Core.Path.{ap, _∙_}
 use Rattle.rolling_ball_fillet.proofs.info.finite_given.Statement.{statement}
 use Rattle.rolling_ball_fillet.proofs.info.finite_given.Tie as tie
 
@@ -26,10 +23,7 @@ both-requires-2 : tie.Need-both-requires-2
 both-requires-2 c κs = search needs
 
 returns : tie.Need-returns
-returns c =
-    let s = c .before .before .before .before .before .args in
-    let jets = c .before .before .both .ensures ∙ both (c .before .before .before .before .finite-contacts .ensures) (c .before .before .before .finite-numbers .ensures ∙ ap (finiteNumbers (s .r)) (add-one (s .n))) in
-    c .both2 .ensures ∙ both jets (c .before .is-finite .ensures)
+returns c = cc (add-one (c .before .before .before .before .before .args .n))
 
 pub finite-given-spec : {M : Type 1} → statement M
 finite-given-spec =

@@ -1,7 +1,5 @@
 -- `finite_info` meets its contract. Assumes nothing.
-use Rattle.vectors.proofs.Picked.{both}
 use borrow.Author.Needs.{needs}
-use mathlib.Core.Path.{_∙_}
 use Rattle.rolling_ball_fillet.proofs.info.finite_info.Statement.{statement}
 use Rattle.rolling_ball_fillet.proofs.info.finite_info.Tie as tie
 
@@ -21,7 +19,7 @@ both-requires-2 : tie.Need-both-requires-2
 both-requires-2 c κs = search needs
 
 returns : tie.Need-returns
-returns c = c .both2 .ensures ∙ both (c .before .before .both .ensures ∙ both (c .before .before .before .before .finite-contacts .ensures) (c .before .before .before .finite-jet .ensures)) (c .before .finite-numbers .ensures)
+returns c = cc
 
 pub finite-info-spec : {M : Type 1} → statement M
 finite-info-spec =

@@ -1,10 +1,6 @@
 -- `short_info` meets its contract. Assumes nothing.
-use mathlib.Core.Bool.{Bool, _||_}
-use lib.Dec.{ltb}
 use native.Mathlib.Numerals.{add-one}
-use Rattle.rolling_ball_fillet.specs.Jets.{shortContacts}
 use borrow.Author.Needs.{needs}
-use mathlib.Core.Path.{ap, _∙_}
 use Rattle.rolling_ball_fillet.proofs.info.short_info.Statement.{statement}
 use Rattle.rolling_ball_fillet.proofs.info.short_info.Tie as tie
 
@@ -24,13 +20,7 @@ either-requires-3 : tie.Need-either-requires-3
 either-requires-3 c κs = search needs
 
 returns : tie.Need-returns
-returns c =
-    let i = c .before .before .before .before .before .before .before .before .before .before .before .args .i in
-    let k = c .before .before .before .before .before .before .before .before .before .before .before .args .k in
-    let points = c .before .before .before .before .before .short-contacts .ensures ∙ ap (shortContacts (i .«cc_ders»)) (add-one k) in
-    let contacts = c .before .before .before .before .either .ensures ∙ ap (λ (b : Bool). ltb (i .«cc_ders» .«center_ders» .order) k || b) points in
-    let axis = c .before .before .either2 .ensures ∙ ap (λ (b : Bool). b || ltb (i .«axis_ders» .order) k) contacts in
-    c .either3 .ensures ∙ ap (λ (b : Bool). b || ltb (i .«angle_ders» .order) k) axis
+returns c = cc (add-one (c .before .before .before .before .before .before .before .before .before .before .before .args .k))
 
 pub short-info-spec : {M : Type 1} → statement M
 short-info-spec =

@@ -21,32 +21,8 @@ loop-holds c = (vectors-none (vectorNumbers (now (c .args .a))), omega arith)
 vector-at-requires : tie.Need-vector-at-requires Inv-loop μ-loop
 vector-at-requires c κs = search needs
 
-mul-i : tie.Need-mul-i Inv-loop μ-loop
-mul-i c = search needs
-
-mul-r : tie.Need-mul-r Inv-loop μ-loop
-mul-r c = search needs
-
-array-write-r : tie.Need-array-write-r Inv-loop μ-loop
-array-write-r c = search needs
-
-add-r : tie.Need-add-r Inv-loop μ-loop
-add-r c = search needs
-
-mul-r-2 : tie.Need-mul-r-2 Inv-loop μ-loop
-mul-r-2 c = search needs
-
-array-write-r-2 : tie.Need-array-write-r-2 Inv-loop μ-loop
-array-write-r-2 c = search needs
-
-add-r-2 : tie.Need-add-r-2 Inv-loop μ-loop
-add-r-2 c = search needs
-
-mul-r-3 : tie.Need-mul-r-3 Inv-loop μ-loop
-mul-r-3 c = search needs
-
-array-write-r-3 : tie.Need-array-write-r-3 Inv-loop μ-loop
-array-write-r-3 c = search needs
+put-requires : tie.Need-put-requires Inv-loop μ-loop
+put-requires c κs = search needs
 
 add-m : tie.Need-add-m Inv-loop μ-loop
 add-m c = search needs
@@ -55,7 +31,10 @@ loop-less : tie.Need-loop-less Inv-loop μ-loop
 loop-less c = search needs
 
 loop-again : tie.Need-loop-again Inv-loop μ-loop
-loop-again c = (vectors-more (vectorNumbers (now (c .before .before .before .args .a))) (c .vector-at .result) (c .before .before .loop .inv .0) (omega arith) (sym (c .vector-at .ensures)), omega arith)
+loop-again c =
+    let f = vectorNumbers (now (c .before .before .before .before .before .args .a)) in
+    let l = c .before .before .before .before .loop in
+    (rw (c .put .ensures) (vectors-more f (c .before .vector-at .result) (l .inv .0) (omega arith) (sym (c .before .vector-at .ensures))), omega arith)
 
 returns : tie.Need-returns Inv-loop μ-loop
 returns c = vectors-all (vectorNumbers (now (c .before .before .args .a))) (c .before .before .args .n) (c .before .loop .inv .0) (omega arith)
@@ -68,15 +47,7 @@ cut-entries-spec =
     μ-loop
     loop-holds
     vector-at-requires
-    mul-i
-    mul-r
-    array-write-r
-    add-r
-    mul-r-2
-    array-write-r-2
-    add-r-2
-    mul-r-3
-    array-write-r-3
+    put-requires
     add-m
     loop-less
     loop-again

@@ -1,14 +1,12 @@
 -- `cut_numbers` meets its contract. Assumes nothing.
 use Rattle.derivatives.proofs.Curves.{CurveFilled}
-use Rattle.calculus.proofs.Filling.{curve-none, curve-more, curve-all}
-use lib.Ieee.{nan}
-use Rattle.derivatives.specs.Real.{nil}
+use Rattle.rolling_ball_fillet.proofs.Filled.{numbers-none, numbers-more, numbers-all}
 use Rattle.derivatives.specs.Answer.{curveNumbers}
 use borrow.Author.Needs.{needs}
 use denote.Ref.{now}
 use native.Mathlib.Omega.{arith}
 use Prim.Native.Nat.{suc, _-_, _≤_}
-use mathlib.Core.Path.{_≡_, refl, sym}
+use mathlib.Core.Path.{refl}
 use Rattle.rolling_ball_fillet.proofs.jets.cut_numbers.Statement.{statement}
 use Rattle.rolling_ball_fillet.proofs.jets.cut_numbers.Tie as tie
 
@@ -19,7 +17,7 @@ abbrev μ-loop : tie.MeasureT-loop
 μ-loop a n r₀ m₀ r m = suc n - m
 
 loop-holds : tie.Need-loop-holds Inv-loop μ-loop
-loop-holds c = (curve-none 21 nan nil (λ k v. curveNumbers (now (c .args .a)) k ≡ v), omega arith)
+loop-holds c = (numbers-none (curveNumbers (now (c .args .a))), omega arith)
 
 mul-r : tie.Need-mul-r Inv-loop μ-loop
 mul-r c = search needs
@@ -43,12 +41,12 @@ loop-again : tie.Need-loop-again Inv-loop μ-loop
 loop-again c =
     let f = curveNumbers (now (c .before .before .before .args .a)) in
     let l = c .before .before .loop in
-    (curve-more 21 nan nil (λ k v. f k ≡ v) (f (l .m)) (l .inv .0) (omega arith) refl, omega arith)
+    (numbers-more f (f (l .m)) (l .inv .0) (omega arith) refl, omega arith)
 
 returns : tie.Need-returns Inv-loop μ-loop
 returns c =
     let f = curveNumbers (now (c .before .before .args .a)) in
-    curve-all 21 nan nil (λ k v. f k ≡ v) f (λ k v e. sym e) (suc (c .before .before .args .n)) (c .before .loop .inv .0) (omega arith)
+    numbers-all f (suc (c .before .before .args .n)) (c .before .loop .inv .0) (omega arith)
 
 pub cut-numbers-spec : {M : Type 1} → statement M
 cut-numbers-spec =

@@ -1,15 +1,11 @@
 -- `by_edge` meets its contract. Assumes nothing.
 use Rattle.vectors.proofs.Picked.{both}
-use mathlib.Core.Bool.{cond, _&&_}
 use native.Mathlib.Numerals.{add-one}
-use Rattle.ieee.proofs.Tests.{first}
-use Rattle.vectors.specs.declared.VectorAnswer.the-variants.{Refused}
-use Rattle.rolling_ball_fillet.specs.Center.{radii, centerContacts, short, finiteGiven}
-use Rattle.rolling_ball_fillet.specs.SubDer.{orderOf, fromContacts, finiteFloats}
-use Rattle.rolling_ball_fillet.proofs.Tests.{passed, stopped}
+use Rattle.rolling_ball_fillet.specs.Center.{short, finiteGiven}
+use Rattle.rolling_ball_fillet.proofs.Tested.{edge-asked}
 use borrow.Author.Needs.{needs}
 use Prim.Native.Nat.{suc}
-use mathlib.Core.Path.{sym, ap, _∙_}
+use mathlib.Core.Path.{refl, sym, ap, _∙_}
 use Rattle.rolling_ball_fillet.proofs.sub_der.by_edge.Statement.{statement}
 use Rattle.rolling_ball_fillet.proofs.sub_der.by_edge.Tie as tie
 
@@ -25,13 +21,9 @@ short-requires c κs = search needs
 returns : tie.Need-returns
 returns c =
     let s = c .before .before .before .args in
-    let f = s .f in
-    let p = s .p in
     let k = add-one (c .before .before .order .result) ∙ ap suc (c .before .before .order .ensures .0) in
-    let work = fromContacts p (centerContacts f (s .cc) (orderOf p)) (radii f) (s .angle) (s .u) (s .s) (s .c) in
-    let fin = finiteGiven f (s .cc) (suc (orderOf p)) && finiteFloats (s .angle) (s .u) (s .s) (s .c) in
-    let unfit = c .before .short .ensures ∙ ap (short f) k in
-    sym (first (Refused 2) (cond fin work (Refused 5)) (sym unfit ∙ c .if1 .taken))
+    let unfit = c .before .short .ensures ∙ ap (short (s .f)) k in
+    edge-asked (s .p) (s .f) (s .cc) (s .angle) (s .u) (s .s) (s .c) (sym unfit ∙ c .if1 .taken) refl
 
 finite-given-requires : tie.Need-finite-given-requires
 finite-given-requires c κs = search needs
@@ -48,22 +40,18 @@ along-edge-requires c κs = search needs
 returns-2 : tie.Need-returns-2
 returns-2 c =
     let s = c .before .before .before .before .before .before .before .before .args in
-    let f = s .f in
-    let p = s .p in
     let k = add-one (c .before .before .before .before .before .before .before .order .result) ∙ ap suc (c .before .before .before .before .before .before .before .order .ensures .0) in
-    let work = fromContacts p (centerContacts f (s .cc) (orderOf p)) (radii f) (s .angle) (s .u) (s .s) (s .c) in
-    let unfit = c .before .before .before .before .before .before .short .ensures ∙ ap (short f) k in
-    c .along-edge .ensures ∙ passed (Refused 2) work (Refused 5) (sym unfit ∙ c .before .before .before .before .before .if1 .left) (sym (c .before .before .both .ensures ∙ both (c .before .before .before .before .finite-given .ensures ∙ ap (finiteGiven f (s .cc)) k) (c .before .before .before .finite-floats .ensures)) ∙ c .before .if2 .taken)
+    let unfit = c .before .before .before .before .before .before .short .ensures ∙ ap (short (s .f)) k in
+    let fin = c .before .before .both .ensures ∙ both (c .before .before .before .before .finite-given .ensures ∙ ap (finiteGiven (s .f) (s .cc)) k) (c .before .before .before .finite-floats .ensures) in
+    c .along-edge .ensures ∙ edge-asked (s .p) (s .f) (s .cc) (s .angle) (s .u) (s .s) (s .c) (sym unfit ∙ c .before .before .before .before .before .if1 .left) (sym fin ∙ c .before .if2 .taken)
 
 returns-3 : tie.Need-returns-3
 returns-3 c =
     let s = c .before .before .before .before .before .before .before .args in
-    let f = s .f in
-    let p = s .p in
     let k = add-one (c .before .before .before .before .before .before .order .result) ∙ ap suc (c .before .before .before .before .before .before .order .ensures .0) in
-    let work = fromContacts p (centerContacts f (s .cc) (orderOf p)) (radii f) (s .angle) (s .u) (s .s) (s .c) in
-    let unfit = c .before .before .before .before .before .short .ensures ∙ ap (short f) k in
-    stopped (Refused 2) work (Refused 5) (sym unfit ∙ c .before .before .before .before .if1 .left) (sym (c .before .both .ensures ∙ both (c .before .before .before .finite-given .ensures ∙ ap (finiteGiven f (s .cc)) k) (c .before .before .finite-floats .ensures)) ∙ c .if2 .left)
+    let unfit = c .before .before .before .before .before .short .ensures ∙ ap (short (s .f)) k in
+    let fin = c .before .both .ensures ∙ both (c .before .before .before .finite-given .ensures ∙ ap (finiteGiven (s .f) (s .cc)) k) (c .before .before .finite-floats .ensures) in
+    edge-asked (s .p) (s .f) (s .cc) (s .angle) (s .u) (s .s) (s .c) (sym unfit ∙ c .before .before .before .before .if1 .left) (sym fin ∙ c .if2 .left)
 
 pub by-edge-spec : {M : Type 1} → statement M
 by-edge-spec =

@@ -18,15 +18,15 @@ returns c =
 partial-requires : tie.Need-partial-requires
 partial-requires c κs = search needs
 
-vector-from-requires : tie.Need-vector-from-requires
-vector-from-requires c κs = search needs
+returned-vector-requires : tie.Need-returned-vector-requires
+returned-vector-requires c κs = search needs
 
 returns-2 : tie.Need-returns-2
 returns-2 c =
     let s = c .before .before .before .args in
     let a = s .a in
-    c .vector-from .ensures ∙ ap returnedVector (c .before .partial .ensures)
+    c .returned-vector .ensures ∙ ap returnedVector (c .before .partial .ensures)
     ∙ sym (first (returnedVector (partialBy (s .p) (a .info) (s .u) (s .s) (s .c))) (Refused (a .refusal)) (eq-eqb (a .refusal) 0 (c .before .before .if1 .left)))
 
 pub from-info-spec : {M : Type 1} → statement M
-from-info-spec = tie.close (tie.spec returns partial-requires vector-from-requires returns-2)
+from-info-spec = tie.close (tie.spec returns partial-requires returned-vector-requires returns-2)

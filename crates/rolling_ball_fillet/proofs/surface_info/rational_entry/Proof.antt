@@ -1,19 +1,17 @@
 -- `rational_entry` meets its contract: the entry that the array holds. Assumes nothing.
 use borrow.Author.Needs.{needs}
 use native.Mathlib.Omega.{arith}
-use mathlib.Core.Path.{ap, _∙_}
+use mathlib.Core.Path.{_∙_}
 use denote.Ref.{now}
 use Prim.Native.Nat.{_≤_}
 use native.Mathlib.Nat.{le-refl}
 use lib.ListN.{replicate}
-use lib.Ieee.{Float}
-use mathlib.Core.List.{List}
 use Rattle.vectors.specs.Vectors.{quotient}
 use Rattle.derivatives.specs.Real.{nil}
 use Rattle.derivatives.specs.Rational.{rational}
 use Rattle.derivatives.specs.Answer.{curveNumbers}
 use Rattle.derivatives.specs.Vector.{vectors, vectorNumbers, vectorArray}
-use Rattle.rolling_ball_fillet.proofs.Entries.{served, vectors-at}
+use Rattle.rolling_ball_fillet.proofs.Entries.{served, vectors-agree}
 use Rattle.rolling_ball_fillet.proofs.surface_info.rational_entry.Statement.{statement}
 use Rattle.rolling_ball_fillet.proofs.surface_info.rational_entry.Tie as tie
 
@@ -32,7 +30,7 @@ returns c =
     let h : a .m ≤ 20 = omega (arith, c .before .before .before .pre) in
     let f = rational vectors quotient (vectorNumbers (now (a .a))) (curveNumbers (now (a .w))) in
     let e = c .before .before .rational .ensures ∙ served 20 (a .m) (replicate 63 nil) (vectorArray f (a .m)) h in
-    c .vector-at .ensures ∙ ap (λ (l : List Float). vectorNumbers l (a .m)) e ∙ vectors-at f (a .m) (a .m) h (le-refl (a .m))
+    c .vector-at .ensures ∙ vectors-agree f (a .m) h e (a .m) (le-refl (a .m))
 
 pub rational-entry-spec : {M : Type 1} → statement M
 rational-entry-spec = tie.close (tie.spec rational-requires slice-aggregate-vector-at vector-at-requires returns)

