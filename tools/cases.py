@@ -101,3 +101,11 @@ def due(name, orders):
     if name in FILLET:
         return [9 if name in ('rot_der_n', 'from_axis_angle') else 3]
     raise ValueError(name)
+
+
+def write(program, lines):
+    """A program's input, a line of words for each case, and its output where no case differs."""
+    lines = [' '.join(words) + '\n' for words in lines]
+    with open('crates/%s/stdin' % program, 'w') as given, open('crates/%s/stdout' % program, 'w') as told:
+        given.writelines([size(len(lines)) + '\n'] + lines)
+        told.write('%d cases, 0 differ\n' % len(lines))

@@ -7,7 +7,7 @@ use Rattle.replay_text.proofs.next_float_lists.Statement.{statement}
 use Rattle.replay_text.proofs.next_float_lists.Tie as tie
 
 abbrev Inv-loop : tie.InvT-loop
-Inv-loop l₀ ends₀ n at₀ i₀ l ends at i = (i ≤ n) × (length l ≡ length l₀) × (length ends ≡ length ends₀)
+Inv-loop l₀ ends₀ n at₀ i₀ l ends at i = (i ≤ n) × (at ≤ length l₀) × (length l ≡ length l₀) × (length ends ≡ length ends₀)
 
 abbrev μ-loop : tie.MeasureT-loop
 μ-loop l₀ ends₀ n at₀ i₀ l ends at i = n - i
@@ -21,14 +21,23 @@ loop-holds c = search needs
 put-size-requires : tie.Need-put-size-requires Inv-loop μ-loop
 put-size-requires c κs = search needs
 
-next-size-requires-2 : tie.Need-next-size-requires-2 Inv-loop μ-loop
-next-size-requires-2 c κs = search needs
+mul-next-floats : tie.Need-mul-next-floats Inv-loop μ-loop
+mul-next-floats c = search needs
 
-past-requires : tie.Need-past-requires Inv-loop μ-loop
-past-requires c κs = search needs
+sub-next-floats : tie.Need-sub-next-floats Inv-loop μ-loop
+sub-next-floats c = search needs
+
+part-next-floats-start : tie.Need-part-next-floats-start Inv-loop μ-loop
+part-next-floats-start c = search needs
+
+part-next-floats-end : tie.Need-part-next-floats-end Inv-loop μ-loop
+part-next-floats-end c = search needs
 
 next-floats-requires : tie.Need-next-floats-requires Inv-loop μ-loop
 next-floats-requires c κs = search needs
+
+add-at : tie.Need-add-at Inv-loop μ-loop
+add-at c = search needs
 
 add-i : tie.Need-add-i Inv-loop μ-loop
 add-i c = search needs
@@ -60,9 +69,12 @@ next-float-lists-spec =
     next-size-requires
     loop-holds
     put-size-requires
-    next-size-requires-2
-    past-requires
+    mul-next-floats
+    sub-next-floats
+    part-next-floats-start
+    part-next-floats-end
     next-floats-requires
+    add-at
     add-i
     loop-less
     loop-again

@@ -7,7 +7,7 @@ use Rattle.replay_text.proofs.next_size_lists.Statement.{statement}
 use Rattle.replay_text.proofs.next_size_lists.Tie as tie
 
 abbrev Inv-loop : tie.InvT-loop
-Inv-loop l₀ ends₀ n at₀ i₀ l ends at i = (i ≤ n) × (length l ≡ length l₀) × (length ends ≡ length ends₀)
+Inv-loop l₀ ends₀ n at₀ i₀ l ends at i = (i ≤ n) × (at ≤ length l₀) × (length l ≡ length l₀) × (length ends ≡ length ends₀)
 
 abbrev μ-loop : tie.MeasureT-loop
 μ-loop l₀ ends₀ n at₀ i₀ l ends at i = n - i
@@ -21,14 +21,23 @@ loop-holds c = search needs
 put-size-requires : tie.Need-put-size-requires Inv-loop μ-loop
 put-size-requires c κs = search needs
 
-next-size-requires-2 : tie.Need-next-size-requires-2 Inv-loop μ-loop
-next-size-requires-2 c κs = search needs
+mul-next-sizes : tie.Need-mul-next-sizes Inv-loop μ-loop
+mul-next-sizes c = search needs
 
-past-requires : tie.Need-past-requires Inv-loop μ-loop
-past-requires c κs = search needs
+sub-next-sizes : tie.Need-sub-next-sizes Inv-loop μ-loop
+sub-next-sizes c = search needs
+
+part-next-sizes-start : tie.Need-part-next-sizes-start Inv-loop μ-loop
+part-next-sizes-start c = search needs
+
+part-next-sizes-end : tie.Need-part-next-sizes-end Inv-loop μ-loop
+part-next-sizes-end c = search needs
 
 next-sizes-requires : tie.Need-next-sizes-requires Inv-loop μ-loop
 next-sizes-requires c κs = search needs
+
+add-at : tie.Need-add-at Inv-loop μ-loop
+add-at c = search needs
 
 add-i : tie.Need-add-i Inv-loop μ-loop
 add-i c = search needs
@@ -60,9 +69,12 @@ next-size-lists-spec =
     next-size-requires
     loop-holds
     put-size-requires
-    next-size-requires-2
-    past-requires
+    mul-next-sizes
+    sub-next-sizes
+    part-next-sizes-start
+    part-next-sizes-end
     next-sizes-requires
+    add-at
     add-i
     loop-less
     loop-again

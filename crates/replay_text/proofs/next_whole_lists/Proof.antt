@@ -7,7 +7,7 @@ use Rattle.replay_text.proofs.next_whole_lists.Statement.{statement}
 use Rattle.replay_text.proofs.next_whole_lists.Tie as tie
 
 abbrev Inv-loop : tie.InvT-loop
-Inv-loop l₀ ends₀ n at₀ i₀ l ends at i = (i ≤ n) × (length l ≡ length l₀) × (length ends ≡ length ends₀)
+Inv-loop l₀ ends₀ n at₀ i₀ l ends at i = (i ≤ n) × (at ≤ length l₀) × (length l ≡ length l₀) × (length ends ≡ length ends₀)
 
 abbrev μ-loop : tie.MeasureT-loop
 μ-loop l₀ ends₀ n at₀ i₀ l ends at i = n - i
@@ -21,14 +21,23 @@ loop-holds c = search needs
 put-size-requires : tie.Need-put-size-requires Inv-loop μ-loop
 put-size-requires c κs = search needs
 
-next-size-requires-2 : tie.Need-next-size-requires-2 Inv-loop μ-loop
-next-size-requires-2 c κs = search needs
+mul-next-wholes : tie.Need-mul-next-wholes Inv-loop μ-loop
+mul-next-wholes c = search needs
 
-past-requires : tie.Need-past-requires Inv-loop μ-loop
-past-requires c κs = search needs
+sub-next-wholes : tie.Need-sub-next-wholes Inv-loop μ-loop
+sub-next-wholes c = search needs
+
+part-next-wholes-start : tie.Need-part-next-wholes-start Inv-loop μ-loop
+part-next-wholes-start c = search needs
+
+part-next-wholes-end : tie.Need-part-next-wholes-end Inv-loop μ-loop
+part-next-wholes-end c = search needs
 
 next-wholes-requires : tie.Need-next-wholes-requires Inv-loop μ-loop
 next-wholes-requires c κs = search needs
+
+add-at : tie.Need-add-at Inv-loop μ-loop
+add-at c = search needs
 
 add-i : tie.Need-add-i Inv-loop μ-loop
 add-i c = search needs
@@ -60,9 +69,12 @@ next-whole-lists-spec =
     next-size-requires
     loop-holds
     put-size-requires
-    next-size-requires-2
-    past-requires
+    mul-next-wholes
+    sub-next-wholes
+    part-next-wholes-start
+    part-next-wholes-end
     next-wholes-requires
+    add-at
     add-i
     loop-less
     loop-again
