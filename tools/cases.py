@@ -58,6 +58,11 @@ def bits(x):
     return struct.pack('>d', x).hex()
 
 
+def checked(answer):
+    """A whole number or a refusal (checked.py): 0 and the number, or the refusal and 0."""
+    return [size(answer.args[0]), whole(0)] if isinstance(answer, Exception) else [size(0), whole(answer)]
+
+
 def group(lists, word):
     return [size(len(lists))] + [w for members in lists for w in [size(len(members))] + [word(x) for x in members]]
 
