@@ -78,36 +78,31 @@ def stirling_of(order, size):
     return [3, 0] if size > order else [0, stirling(order, size)]
 
 
-# ---- the cases, as numbers
-def listed(members):
-    return [len(members), *members]
-
-
-def stored(current):
-    """An array of 20, the zeros at its end left out."""
-    return listed(current[: max((i + 1 for i, part in enumerate(current) if part), default=0)])
+# ---- the cases
+def stored(parts):
+    return cases.stored(parts, cases.size)
 
 
 def record(walk):
     order, size, end, current = walk
-    return [order, size, int(end)] + stored(current)
+    return cases.sizes(order, size, end) + stored(current)
 
 
 def step(walk):
     """The item and the record after a step, by value and lent."""
     (refusal, ended, parts), after = stepped(walk)
-    return ([refusal, int(ended)] + stored(parts) + record(after)) * 2
+    return (cases.sizes(refusal, ended) + stored(parts) + record(after)) * 2
 
 
 def start(order, size):
     refusal, walk = started(order, size)
-    return [1, order, size, refusal] + record(walk)
+    return cases.sizes(1, order, size, refusal) + record(walk)
 
 
 def walk(order, size):
     lists = part_lists(order, size)
-    body = [n for parts in lists for n in listed(parts) + counted(parts)]
-    return [2, order, size, len(lists)] + body + step((order, size, True, array(lists[-1])))
+    body = [word for parts in lists for word in cases.listed(parts, cases.size) + cases.sizes(*counted(parts))]
+    return cases.sizes(2, order, size, len(lists)) + body + step((order, size, True, array(lists[-1])))
 
 
 # a length, then three numbers: the first so many of these, and zeros
@@ -141,13 +136,13 @@ def lines():
     for order, size, current, end in RECORDS:
         given = (order, size, end, array(current))
         for held in (given, stepped(given)[1]):
-            yield [3] + record(held) + step(held)
+            yield cases.sizes(3) + record(held) + step(held)
     for parts in [array(three)[:size] for size, *three in LISTS] + [(1,) * 20, (1,) * 21, (0,) * 30]:
-        yield [4] + listed(parts) + counted(parts)
+        yield cases.sizes(4) + cases.listed(parts, cases.size) + cases.sizes(*counted(parts))
     for n in [*range(23), TOP]:
-        yield [5, n] + factorial_of(n)
+        yield cases.sizes(5, n, *factorial_of(n))
     for order, size in [(n, k) for n in range(21) for k in range(n + 1)] + [(20, 21), (0, 1), (21, 1), (21, 22), (TOP, TOP), (5, TOP), (TOP, 0)]:
-        yield [6, order, size] + stirling_of(order, size)
+        yield cases.sizes(6, order, size, *stirling_of(order, size))
 
 
-cases.write('replay_partitions', ([cases.size(n) for n in numbers] for numbers in lines()))
+cases.write('replay_partitions', lines())

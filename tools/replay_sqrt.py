@@ -112,7 +112,7 @@ def vectors():
 
 def case(bits):
     found = expected(bits)
-    return [cases.size(word) for word in [bits, found] + answer(bits, found)]
+    return cases.sizes(bits, found, *answer(bits, found))
 
 
 cases.write('replay_sqrt', map(case, vectors()))

@@ -38,13 +38,17 @@ def on_operands(f, x, y):
     return outcome(lambda: f(x, y))
 
 
+def checked(answer):
+    return cases.number(answer, cases.whole)
+
+
 def lines():
     for x in NUMBERS:
         for y in NUMBERS:
-            yield [cases.size(0), cases.whole(x), cases.whole(y)] + [w for f in OPERATIONS for w in cases.checked(outcome(lambda: f(x, y)))]
+            yield [cases.size(0), cases.whole(x), cases.whole(y)] + [w for f in OPERATIONS for w in checked(outcome(lambda: f(x, y)))]
     for x in OPERANDS:
         for y in OPERANDS:
-            yield [cases.size(1)] + [w for z in [x, y] + [on_operands(f, x, y) for f in OPERATIONS] for w in cases.checked(z)]
+            yield [cases.size(1)] + [w for z in [x, y] + [on_operands(f, x, y) for f in OPERATIONS] for w in checked(z)]
 
 
 cases.write('replay_whole', lines())

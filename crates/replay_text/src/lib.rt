@@ -365,6 +365,11 @@ pub fn whole_met(z: i64) -> bool {
     next_whole() == z
 }
 
+// What stands beside a jet's entries.
+pub fn answer_met(refusal: u8, order: usize) -> bool {
+    both(refusal_met(refusal), size_met(order))
+}
+
 // A refusal and a number: 0 and the number, or the refusal and 0.
 pub fn real_met(a: Real) -> bool {
     match a {
