@@ -387,19 +387,19 @@ pub fn checked_met(a: Whole) -> bool {
 
 // A list, with zeros past its members.
 pub fn floats_met(l: &[f64]) -> bool {
-    let mut wanted = [0.0f64; 231];
+    let mut wanted = [0.0f64; 256];
     next_floats(&mut wanted);
     same_floats(l, floats_part(&wanted, 0, l.len()))
 }
 
 pub fn wholes_met(l: &[i64]) -> bool {
-    let mut wanted = [0i64; 231];
+    let mut wanted = [0i64; 256];
     next_wholes(&mut wanted);
     same_wholes(l, wholes_part(&wanted, 0, l.len()))
 }
 
 pub fn sizes_met(l: &[usize]) -> bool {
-    let mut wanted = [0usize; 231];
+    let mut wanted = [0usize; 256];
     next_sizes(&mut wanted);
     same_sizes(l, sizes_part(&wanted, 0, l.len()))
 }

@@ -1,31 +1,24 @@
-#!/usr/bin/env python3
-"""The cases of the program replay_carry, and what it must write for them.
+"""The carry's cases of the program replay_exact (operation 21).
 
-Run in the repository's root:  python3 tools/replay_carry.py
-
-It writes crates/replay_carry/stdin and crates/replay_carry/stdout. Nothing here is taken from the library. A surface's jet is a polynomial
-of two variables and a curve's u and v, without their entries 0, are polynomials of one: the one is put into the other, cut off past the
-order, with fractions. Beside that stand the numbers that document 01's carry forms, list by list and mask by mask, on Python's integers,
-which have no bound: the first outside 64 bits is refusal 9. Where nothing is refused, the two must agree. Every random choice comes from
-one seed.
+A surface's jet is a polynomial of two variables and a curve's u and v, without their entries 0, are polynomials of one: the one is put into the
+other, cut off past the order, with fractions. Beside that stand the numbers that document 01's carry forms (exact_jets.py). Where nothing is
+refused, the two must agree. Every random choice comes from one seed. A case is a surface, a curve, the order asked, and what `composite_derivative`
+and `composite_derivatives` answer.
 """
-
 import random
 from fractions import Fraction
 from math import factorial
 
-from checked import LOW, HIGH, Refused, formed
+import cases
+from cases import graded
+from checked import HIGH, LOW, Refused, outcome
+from exact_jets import SURFACE, carried, product
 
 LARGEST = 2**64 - 1
 
 
-def at(i, j):
-    """Where [i][j] stands among a surface's entries."""
-    return (i + j) * (i + j + 1) // 2 + i
-
-
-def size(order):
-    return at(0, order + 1)
+def count(order):
+    return graded(0, order + 1)
 
 
 # ---- one polynomial put into the other
@@ -46,142 +39,71 @@ def substituted(entries, u, v, order):
     total = [Fraction(0)] * (order + 1)
     for i in range(order + 1):
         for j in range(order + 1 - i):
-            x = Fraction(entries[at(i, j)], factorial(i) * factorial(j))
+            x = Fraction(entries[i, j], factorial(i) * factorial(j))
             if x:
                 total = [t + x * z for t, z in zip(total, multiplied(us[i], vs[j]))]
     return [t * factorial(m) for m, t in enumerate(total)]
 
 
-# ---- the numbers that document 01 has formed, in its order
-def part_lists(total, count, largest):
-    """The nonincreasing lists of `count` positive parts up to `largest`, the greatest first."""
-    if count == 0:
-        return [[]] if total == 0 else []
-    return [
-        [a] + rest
-        for a in range(min(largest, total - count + 1), 0, -1)
-        for rest in part_lists(total - a, count - 1, a)
-    ]
-
-
-def multiplicity(parts):
-    n = factorial(sum(parts))
-    for a in parts:
-        n //= factorial(a)
-    for a in set(parts):
-        n //= factorial(parts.count(a))
-    return n
-
-
-def tensor(entries, u, v, parts):
-    total = 0
-    for mask in range(2 ** len(parts)):
-        product, ones = 1, 0
-        for p, a in enumerate(parts):
-            by_v = mask >> p & 1
-            ones += by_v
-            product = formed(product * (v[a] if by_v else u[a]))
-        total = formed(total + formed(entries[at(len(parts) - ones, ones)] * product))
-    return total
-
-
-def in_turn(entries, u, v, order):
-    total = 0
-    for count in range(1, order + 1):
-        for parts in part_lists(order, count, order):
-            total = formed(total + formed(tensor(entries, u, v, parts) * formed(multiplicity(parts))))
-    return total
-
-
-# ---- what the program writes
-def line(head, numbers):
-    return head + "".join(f" {z}" for z in numbers)
-
-
-def refused(number):
-    return [f" r{number}", line(f"{number} 0", [0] * 21)]
-
-
-def outcome(work):
-    try:
-        return work(), 0
-    except Refused as r:
-        return None, r.args[0]
-
-
-class Case:
-    """A surface along a curve: entries that are not given are zero."""
+class Along:
+    """A surface along a curve, at several orders: entries that are not given are zero."""
 
     def __init__(self, surface, curve, orders, entries=(), u=(), v=()):
         self.surface, self.curve, self.orders = surface, curve, list(orders)
-        self.entries, self.u, self.v = list(entries), list(u), list(v)
-        width = max(len(self.u), len(self.v))
-        self.u += [0] * (width - len(self.u))
-        self.v += [0] * (width - len(self.v))
-        assert len(self.entries) <= 231 and width <= 21
+        self.given = [list(entries), list(u), list(v)]
+        pad = lambda l: l + [0] * (21 - len(l))
+        self.entries, self.u, self.v = SURFACE.entries(self.given[0]), pad(self.given[1]), pad(self.given[2])
         self.known = {}
 
-    def numbers(self):
-        head = [self.surface, self.curve, len(self.orders), len(self.entries), len(self.u)]
-        return head + self.entries + self.u + self.v + self.orders
-
-    def one(self, m):
-        """The derivative of the order m, and 0 or the refusal; worked out once."""
+    def entry(self, m):
+        """The derivative of the order m, or its refusal; worked out once."""
         if m not in self.known:
-            self.known[m] = outcome(lambda: in_turn(*self.lists(), m))
+            self.known[m] = outcome(lambda: carried(self.entries, self.u, self.v, m))
         return self.known[m]
 
-    def lists(self):
-        pad = lambda l, room: l + [0] * (room - len(l))
-        return pad(self.entries, 231), pad(self.u, 21), pad(self.v, 21)
+    def jet(self, order):
+        """The first entry that is refused refuses the jet."""
+        rest = [self.entry(m) for m in range(1, order + 1)]
+        for z in rest:
+            if cases.refused(z):
+                return z
+        return [self.entries[0, 0]] + rest
 
-    def expected(self, order):
+    def answers(self, order):
+        """The entry and the jet of an order asked."""
         if max(self.surface, self.curve, order) > 20:
-            return refused(1)
+            return Refused(1), Refused(1)
         if order > min(self.surface, self.curve):
-            return refused(2)
-        entries, u, v = self.lists()
-        truth = substituted(entries, u, v, order)
-        z, number = self.one(order)
-        assert number or z == (truth[order] if order else 0)
-        single = f" r{number}" if number else f" {z}"
-        for m in range(1, order + 1):
-            if self.one(m)[1]:
-                return [single, refused(self.one(m)[1])[1]]
-        jet = [entries[0]] + [self.one(m)[0] for m in range(1, order + 1)]
-        assert jet == truth
-        return [single, line(f"0 {order}", jet + [0] * (20 - order))]
+            return Refused(2), Refused(2)
+        truth = substituted(self.entries, self.u, self.v, order)
+        entry, jet = self.entry(order), self.jet(order)
+        assert cases.refused(entry) or entry == (truth[order] if order else 0)
+        assert cases.refused(jet) or jet == truth
+        return entry, jet if cases.refused(jet) else (order, jet)
+
+    def lines(self):
+        entries, u, v = [cases.listed(l, cases.whole) for l in self.given]
+        for order in self.orders:
+            entry, jet = self.answers(order)
+            given = cases.sizes(21, self.surface) + entries + cases.sizes(self.curve) + u + v + cases.sizes(order)
+            yield given + cases.number(entry, cases.whole) + cases.jet(jet, cases.whole)
 
 
 def surface_of(**at_places):
     """A surface's entries by place: e12=3 puts 3 at [1][2]."""
-    l = [0] * (1 + max(at(int(p[1]), int(p[2])) for p in at_places))
-    for p, z in at_places.items():
-        l[at(int(p[1]), int(p[2]))] = z
-    return l
+    places = {graded(int(p[1]), int(p[2])): z for p, z in at_places.items()}
+    return [places.get(k, 0) for k in range(1 + max(places))]
 
 
 FIGURE = surface_of(e00=5, e10=2, e01=3, e20=1, e11=4, e02=6)
 
 
-def squared(a, order):
-    """The jet of a surface times itself, by polynomials."""
-    places = [(i, j) for i in range(order + 1) for j in range(order + 1 - i)]
-    r = [Fraction(0)] * size(order)
-    for i, j in places:
-        for k, l in places:
-            if i + j + k + l <= order:
-                x = Fraction(a[at(i, j)] * a[at(k, l)], factorial(i) * factorial(j) * factorial(k) * factorial(l))
-                r[at(i + k, j + l)] += x * factorial(i + k) * factorial(j + l)
-    return [int(x) for x in r]
-
-
-def cases():
+def along():
     rng = random.Random(21)
     out = []
 
     def add(*given):
-        out.append(Case(*given))
+        out.append(Along(*given))
         return out[-1]
 
     def numbers(count, bound):
@@ -190,9 +112,8 @@ def cases():
     # document 01's figures; the curve's entries 0 are read by nobody
     u, v = [7, 1, 2], [HIGH, 2, 1]
     plain = add(2, 2, range(4), FIGURE, u, v)
-    square = add(2, 2, range(4), squared(FIGURE, 2), u, v)
-    assert plain.expected(2)[1].split()[2:5] == ["5", "8", "48"]
-    assert square.expected(2)[1].split()[2:5] == ["25", "80", "608"]
+    square = add(2, 2, range(4), SURFACE.array(product(SURFACE.entries(FIGURE), SURFACE.entries(FIGURE), SURFACE.places(2)))[:6], u, v)
+    assert plain.jet(2) == [5, 8, 48] and square.jet(2) == [25, 80, 608]
     # refusals 1 and 2, each alone; then 1 before 2, and both before 9
     large = [21, 22, 2**32, 2**63 - 1, 2**63, LARGEST]
     full = [HIGH, HIGH, HIGH]
@@ -257,39 +178,20 @@ def cases():
                 s,
                 t,
                 range(min(s, t) + 2),
-                numbers(size(s), small) + numbers(junk, HIGH),
+                numbers(count(s), small) + numbers(junk, HIGH),
                 numbers(t + 1, small) + numbers(junk, HIGH),
                 numbers(t + 1, small) + numbers(junk, HIGH),
             )
     # large numbers, most often refused at some order
     for order in (1, 2, 3, 4, 5):
         bound = rng.choice([2**15, 2**20, 2**31])
-        add(order, order, range(order + 1), numbers(size(order), bound), numbers(order + 1, bound), numbers(order + 1, bound))
+        add(order, order, range(order + 1), numbers(count(order), bound), numbers(order + 1, bound), numbers(order + 1, bound))
     # order 12; and 20, where few entries differ from zero
-    add(12, 12, [0, 1, 7, 11, 12, 13], numbers(size(12), 2), numbers(13, 1), numbers(13, 1))
-    add(12, 14, [12, 13], numbers(size(12), 1) + [HIGH], numbers(15, 1), numbers(15, 1))
+    add(12, 12, [0, 1, 7, 11, 12, 13], numbers(count(12), 2), numbers(13, 1), numbers(13, 1))
+    add(12, 14, [12, 13], numbers(count(12), 1) + [HIGH], numbers(15, 1), numbers(15, 1))
     add(20, 20, [20], numbers(231, 1), [0, 1, -1], [0, 1, 0, 1])
     return out
 
 
-def field(z):
-    # an order of 2^63 and more is written as the number below zero with the same 64 bits
-    s = f"{z - 2**64 if z > HIGH else z:+020d}\n"
-    assert len(s) == 21
-    return s
-
-
-def main():
-    all_cases = cases()
-    with open("crates/replay_carry/stdin", "w") as given:
-        given.write(field(len(all_cases)))
-        for case in all_cases:
-            given.write("".join(field(z) for z in case.numbers()))
-    with open("crates/replay_carry/stdout", "w") as told:
-        for case in all_cases:
-            for order in case.orders:
-                told.write("\n".join(case.expected(order)) + "\n")
-
-
-if __name__ == "__main__":
-    main()
+def lines():
+    return [line for case in along() for line in case.lines()]
