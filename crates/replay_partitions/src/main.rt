@@ -76,7 +76,7 @@ fn handed_out(item: Composition, list: &[usize]) -> bool {
     same_sizes(&parts, list)
 }
 
-// The lists of a walk with their multiplicities, and the step past the last one.
+// The lists of a walk with their multiplicities, and the step past the last one. No walk has more than 100 lists.
 fn walk_case() -> bool {
     let order = next_size();
     let len = next_size();
@@ -85,6 +85,9 @@ fn walk_case() -> bool {
     let mut other = s.walk;
     let mut met = true;
     let lists = next_size();
+    if 100 < lists {
+        return false;
+    }
     let mut i = 0;
     while i < lists {
         let mut list = [0usize; 20];

@@ -73,12 +73,6 @@ pub fn next_whole() -> i64 {
     signed(next_word())
 }
 
-fn put_size(l: &mut [usize], i: usize, x: usize) {
-    if i < l.len() {
-        l[i] = x;
-    }
-}
-
 // A list of the input into the first places of the one lent, as far as it has places: how many are read.
 pub fn next_floats(l: &mut [f64]) -> usize
     ensures { λ r. ⌜ r ≤ length (now (l .entry)) ⌝ }
@@ -125,44 +119,50 @@ pub fn next_sizes(l: &mut [usize]) -> usize
     i
 }
 
-// Reads how many lists there are, and these: the list at i stands from ends[i] to ends[i + 1].
+// Reads how many lists there are, and these, as far as their ends have places: the list at i stands from ends[i] to ends[i + 1].
 pub fn next_float_lists(l: &mut [f64], ends: &mut [usize]) {
     let n = next_size();
     let mut at = 0usize;
     let mut i = 0;
-    while i < n {
-        put_size(ends, i, at);
+    while i < ends.len() {
+        ends[i] = at;
+        if n <= i {
+            return;
+        }
         let k = next_floats(&mut l[at..]);
         at += k;
         i += 1;
     }
-    put_size(ends, n, at);
 }
 
 pub fn next_whole_lists(l: &mut [i64], ends: &mut [usize]) {
     let n = next_size();
     let mut at = 0usize;
     let mut i = 0;
-    while i < n {
-        put_size(ends, i, at);
+    while i < ends.len() {
+        ends[i] = at;
+        if n <= i {
+            return;
+        }
         let k = next_wholes(&mut l[at..]);
         at += k;
         i += 1;
     }
-    put_size(ends, n, at);
 }
 
 pub fn next_size_lists(l: &mut [usize], ends: &mut [usize]) {
     let n = next_size();
     let mut at = 0usize;
     let mut i = 0;
-    while i < n {
-        put_size(ends, i, at);
+    while i < ends.len() {
+        ends[i] = at;
+        if n <= i {
+            return;
+        }
         let k = next_sizes(&mut l[at..]);
         at += k;
         i += 1;
     }
-    put_size(ends, n, at);
 }
 
 // The part of a list from a place up to another, and the empty list where it has no such part.

@@ -22,6 +22,9 @@ try-new-requires c κs = search needs
 next-size-requires-3 : tie.Need-next-size-requires-3 Inv-loop μ-loop
 next-size-requires-3 c κs = search needs
 
+returns : tie.Need-returns Inv-loop μ-loop
+returns c = search needs
+
 loop-holds : tie.Need-loop-holds Inv-loop μ-loop
 loop-holds c = search needs
 
@@ -97,8 +100,8 @@ both-requires-4 c κs = search needs
 both-requires-5 : tie.Need-both-requires-5 Inv-loop μ-loop
 both-requires-5 c κs = search needs
 
-returns : tie.Need-returns Inv-loop μ-loop
-returns c = search needs
+returns-2 : tie.Need-returns-2 Inv-loop μ-loop
+returns-2 c = search needs
 
 pub walk-case-spec : {M : Type 1} → statement M
 walk-case-spec =
@@ -110,6 +113,7 @@ walk-case-spec =
     next-size-requires-2
     try-new-requires
     next-size-requires-3
+    returns
     loop-holds
     slice-aggregate-next-sizes
     next-sizes-requires
@@ -135,4 +139,4 @@ walk-case-spec =
     step-met-requires-2
     both-requires-4
     both-requires-5
-    returns)
+    returns-2)
