@@ -280,7 +280,7 @@ pub fn size_at(l: &[usize], i: usize) -> usize {
     0
 }
 
-pub fn word_at(l: &[u64], i: usize) -> u64 {
+fn word_at(l: &[u64], i: usize) -> u64 {
     if i < l.len() {
         return l[i];
     }
@@ -361,7 +361,7 @@ pub fn float_met(x: f64) -> bool {
     word_met(ieee::to_bits(x))
 }
 
-pub fn whole_met(z: i64) -> bool {
+fn whole_met(z: i64) -> bool {
     next_whole() == z
 }
 
