@@ -1,10 +1,13 @@
-"""The cases that crates/replay_calls reads, for the generators replay_rust.py and refusals.py.
+"""The cases of the test programs: a line of words of 16 hexadecimal digits for each. A list is its count and its members, a group how many lists
+there are, and these.
 
-A case is a line of words of 16 hexadecimal digits: the operation's number, the wanted refusal, then three groups of lists: sizes (the first
-list has the orders, in the order of the call), members, and what the lists lent for the answer hold at the end. A group is how many lists it
-has, then of each list its count and its members. A list lent holds FILL in every place before the call, and so after a refusal.
+A case that crates/replay_calls reads (for the generators replay_rust.py and refusals.py) is the operation's number, the wanted refusal, then three
+groups: sizes (the first list has the orders, in the order of the call), members, and what the lists lent for the answer hold at the end. A list
+lent holds FILL in every place before the call, and so after a refusal.
 """
 import struct
+
+from checked import Refused
 
 FILL = 1234.5
 WHOLE_FILL = 1234
@@ -58,8 +61,43 @@ def bits(x):
     return struct.pack('>d', x).hex()
 
 
+def sizes(*numbers):
+    return [size(n) for n in numbers]
+
+
+def listed(members, word):
+    return [size(len(members))] + [word(x) for x in members]
+
+
 def group(lists, word):
-    return [size(len(lists))] + [w for members in lists for w in [size(len(members))] + [word(x) for x in members]]
+    return [size(len(lists))] + [w for members in lists for w in listed(members, word)]
+
+
+def stored(array, word):
+    """An array as a list, the zeros at its end left out."""
+    words = [word(x) for x in array]
+    while words and words[-1] == size(0):
+        words.pop()
+    return [size(len(words))] + words
+
+
+def refused(answer):
+    return isinstance(answer, Refused)
+
+
+def number(answer, word):
+    """A number or a refusal: 0 and the number, or the refusal and 0."""
+    return sizes(answer.args[0], 0) if refused(answer) else [size(0), word(answer)]
+
+
+def jet(answer, word):
+    """An order and an array, or a refusal: 0, order and entries, or the refusal and the zero jet of order 0."""
+    return sizes(answer.args[0], 0, 0) if refused(answer) else sizes(0, answer[0]) + stored(answer[1], word)
+
+
+def graded(i, j):
+    """Where the entry [i][j] of a surface stands."""
+    return (i + j) * (i + j + 1) // 2 + i
 
 
 def line(name, refusal, sizes, lists, lent):
@@ -101,3 +139,11 @@ def due(name, orders):
     if name in FILLET:
         return [9 if name in ('rot_der_n', 'from_axis_angle') else 3]
     raise ValueError(name)
+
+
+def write(program, lines):
+    """A program's input, a line of words for each case, and its output where no case differs."""
+    lines = [' '.join(words) + '\n' for words in lines]
+    with open('crates/%s/stdin' % program, 'w') as given, open('crates/%s/stdout' % program, 'w') as told:
+        given.writelines([size(len(lines)) + '\n'] + lines)
+        told.write('%d cases, 0 differ\n' % len(lines))

@@ -18,3 +18,11 @@ def divided(x, y):
     if x % y:
         raise Refused(8)
     return formed(x // y)
+
+
+def outcome(work):
+    """What the work gives, or its refusal."""
+    try:
+        return work()
+    except Refused as refusal:
+        return refusal

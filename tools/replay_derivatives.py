@@ -1,35 +1,22 @@
 #!/usr/bin/env python3
-"""The cases of crates/replay_derivatives, and what it must write: jets of floats worked in Python's floats (IEEE 754 binary64), each rounded
+"""The input and the expected output of the program replay_derivatives: jets of floats worked in Python's floats (IEEE 754 binary64), each rounded
 operation in the order that document 01 and the source give, written here from these and not from the library.
 
-    tools/replay_derivatives.py            rewrite crates/replay_derivatives/stdin and stdout
-    tools/replay_derivatives.py --check    compare them with what is stored
+Run in the repository's root:  python3 tools/replay_derivatives.py   (writes crates/replay_derivatives/stdin and crates/replay_derivatives/stdout)
+
+A case is a line of words (cases.py): the number of an operation, two jets, the orders asked, and the answer. A jet is its order and its array as a
+list; for a curve of parameters two lists. Operations on curves: 1 sum, 2 difference, 3 product, 4 quotient, 5 derivative, 6 an entry of the product;
+on surfaces 11 to 17, with 15 and 16 for the derivatives by u and by v; 21 and 22 the carry, an entry and the jet.
 """
 import math
-import os
 import random
-import struct
-import sys
 
-HERE = os.path.join(os.path.dirname(os.path.abspath(__file__)), '..', 'crates', 'replay_derivatives')
+import cases
+from cases import graded
+from checked import Refused, outcome
+from part_lists import multiplicity, part_lists
+
 TOP = 20
-
-
-def bits(x):
-    return struct.unpack('<Q', struct.pack('<d', x))[0]
-
-
-def hexed(x):
-    return '%016x' % bits(x)
-
-
-def at(i, j):
-    """Where the entry [i][j] of a surface stands."""
-    return (i + j) * (i + j + 1) // 2 + i
-
-
-def choose(n, k):
-    return math.comb(n, k)
 
 
 def divided(x, y):
@@ -45,10 +32,6 @@ def times(x, y):
     return x * y
 
 
-class Refused(Exception):
-    pass
-
-
 def refuse(test, number):
     if test:
         raise Refused(number)
@@ -62,7 +45,7 @@ def finite(xs):
 def curve_product(a, b, m):
     total = 0.0
     for i in range(m + 1):
-        total = total + times(times(a[i], b[m - i]), float(choose(m, i)))
+        total = total + times(times(a[i], b[m - i]), float(math.comb(m, i)))
     return total
 
 
@@ -72,7 +55,7 @@ def curve_quotient(x, w, n):
     for i in range(n + 1):
         total = q[0] * w[i]
         for j in range(1, i):
-            total = total + q[j] * (w[i - j] * float(choose(i, j)))
+            total = total + q[j] * (w[i - j] * float(math.comb(i, j)))
         q[i] = divided(x[i] - total, w[0])
     return q
 
@@ -81,7 +64,7 @@ def surface_product(a, b, m, n):
     total = 0.0
     for i in range(m + 1):
         for j in range(n + 1):
-            total = total + times(times(a[i, j], b[m - i, n - j]), float(choose(m, i) * choose(n, j)))
+            total = total + times(times(a[i, j], b[m - i, n - j]), float(math.comb(m, i) * math.comb(n, j)))
     return total
 
 
@@ -93,36 +76,16 @@ def surface_quotient(x, w, order):
             total = 0.0
             for i in range(m + 1):
                 for j in range(n + 1):
-                    total = total + q[i, j] * ((w[m - i, n - j] * float(choose(m, i))) * float(choose(n, j)))
+                    total = total + q[i, j] * ((w[m - i, n - j] * float(math.comb(m, i))) * float(math.comb(n, j)))
             q[m, n] = divided(x[m, n] - total, w[0, 0])
     return q
-
-
-def part_lists(order, length, most):
-    """Nonincreasing lists of positive parts, greatest first."""
-    if length == 0:
-        if order == 0:
-            yield []
-        return
-    for first in range(min(order, most), 0, -1):
-        for rest in part_lists(order - first, length - 1, first):
-            yield [first] + rest
-
-
-def multiplicity(parts):
-    count = math.factorial(sum(parts))
-    for p in parts:
-        count //= math.factorial(p)
-    for p in set(parts):
-        count //= math.factorial(parts.count(p))
-    return count
 
 
 def carried(s, u, v, order):
     """Faà di Bruno: one running total over the lists of every length."""
     total = 0.0
     for length in range(1, order + 1):
-        for parts in part_lists(order, length, order):
+        for parts in part_lists(order, length):
             tensor = 0.0
             for mask in range(1 << length):
                 product = 1.0
@@ -142,7 +105,7 @@ def curve_of(jet, n):
 
 
 def surface_of(jet, n):
-    return {(i, j): jet[1][at(i, j)] for i in range(n + 1) for j in range(n + 1 - i)}
+    return {(i, j): jet[1][graded(i, j)] for i in range(n + 1) for j in range(n + 1 - i)}
 
 
 def values(s):
@@ -151,15 +114,15 @@ def values(s):
 
 def answered_curve(n, entries):
     refuse(not finite(entries), 10)
-    return (0, n, entries + [0.0] * (TOP - n))
+    return n, entries
 
 
 def answered_surface(n, s):
     refuse(not finite(values(s)), 10)
     out = [0.0] * 231
     for (i, j), x in s.items():
-        out[at(i, j)] = x
-    return (0, n, out)
+        out[graded(i, j)] = x
+    return n, out
 
 
 def on_curves(op, a, b, m):
@@ -192,15 +155,15 @@ def on_curves(op, a, b, m):
 
 
 def on_surfaces(op, a, b, m, k):
-    if op in (21, 22):
+    if op in (15, 16):
         refuse(a[0] > TOP, 1)
         refuse(a[0] == 0, 2)
         x = surface_of(a, a[0])
         refuse(not finite(values(x)), 5)
         n = a[0] - 1
-        return answered_surface(n, {(i, j): x[(i + 1, j) if op == 21 else (i, j + 1)] for i in range(n + 1) for j in range(n + 1 - i)})
+        return answered_surface(n, {(i, j): x[(i + 1, j) if op == 15 else (i, j + 1)] for i in range(n + 1) for j in range(n + 1 - i)})
     refuse(a[0] > TOP or b[0] > TOP, 1)
-    if op == 23:
+    if op == 17:
         refuse(m + k > TOP, 1)
         refuse(m + k > min(a[0], b[0]), 2)
         x, y = surface_of(a, m + k), surface_of(b, m + k)
@@ -211,11 +174,11 @@ def on_surfaces(op, a, b, m, k):
     n = min(a[0], b[0])
     x, y = surface_of(a, n), surface_of(b, n)
     refuse(not (finite(values(x)) and finite(values(y))), 5)
-    if op == 17:
+    if op == 11:
         return answered_surface(n, {p: x[p] + y[p] for p in x})
-    if op == 18:
+    if op == 12:
         return answered_surface(n, {p: x[p] - y[p] for p in x})
-    if op == 19:
+    if op == 13:
         return answered_surface(n, {p: surface_product(x, y, *p) for p in x})
     refuse(y[0, 0] == 0, 7)
     return answered_surface(n, surface_quotient(x, y, n))
@@ -228,11 +191,21 @@ def along(op, a, c, m):
     s = surface_of(a, m)
     u, v = u[:m + 1], v[:m + 1]
     refuse(not (finite(values(s)) and finite(u) and finite(v)), 5)
-    if op == 33:
+    if op == 21:
         r = carried(s, u, v, m)
         refuse(not math.isfinite(r), 10)
         return r
     return answered_curve(m, [s[0, 0]] + [carried(s, u, v, k) for k in range(1, m + 1)])
+
+
+def worked(op, a, b, m, n):
+    w = 21 if op < 10 else 231
+    big = (a[0], padded(a[1], w))
+    if op < 10:
+        return on_curves(op, big, (b[0], padded(b[1], w)), m)
+    if op < 20:
+        return on_surfaces(op, big, (b[0], padded(b[1], w)), m, n)
+    return along(op, big, (b[0], padded(b[1], 21), padded(b[2], 21)), m)
 
 
 # ---- the cases
@@ -250,7 +223,7 @@ def draw(rng, kind):
     return math.ldexp(rng.uniform(-1, 1), rng.randint(-500, 500))
 
 
-def cases():
+def given():
     rng = random.Random(20260101)
     curve = lambda n, k: (n, [draw(rng, k) for _ in range(min(n, TOP) + 1)])
     surface = lambda n, k: (n, [draw(rng, k) for _ in range((min(n, TOP) + 1) * (min(n, TOP) + 2) // 2)])
@@ -284,13 +257,13 @@ def cases():
 
     for n in (0, 1, 2, 3, 6):
         for k in range(4):
-            for op in range(17, 24):
+            for op in range(11, 18):
                 m = rng.randint(0, n)
                 yield op, surface(n, k), surface(n + rng.randint(0, 1), k), m, rng.randint(0, n - m)
-    for op in (17, 19, 20, 21, 22, 23):
+    for op in (11, 13, 14, 15, 16, 17):
         yield op, surface(20, 0), surface(20, 0), 9, 11
     s = (1, [1.0, 2.0, 3.0])
-    for op in range(17, 24):
+    for op in range(11, 18):
         yield op, (21, [1.0]), s, 0, 1
         yield op, s, (21, [nan]), 0, 1
         yield op, (0, [1.0]), s, 0, 0
@@ -299,18 +272,18 @@ def cases():
         yield op, (1, [1.0, 2.0, 3.0, nan]), s, 0, 1
         yield op, (1, [1e308] * 3), (1, [1e308, -1e308, 1e308]), 1, 0
     for m, n in ((2, 0), (1, 1), (20, 0), (21, 0), (0, 21), (11, 10), (2 ** 63, 2 ** 63)):
-        yield 23, s, s, m, n
+        yield 17, s, s, m, n
     for zero in (0.0, -0.0):
-        yield 20, s, (1, [zero, 1.0, 1.0]), 0, 0
-        yield 20, (1, [1e308] * 3), (1, [zero, 1e308, 1.0]), 0, 0
-        yield 20, (1, [zero, -0.0, zero]), (1, [-1.0, zero, 1.0]), 0, 0
+        yield 14, s, (1, [zero, 1.0, 1.0]), 0, 0
+        yield 14, (1, [1e308] * 3), (1, [zero, 1e308, 1.0]), 0, 0
+        yield 14, (1, [zero, -0.0, zero]), (1, [-1.0, zero, 1.0]), 0, 0
 
     for n in (0, 1, 2, 3, 5, 8):
         for k in range(4):
-            for op in (33, 34):
+            for op in (21, 22):
                 yield op, surface(n, k), both(n, k), rng.randint(max(0, n - 1), n), 0
     w = (1, [1.0, 2.0], [3.0, -1.0])
-    for op in (33, 34):
+    for op in (21, 22):
         yield op, surface(11, 0), both(11, 0), 11, 0
         yield op, (21, [1.0]), w, 1, 0
         yield op, s, (21, [1.0], [nan]), 1, 0
@@ -325,57 +298,12 @@ def cases():
         yield op, (1, [1e308] * 3), (1, [0.0, 1e308], [0.0, 1.0]), 1, 0
 
 
-def texts():
-    given, expected = [], []
-    word = lambda n: given.append('%016x' % n)
-
-    def numbers(xs):
-        word(len(xs))
-        given.extend(hexed(x) for x in xs)
-
-    for op, a, b, m, n in cases():
-        word(op)
-        word(a[0])
-        numbers(a[1])
-        word(b[0])
-        for xs in b[1:]:
-            numbers(xs)
-        word(m)
-        w = 21 if op < 16 else 231
-        big = (a[0], padded(a[1], w))
-        try:
-            if op < 16:
-                r = on_curves(op, big, (b[0], padded(b[1], w)), m)
-            elif op < 32:
-                word(n)
-                r = on_surfaces(op, big, (b[0], padded(b[1], w)), m, n)
-            else:
-                r = along(op, big, (b[0], padded(b[1], 21), padded(b[2], 21)), m)
-        except Refused as e:
-            number = e.args[0]
-            if op in (6, 23, 33):
-                expected.append('r%d' % number)
-                continue
-            r = (number, 0, [0.0] * (231 if 16 < op < 32 else 21))
-        if isinstance(r, float):
-            expected.append(hexed(r) + ' ')
-        else:
-            expected.append('r%d %d ' % (r[0], r[1]) + ''.join('%d:%s ' % (i, hexed(x)) for i, x in enumerate(r[2]) if bits(x) != 0))
-    word(0)
-    return '\n'.join(given) + '\n', '\n'.join(expected) + '\n'
+def line(op, a, b, m, n):
+    jets = [word for order, *lists in (a, b) for word in cases.sizes(order) + [w for xs in lists for w in cases.listed(xs, cases.bits)]]
+    asked = cases.sizes(m, n) if 10 < op < 20 else cases.sizes(m)
+    answer = outcome(lambda: worked(op, a, b, m, n))
+    wanted = cases.number if op in (6, 17, 21) else cases.jet
+    return cases.sizes(op) + jets + asked + wanted(answer, cases.bits)
 
 
-def main():
-    for name, text in zip(('stdin', 'stdout'), texts()):
-        path = os.path.join(HERE, name)
-        if '--check' in sys.argv[1:]:
-            with open(path) as f:
-                if f.read() != text:
-                    sys.exit(name + ' differs')
-        else:
-            with open(path, 'w') as f:
-                f.write(text)
-
-
-if __name__ == '__main__':
-    main()
+cases.write('replay_derivatives', [line(*case) for case in given()])

@@ -1,67 +1,32 @@
 #!/usr/bin/env python3
-"""The cases of the program replay_exact, and what it must write for them.
+"""The input and the expected output of the program replay_exact.
 
-Run in the repository's root:  python3 tools/replay_exact.py
+Run in the repository's root:  python3 tools/replay_exact.py   (writes crates/replay_exact/stdin and crates/replay_exact/stdout)
 
-It writes crates/replay_exact/stdin and crates/replay_exact/stdout. Nothing here is taken from the library. A jet's entries are the
-derivatives of a polynomial; products and quotients are those of the polynomials, worked out with fractions. Beside that stand document
-01's formulas, number by number in its order, on Python's integers, which have no bound: the first number outside 64 bits is refusal 9, a
-division by zero 7, one that leaves a remainder 8. Where nothing is refused, the two must agree. Every random choice comes from one seed.
+Nothing here is taken from the library. A jet's entries are the derivatives of a polynomial; products and quotients are those of the polynomials,
+worked out with fractions. Beside that stand document 01's formulas (exact_jets.py). Where nothing is refused, the two must agree. Every random
+choice comes from one seed.
+
+A case is a line of words (cases.py): the number of an operation, what it is given, and the answer. A jet is its order and its array as a list; for a
+curve of parameters two lists. Operations on curves: 1 sum, 2 difference, 3 product, 4 quotient, 5 derivative, 6 an entry of the product, each with
+two jets and an order; on surfaces 11 to 17, with 15 and 16 for the derivatives by u and by v, and two orders; 21 the carry (exact_carry.py); 31 to 33
+a curve, a surface or a curve of parameters from an order and a list; 34 to 36 such a jet into a list that is lent; 41 and 42 recipes
+(exact_recipes.py).
 """
-
 import random
 from fractions import Fraction
-from math import comb, factorial
+from math import factorial
 
-from checked import LOW, HIGH, Refused, formed, divided
+import cases
+import exact_carry
+import exact_recipes
+from checked import HIGH, LOW, Refused, outcome
+from exact_jets import CURVE, FORMULAS, SURFACE, product, product_entry
 
-
-def places(n):
-    """The places of a surface's entries up to the order n, i rising, then j."""
-    return [(i, j) for i in range(n + 1) for j in range(n + 1 - i)]
-
-
-def graded(i, j):
-    return (i + j) * (i + j + 1) // 2 + i
+BASE = {CURVE: 0, SURFACE: 10}
 
 
-# ---- document 01's formulas: a surface is a dict by place; a curve is a surface with j = 0
-def term(a, b, m, n, i, j):
-    return formed(formed(a[i, j] * b[m - i, n - j]) * formed(comb(m, i) * comb(n, j)))
-
-
-def product_entry(a, b, m, n):
-    total = 0
-    for i in range(m + 1):
-        for j in range(n + 1):
-            total = formed(total + term(a, b, m, n, i, j))
-    return total
-
-
-def product(a, b, order):
-    return {(m, n): product_entry(a, b, m, n) for m, n in order}
-
-
-def quotient(a, b, order):
-    q = {}
-    for m, n in order:
-        rest = a[m, n]
-        for i in range(m + 1):
-            for j in range(n + 1):
-                if (i, j) != (0, 0):
-                    rest = formed(rest - term(b, q, m, n, i, j))
-        q[m, n] = divided(rest, b[0, 0])
-    return q
-
-
-def entrywise(f):
-    return lambda a, b, order: {p: formed(f(a[p], b[p])) for p in order}
-
-
-FORMULAS = {1: entrywise(lambda x, y: x + y), 2: entrywise(lambda x, y: x - y), 3: product, 4: quotient}
-
-
-# ---- the same by polynomials
+# ---- the formulas, by polynomials
 def polynomial(a, order):
     return {(i, j): Fraction(a[i, j], factorial(i) * factorial(j)) for i, j in order}
 
@@ -89,96 +54,59 @@ def agrees(operation, a, b, r, order):
     return multiplied(polynomial(r, order), q, order) == p
 
 
-# ---- what the program writes
-class Kind:
-    """A curve or a surface: its places up to an order, where each stands, and the room of its array."""
-
-    def __init__(self, base, room, places, where):
-        self.base, self.room, self.places, self.where = base, room, places, where
-
-    def jet(self, values):
-        return {p: values[self.where(p)] for p in self.places(20) if self.where(p) < len(values)}
-
-    def array(self, entries):
-        l = [0] * self.room
-        for p, z in entries.items():
-            l[self.where(p)] = int(z)
-        return l
+# ---- operations on jets
+def entry_answer(kind, k, l, m, n, x, y):
+    if max(k, l, m + n) > 20:
+        raise Refused(1)
+    if m + n > min(k, l):
+        raise Refused(2)
+    z = product_entry(x, y, m, n)
+    places = [(i, j) for i in range(m + 1) for j in range(n + 1)]
+    assert derivatives(multiplied(polynomial(x, places), polynomial(y, places), places), places)[m, n] == z
+    return z
 
 
-CURVE = Kind(0, 21, lambda n: [(m, 0) for m in range(n + 1)], lambda p: p[0])
-SURFACE = Kind(10, 231, places, lambda p: graded(*p))
+def derivative_answer(kind, k, x, by):
+    if k > 20:
+        raise Refused(1)
+    if k == 0:
+        raise Refused(2)
+    return k - 1, kind.array({(i, j): x[i + by[0], j + by[1]] for i, j in kind.places(k - 1)})
 
 
-def line(head, numbers):
-    return head + "".join(f" {z}" for z in numbers)
-
-
-def jet_line(kind, refusal, order=0, entries=()):
-    return line(f"{refusal} {order}", kind.array(dict(entries)))
+def formula_answer(kind, operation, k, l, x, y):
+    if max(k, l) > 20:
+        raise Refused(1)
+    places = kind.places(min(k, l))
+    r = FORMULAS[operation - 1](x, y, places)
+    assert agrees(operation, x, y, r, places)
+    return min(k, l), kind.array(r)
 
 
 def answer(kind, operation, k, l, m, n, a, b):
-    x, y = kind.jet(a + [0] * (kind.room - len(a))), kind.jet(b + [0] * (kind.room - len(b)))
-    single = 6 if kind is CURVE else 7
-    if operation == single:
-        if max(k, l, m + n) > 20:
-            return " r1"
-        if m + n > min(k, l):
-            return " r2"
-        try:
-            z = product_entry(x, y, m, n)
-        except Refused as r:
-            return f" r{r.args[0]}"
-        order = [(i, j) for i in range(m + 1) for j in range(n + 1)]
-        assert derivatives(multiplied(polynomial(x, order), polynomial(y, order), order), order)[m, n] == z
-        return f" {z}"
+    x, y = kind.entries(a), kind.entries(b)
+    if operation == (6 if kind is CURVE else 7):
+        return cases.number(outcome(lambda: entry_answer(kind, k, l, m, n, x, y)), cases.whole)
     if operation >= 5:
-        if k > 20:
-            return jet_line(kind, 1)
-        if k == 0:
-            return jet_line(kind, 2)
-        by = (1, 0) if operation == 5 else (0, 1)
-        return jet_line(kind, 0, k - 1, {(i, j): x[i + by[0], j + by[1]] for i, j in kind.places(k - 1)})
-    if max(k, l) > 20:
-        return jet_line(kind, 1)
-    order = kind.places(min(k, l))
-    try:
-        r = FORMULAS[operation](x, y, order)
-    except Refused as e:
-        return jet_line(kind, e.args[0])
-    assert agrees(operation, x, y, r, order)
-    return jet_line(kind, 0, min(k, l), r)
+        return cases.jet(outcome(lambda: derivative_answer(kind, k, x, (1, 0) if operation == 5 else (0, 1))), cases.whole)
+    return cases.jet(outcome(lambda: formula_answer(kind, operation, k, l, x, y)), cases.whole)
 
 
-def list_answer(kind, order, room, l):
-    count = {21: order + 1, 22: (order + 1) * (order + 2) // 2, 23: 2 * (order + 1)}[kind]
-    width = {21: [21], 22: [231], 23: [21, 21]}[kind]
-    refusal = 1 if order > 20 else 2 if len(l) != count else 0
-    if refusal:
-        out = [f"{refusal} 0" + " 0" * width[0]] + [" 0" * w for w in width[1:]]
-        # the zero jet of order 0 into the list
-        need, held = {21: 1, 22: 1, 23: 2}[kind], 0
-        return out + [line("0", [0] * need) if room == need else line("2", [5] * room)]
-    if kind == 21:
-        out = [line(f"0 {order}", l + [0] * (21 - count))]
-    elif kind == 22:
-        out = [line(f"0 {order}", SURFACE.array(dict(zip(places(order), l))))]
-    else:
-        pad = [0] * (20 - order)
-        out = [line(f"0 {order}", l[0::2] + pad), line("", l[1::2] + pad)]
-    return out + [line("0", l) if room == count else line("2", [5] * room)]
+def jet(order, *arrays):
+    return cases.sizes(order) + [word for array in arrays for word in cases.listed(array, cases.whole)]
 
 
-def cases():
-    rng = random.Random(20)
+def line(operation, k, l, m, n, a, b):
+    kind = CURVE if operation < 10 else SURFACE
+    asked = cases.sizes(m) if kind is CURVE else cases.sizes(m, n)
+    return cases.sizes(operation) + jet(k, a) + jet(l, b) + asked + answer(kind, operation - BASE[kind], k, l, m, n, a, b)
+
+
+def operations(rng, numbers):
     out = []
 
     def add(operation, k=0, l=0, m=0, n=0, a=(), b=()):
-        out.append((operation, k, l, m, n, list(a), list(b)))
-
-    def numbers(count, size):
-        return [rng.randint(-size, size) for _ in range(count)]
+        out.append(line(operation, k, l, m, n, list(a), list(b)))
 
     # every refusal with its small input, and pairs of them
     for base in (0, 10):
@@ -224,8 +152,8 @@ def cases():
             a, b = numbers(len(kind.places(k)) + 1, size), numbers(len(kind.places(l)) + 1, size)
             a, b = a[: kind.room], b[: kind.room]
             for operation in (1, 2, 3):
-                add(kind.base + operation, k, l, a=a, b=b)
-            add(kind.base + 5, k, a=a)
+                add(BASE[kind] + operation, k, l, a=a, b=b)
+            add(BASE[kind] + 5, k, a=a)
             if kind is SURFACE:
                 add(16, k, a=a)
             m = rng.randint(0, min(k, l))
@@ -237,67 +165,67 @@ def cases():
             b[0] = rng.choice([1, -1, 2, -3])
             s = min(k, l)
             try:
-                p = product(kind.jet(a + [0] * 300), kind.jet(b + [0] * 300), kind.places(s))
-                add(kind.base + 4, s, l, a=kind.array(p)[: len(kind.places(s))], b=b)
+                p = product(kind.entries(a), kind.entries(b), kind.places(s))
+                add(BASE[kind] + 4, s, l, a=kind.array(p)[: len(kind.places(s))], b=b)
             except Refused:
                 pass
-            add(kind.base + 4, k, l, a=a, b=b)
-    # lists
-    for kind in (21, 22, 23):
-        for order in (0, 1, 3, 20, 21):
-            count = {21: order + 1, 22: (order + 1) * (order + 2) // 2, 23: 2 * (order + 1)}[kind]
-            if count > 240:
-                count = 240
-            for given, room in ((count, count), (count - 1, count), (count, count - 1), (count + 1, 1)):
-                if order in (20, 21) and kind == 22 and given != count:
-                    continue
-                add(kind, order, room, a=numbers(given, 9))
-    add(24, 21, 1)
-    add(24, 0, 3)
-    add(24, 2**63, 0)
+            add(BASE[kind] + 4, k, l, a=a, b=b)
     return out
 
 
-def by_hand(order, room):
-    lines = []
+# ---- jets from lists, and into lists
+KINDS = ['curve', 'surface', 'parameter']
+
+
+def due(kind, order):
+    return {'curve': order + 1, 'surface': (order + 1) * (order + 2) // 2, 'parameter': 2 * (order + 1)}[kind]
+
+
+def arrays(kind, order, entries):
+    """The arrays of a jet whose list is given."""
+    if kind == 'parameter':
+        return [entries[0::2], entries[1::2]]
+    return [entries if kind == 'curve' else SURFACE.array(dict(zip(SURFACE.places(order), entries)))]
+
+
+def refusal(kind, order, count):
+    return 1 if order > 20 else 2 if count != due(kind, order) else 0
+
+
+def from_list(kind, order, given):
+    number = refusal(kind, order, len(given))
+    met = [[]] * (2 if kind == 'parameter' else 1) if number else arrays(kind, order, given)
+    wanted = cases.sizes(number, 0 if number else order) + [word for array in met for word in cases.stored(array, cases.whole)]
+    return cases.sizes(31 + KINDS.index(kind), order) + cases.listed(given, cases.whole) + wanted
+
+
+def into_list(kind, order, entries, room):
+    """The list lent holds 5 in each place before, and after a refusal."""
     held = [5] * room
-    for need in (order + 1, (order + 1) * (order + 2) // 2, 2 * (order + 1)):
-        refusal = 1 if order > 20 else 2 if room != need else 0
-        if refusal == 0:
-            held = [7] * room
-        lines.append(line(str(refusal), held))
-    return lines
+    number = refusal(kind, order, room)
+    after = cases.listed(held if number else entries[:room], cases.whole)
+    jet_given = jet(order, *arrays(kind, min(order, 20), entries))
+    return cases.sizes(34 + KINDS.index(kind)) + cases.listed(held, cases.whole) + jet_given + cases.sizes(number) + after
 
 
-def expected(case):
-    operation, k, l, m, n, a, b = case
-    if operation <= 10:
-        return [answer(CURVE, operation, k, l, m, n, a, b)]
-    if operation <= 20:
-        return [answer(SURFACE, operation - 10, k, l, m, n, a, b)]
-    if operation == 24:
-        return by_hand(k, l)
-    return list_answer(operation, k, l, a)
-
-
-def field(z):
-    s = f"{z:+020d}\n"
-    assert len(s) == 21
-    return s
+def lists(numbers):
+    for kind in KINDS:
+        for order in (0, 1, 3, 20, 21):
+            count = due(kind, order)
+            for given, room in ((count, count), (count - 1, count), (count, count - 1), (count + 1, 1)):
+                entries = numbers(given, 9)
+                yield from_list(kind, order, entries)
+                yield into_list(kind, order, (entries + [0])[: due(kind, min(order, 20))], room)
+        # jets that are made by hand
+        for order, room in ((21, 1), (0, 3), (2**63, 0)):
+            yield into_list(kind, order, [7] * due(kind, 0), room)
 
 
 def main():
-    all_cases = cases()
-    with open("crates/replay_exact/stdin", "w") as given:
-        given.write(field(len(all_cases)))
-        for operation, k, l, m, n, a, b in all_cases:
-            for z in [operation, k, l, m, n, len(a), len(b)] + a + b:
-                # a count may be 2^63: it is written as its negative, and read by its magnitude
-                given.write(field(-z if z > HIGH else z))
-    with open("crates/replay_exact/stdout", "w") as told:
-        for case in all_cases:
-            told.write("\n".join(expected(case)) + "\n")
+    rng = random.Random(20)
+    numbers = lambda count, size: [rng.randint(-size, size) for _ in range(count)]
+    jets = operations(rng, numbers)
+    cases.write('replay_exact', jets + list(lists(numbers)) + exact_carry.lines() + exact_recipes.lines())
 
 
-if __name__ == "__main__":
-    main()
+main()

@@ -1,5 +1,5 @@
 #!/usr/bin/env python3
-"""The input and the expected output of the program replay_fillet: fillets whose shape is known in closed form.
+"""The input and the expected output of the program replay_fillet: fillets whose shape is known in closed form; rotations and contact circles.
 
 Run in the repository's root:  python3 tools/replay_fillet.py   (writes crates/replay_fillet/stdin and crates/replay_fillet/stdout)
 
@@ -7,14 +7,15 @@ A ball of changing radius rolls between the planes z = 0 and y = 0, and between 
 and its contact points are written down as functions of the place t on the edge, the point on the arc as a function of u and t, and both are
 derived numerically in 50 digits (mpmath). Nothing of the library's algorithm is used: it solves for the derivatives order by order.
 
-A case is a line of words of 16 hexadecimal digits (cases.py): 1, n and the jets' order for centre and contacts, or 2, m, n and the jets' order for
-a partial; then lists: what is plain (circle, feet, normals, angle, u, sine, cosine, tolerance), edge, radius, both surfaces, and what is expected.
+A case is a line of words (cases.py). Centre and contacts: 1, the tolerance, n, circle and fillet, then 0 and the jets of the centre, of both contact
+points and of both foot parameters. A partial: 2, the tolerance, m, n, u, the angle, sine and cosine of angle times u, circle and fillet, then the
+vector. A circle is centre, axis, angle, and each contact point with its parameters; a fillet both normals, the jets' order, and the lists of edge,
+radius and both surfaces. The rest is in stored_rotations.py.
 """
-import os
-
 import mpmath as mp
 
 import cases
+import stored_rotations
 
 mp.mp.dps = 50
 TOLERANCE = 1e-12
@@ -108,30 +109,40 @@ def surface(f, u, v, order):
     return [entry(i, j, k) for i in range(order + 1) for j in range(order + 1 - i) for k in range(3)]
 
 
-def given(shape, t, order, u=mp.mpf(0)):
-    axis, angle = circle(shape, t)
-    feet = [x for p in shape.parameters for x in p(t)]
-    normals = [x for side in (0, 1) for x in shape.normal(side, t)]
-    points = [x for p in shape.contacts for x in p(t)]
-    plain = [*shape.center(t), *axis, angle, *points, *feet, *normals, angle, u, mp.sin(angle * u), mp.cos(angle * u), TOLERANCE]
-    surfaces = [surface(s, *p(t), order) for s, p in zip(shape.surfaces, shape.parameters)]
-    return [plain, curve(shape.edge, 3, t, order), derivatives(shape.radius, t, order), *surfaces]
-
-
 def word(x):
     return cases.bits(float(x))
 
 
+def floats(*numbers):
+    return [word(x) for x in numbers]
+
+
+def given(shape, t, order):
+    """The circle and the fillet."""
+    axis, angle = circle(shape, t)
+    contacts = [x for point, foot in zip(shape.contacts, shape.parameters) for x in (*point(t), *foot(t))]
+    normals = [x for side in (0, 1) for x in shape.normal(side, t)]
+    surfaces = [surface(s, *p(t), order) for s, p in zip(shape.surfaces, shape.parameters)]
+    lists = [curve(shape.edge, 3, t, order), derivatives(shape.radius, t, order), *surfaces]
+    return floats(*shape.center(t), *axis, angle, *contacts, *normals) + cases.sizes(order) + cases.group(lists, word)
+
+
 def center_case(shape, t, n):
-    padded = lambda f, width: curve(f, width, t, n) + [0] * width
-    expected = [curve(shape.center, 3, t, n), *[padded(p, 3) for p in shape.contacts], *[padded(p, 2) for p in shape.parameters]]
-    return [cases.size(1), cases.size(n), cases.size(0), cases.size(n + 1)] + cases.group(given(shape, t, n + 1) + expected, word)
+    """Contacts and parameters have the order n + 1, and zero for its entry."""
+    jets = cases.sizes(0, n) + cases.listed(curve(shape.center, 3, t, n), word)
+    for point in shape.contacts:
+        jets += cases.sizes(n + 1) + cases.listed(curve(point, 3, t, n), word)
+    for foot in shape.parameters:
+        u_and_v = curve(foot, 2, t, n)
+        jets += cases.sizes(n + 1) + cases.listed(u_and_v[0::2], word) + cases.listed(u_and_v[1::2], word)
+    return cases.sizes(1) + floats(TOLERANCE) + cases.sizes(n) + given(shape, t, n + 1) + jets
 
 
 def partial_case(shape, t, u, m, n):
-    order = n + 1 if n else 0
-    expected = [mp.diff(arc(shape, k), (u, t), (m, n)) if m + n else arc(shape, k)(u, t) for k in range(3)]
-    return [cases.size(2), cases.size(m), cases.size(n), cases.size(order)] + cases.group(given(shape, t, order, u) + [expected], word)
+    _, angle = circle(shape, t)
+    asked = floats(TOLERANCE) + cases.sizes(m, n) + floats(u, angle, mp.sin(angle * u), mp.cos(angle * u))
+    point = [mp.diff(arc(shape, k), (u, t), (m, n)) if m + n else arc(shape, k)(u, t) for k in range(3)]
+    return cases.sizes(2) + asked + given(shape, t, n + 1 if n else 0) + cases.listed(point, word)
 
 
 def main():
@@ -141,14 +152,7 @@ def main():
     centers = [center_case(shape, t, n) for shape, t in shapes for n in range(5)]
     partials = [partial_case(shape, t, mp.mpf(u), m, n) for shape, t in shapes for u in ('0.25', '0.875')
                 for m, n in ((0, 0), (1, 0), (2, 0), (0, 1), (1, 1), (0, 2))]
-    folder = os.path.join('crates', 'replay_fillet')
-    with open(os.path.join(folder, 'stdin'), 'w') as out:
-        for lot in (centers, partials):
-            out.write(cases.size(len(lot)) + '\n')
-            out.writelines(' '.join(case) + '\n' for case in lot)
-    with open(os.path.join(folder, 'stdout'), 'w') as out:
-        out.write(f'centre and contacts: {len(centers)} cases, 0 outside the tolerance\n')
-        out.write(f'partials: {len(partials)} cases, 0 outside the tolerance\n')
+    cases.write('replay_fillet', centers + partials + stored_rotations.lines())
 
 
 main()

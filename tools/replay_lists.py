@@ -4,10 +4,11 @@
 Run in the repository's root:  python3 tools/replay_lists.py   (writes crates/replay_lists/stdin and crates/replay_lists/stdout)
 
 Document 01: 1 for an order above 20, then 2 for a count that is not that of the order, then 5 for a float that is not finite; what stands past the
-order does not count. An answered `into_list` changes its list, which shows where every place held 7 and now holds 1.
-"""
-import os
+order does not count. Each place of a list lent holds 7, and after an answer 1.
 
+A case is a line of words (cases.py): from a list (0) or into one (1); the kind of jet; its order; the list's length; the place of a float that is not
+finite; then the refusal, and for a list lent what each of its places holds.
+"""
 import cases
 
 NONE = 999
@@ -40,20 +41,8 @@ def lines():
                         if at < 0:
                             continue
                         met = refusal(order, count, right, at < inside)
-                        # a list of no floats cannot be seen to change
-                        changed = way == 1 and met == 0 and count > 0
-                        yield (way, kind, order, count, at), met, changed
+                        held = [cases.bits(7.0 if met else 1.0)] if way == 1 else []
+                        yield cases.sizes(way, kind, order, count, at, met) + held
 
 
-def main():
-    folder = os.path.join('crates', 'replay_lists')
-    every = list(lines())
-    with open(os.path.join(folder, 'stdin'), 'w') as out:
-        out.write(cases.size(len(every)) + '\n')
-        out.writelines(' '.join(cases.size(x) for x in case) + '\n' for case, _, _ in every)
-    with open(os.path.join(folder, 'stdout'), 'w') as out:
-        for case, met, changed in every:
-            out.write(' '.join(str(x) for x in case) + f' -> {met}' + (' changed' if changed else '') + '\n')
-
-
-main()
+cases.write('replay_lists', lines())

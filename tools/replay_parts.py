@@ -3,61 +3,14 @@
 
 Run in the repository's root:  python3 tools/replay_parts.py
 
-It writes crates/replay_parts/stdin and crates/replay_parts/stdout. Nothing here is taken from the library: the part lists come from an
-enumeration of its own, and their numbers and totals are held against the recurrences of the numbers of partitions and of the Stirling
-numbers of the second kind, and against published rows of both. Byte 255 ends each input. Each text stands twice: once for the input whole,
-once for the input byte by byte.
+It writes crates/replay_parts/stdin and crates/replay_parts/stdout. Nothing here is taken from the library: part_lists.py finds the part lists and
+counts them. Byte 255 ends each input. Each text stands twice: once for the input whole, once for the input byte by byte.
 """
-
-from math import factorial
-
-
-def partitions(n, k, least=1):
-    """The partitions of n into k parts, as rising lists."""
-    if k == 1:
-        return [[n]] if n >= least else []
-    return [[a] + rest for a in range(least, n // k + 1) for rest in partitions(n - a, k - 1, a)]
-
-
-def multiplicity(parts):
-    m = factorial(sum(parts))
-    for a in parts:
-        m //= factorial(a)
-    for a in set(parts):
-        m //= factorial(parts.count(a))
-    return m
-
-
-def count(n, k):
-    """How many partitions n has into k parts."""
-    if n == 0 and k == 0:
-        return 1
-    if n <= 0 or k <= 0:
-        return 0
-    return count(n - 1, k - 1) + count(n - k, k)
-
-
-def stirling(n, k):
-    """How many partitions a set of n has into k blocks."""
-    row = [1] + [0] * n
-    for _ in range(n):
-        row = [0] + [(j * row[j] if j < len(row) else 0) + row[j - 1] for j in range(1, n + 1)]
-    return row[k]
-
-
-# published rows: partitions of 10 into k parts, and S(10, k)
-assert [count(10, k) for k in range(1, 11)] == [1, 5, 8, 9, 7, 5, 3, 2, 1, 1]
-assert [stirling(10, k) for k in range(1, 11)] == [1, 511, 9330, 34105, 42525, 22827, 5880, 750, 45, 1]
-assert sum(count(20, k) for k in range(1, 21)) == 627
-assert stirling(20, 2) == 524287
-assert sum(stirling(20, k) for k in range(1, 21)) == 51724158235372
+from part_lists import multiplicity, part_lists, stirling
 
 
 def text(order, len_):
-    lists = sorted((p[::-1] for p in partitions(order, len_)), reverse=True)
-    total = sum(map(multiplicity, lists))
-    assert len(lists) == count(order, len_) and total == stirling(order, len_)
-    lines = [" ".join(map(str, [multiplicity(p)] + p)) for p in lists] + [f"total {total}"]
+    lines = [" ".join(map(str, (multiplicity(p),) + p)) for p in part_lists(order, len_)] + [f"total {stirling(order, len_)}"]
     return "".join(line + "\n" for line in lines).encode()
 
 

@@ -3,14 +3,16 @@
 
 Run in the repository's root:  python3 tools/replay_sqrt.py   (writes crates/replay_sqrt/stdin and crates/replay_sqrt/stdout)
 
-Nothing here is taken from the library. A line of the input is a float's bits in hexadecimal; a line of the output has those bits, the
-bits of its square root, and what square_root answers: bits, or `rN` for refusal N of document 01 (5 an input that is not finite, 10 a
-returned float that is not). The roots are found with math.isqrt on the scaled significand and compared with math.sqrt, which is rounded
-correctly wherever the machine's own square root is. A NaN is shown as 7ff8000000000000.
+Nothing here is taken from the library. A case is a line of words (cases.py): a float's bits, those of its square root, and what square_root
+answers: 0 and the bits, or a refusal of document 01 (5 an input that is not finite, 10 a returned float that is not) and 0. The roots are
+found with math.isqrt on the scaled significand and compared with math.sqrt, which is rounded correctly wherever the machine's own square
+root is. A NaN is wanted as 7ff8000000000000.
 """
 import math
 import random
 import struct
+
+import cases
 
 NAN = 0x7FF8000000000000
 INFINITY = 0x7FF0000000000000
@@ -57,10 +59,10 @@ def expected(bits):
 
 def answer(bits, found):
     if bits & ~SIGN >= INFINITY:
-        return 'r5'
+        return [5, 0]
     if found & ~SIGN >= INFINITY:
-        return 'r10'
-    return '%016x' % found
+        return [10, 0]
+    return [0, found]
 
 
 def near_middles():
@@ -108,14 +110,9 @@ def vectors():
     return list(dict.fromkeys(out))
 
 
-def main():
-    lines = vectors()
-    with open('crates/replay_sqrt/stdin', 'w') as given, open('crates/replay_sqrt/stdout', 'w') as wanted:
-        for bits in lines:
-            found = expected(bits)
-            shown = NAN if bits & ~SIGN > INFINITY else bits
-            given.write('%016x\n' % bits)
-            wanted.write('%016x %016x %s\n' % (shown, found, answer(bits, found)))
+def case(bits):
+    found = expected(bits)
+    return cases.sizes(bits, found, *answer(bits, found))
 
 
-main()
+cases.write('replay_sqrt', map(case, vectors()))

@@ -1,12 +1,14 @@
 #!/usr/bin/env python3
-"""What the program replay_whole must write, from Python's integers, which have no bound.
+"""The input and the expected output of the program replay_whole, from Python's integers, which have no bound.
 
-Run in the repository's root:  python3 tools/replay_whole.py > crates/replay_whole/stdout
+Run in the repository's root:  python3 tools/replay_whole.py   (writes crates/replay_whole/stdin and crates/replay_whole/stdout)
 
-Nothing here is taken from the library. A line of the first part has two numbers, then their sum, difference, product and quotient; one of
-the second part has two numbers or refusals, then the same four operations on them. `rN` is refusal N of document 01: 7 a division by zero,
-8 a quotient with a remainder, 9 a number formed outside -2^63 .. 2^63 - 1. The tables stand in crates/replay_whole/src/main.rt too.
+Nothing here is taken from the library. A case is a line of words (cases.py): 0 and two numbers, or 1 and two operands, then their sum,
+difference, product and quotient. An operand and a result are 0 and the number, or a refusal of document 01 and 0: 7 a division by zero, 8 a
+quotient with a remainder, 9 a number formed outside -2^63 .. 2^63 - 1.
 """
+import cases
+from checked import Refused, divided, formed, outcome
 
 NUMBERS = [
     0, 1, -1, 2, -2, 3, -3,
@@ -18,40 +20,35 @@ NUMBERS = [
     10, -12, 35, 5040, -1000003, 2432902008176640000,
 ]
 
-# a refusal is a string
-OPERANDS = [6, -4, 0, 2**63 - 1, -(2**63), "r7", "r8", "r9", "r200"]
-
-
-def formed(z):
-    return z if -(2**63) <= z <= 2**63 - 1 else "r9"
-
-
-def quotient(x, y):
-    if y == 0:
-        return "r7"
-    if x % y != 0:
-        return "r8"
-    return formed(x // y)
-
+OPERANDS = [6, -4, 0, 2**63 - 1, -(2**63), Refused(7), Refused(8), Refused(9), Refused(200)]
 
 OPERATIONS = [
     lambda x, y: formed(x + y),
     lambda x, y: formed(x - y),
     lambda x, y: formed(x * y),
-    quotient,
+    divided,
 ]
 
 
-def both(f, x, y):
+def on_operands(f, x, y):
     """A refused operand is the answer, the left one first."""
-    if isinstance(x, str):
-        return x
-    if isinstance(y, str):
-        return y
-    return f(x, y)
+    for operand in (x, y):
+        if isinstance(operand, Refused):
+            return operand
+    return outcome(lambda: f(x, y))
 
 
-for table in (NUMBERS, OPERANDS):
-    for x in table:
-        for y in table:
-            print(x, y, *(both(f, x, y) for f in OPERATIONS))
+def checked(answer):
+    return cases.number(answer, cases.whole)
+
+
+def lines():
+    for x in NUMBERS:
+        for y in NUMBERS:
+            yield [cases.size(0), cases.whole(x), cases.whole(y)] + [w for f in OPERATIONS for w in checked(outcome(lambda: f(x, y)))]
+    for x in OPERANDS:
+        for y in OPERANDS:
+            yield [cases.size(1)] + [w for z in [x, y] + [on_operands(f, x, y) for f in OPERATIONS] for w in checked(z)]
+
+
+cases.write('replay_whole', lines())

@@ -1,221 +1,111 @@
-// Reads cases as 16 hexadecimal digits to a line: the number of an operation, a jet, another jet and two orders. A jet is its order, how many
-// numbers follow, and these, as they stand in its array. Writes for each case a line: the refusal, the order, and place and bits of every
-// stored number but +0, so that a wrong bit shows (tools/replay_derivatives.py writes the cases, and says what is expected).
-ghost use mathlib.Core.Path.{_≡_};
-ghost use Prim.Native.Nat.{_<_};
+// Jets of floats: sum, difference, product, quotient and derivative of curves and of surfaces, and the carry. A case is the number of an operation,
+// its jets, each an order and its array as a list, the orders asked, and the answer (tools/replay_derivatives.py works it out).
 use derivatives::CurveAnswer;
 use derivatives::CurveDerivatives;
 use derivatives::ParameterCurve;
 use derivatives::SurfaceAnswer;
 use derivatives::SurfaceDerivatives;
+use ieee::both;
+use replay_text::answer_met;
+use replay_text::differing;
+use replay_text::floats_met;
+use replay_text::next_floats;
+use replay_text::next_size;
+use replay_text::real_met;
+use replay_text::report;
 
-fn wide(c: u8) -> u64
-    ensures { λ r. ⌜ r ≡ c ⌝ }
-{
-    c as u64
-}
-
-// The value of a hexadecimal digit, and 0 for any other byte.
-fn digit(c: u8) -> u64
-    ensures { λ r. ⌜ r < 16 ⌝ }
-{
-    match c {
-        b'0'..=b'9' => wide(c - b'0'),
-        b'a'..=b'f' => wide(c - b'a') + 10,
-        _ => 0,
-    }
-}
-
-// The first 16 bytes of a line as a hexadecimal number.
-fn bits(line: &[u8; 17]) -> u64 {
-    let mut n = 0u64;
-    let mut i = 0;
-    while i < 16 {
-        let c = line[i];
-        n = (n << 4) + digit(c);
-        i += 1;
-    }
-    n
-}
-
-// The next line's number, or 0 where there is none.
-fn word() -> u64 {
-    let mut line = [0u8; 17];
-    let n = io::read_full(0, &mut line);
-    if n < 17 {
-        return 0;
-    }
-    bits(&line)
-}
-
-fn number() -> f64 {
-    ieee::from_bits(word())
-}
-
-fn curve_array() -> [f64; 21] {
-    let n = word();
-    let mut a = [0.0f64; 21];
-    let mut i = 0;
-    while i < 21 {
-        if (i as u64) < n {
-            let x = number();
-            a[i] = x;
-        }
-        i += 1;
-    }
-    a
-}
-
-fn surface_array() -> [f64; 231] {
-    let n = word();
-    let mut a = [0.0f64; 231];
-    let mut i = 0;
-    while i < 231 {
-        if (i as u64) < n {
-            let x = number();
-            a[i] = x;
-        }
-        i += 1;
-    }
-    a
-}
-
-fn curve() -> CurveDerivatives {
-    let order = word() as usize;
-    let entries = curve_array();
+fn next_curve() -> CurveDerivatives {
+    let order = next_size();
+    let mut entries = [0.0f64; 21];
+    next_floats(&mut entries);
     CurveDerivatives { order, entries }
 }
 
-fn surface() -> SurfaceDerivatives {
-    let order = word() as usize;
-    let entries = surface_array();
+fn next_surface() -> SurfaceDerivatives {
+    let order = next_size();
+    let mut entries = [0.0f64; 231];
+    next_floats(&mut entries);
     SurfaceDerivatives { order, entries }
 }
 
-fn parameter() -> ParameterCurve {
-    let order = word() as usize;
-    let u = curve_array();
-    let v = curve_array();
+fn next_parameter() -> ParameterCurve {
+    let order = next_size();
+    let mut u = [0.0f64; 21];
+    let mut v = [0.0f64; 21];
+    next_floats(&mut u);
+    next_floats(&mut v);
     ParameterCurve { order, u, v }
 }
 
-fn write_float(x: f64) {
-    io::print_hex(1, ieee::to_bits(x), 16);
-    io::write_all(1, b" ");
+fn curve_met(a: CurveAnswer) -> bool {
+    let jet = a.jet;
+    let entries = jet.entries;
+    both(answer_met(a.refusal, jet.order), floats_met(&entries))
 }
 
-fn write_entry(i: usize, x: f64) {
-    if ieee::to_bits(x) != 0 {
-        io::print_decimal(1, i as u64);
-        io::write_all(1, b":");
-        write_float(x);
+fn surface_met(a: SurfaceAnswer) -> bool {
+    let jet = a.jet;
+    let entries = jet.entries;
+    both(answer_met(a.refusal, jet.order), floats_met(&entries))
+}
+
+fn on_curves(operation: usize) -> bool {
+    let a = next_curve();
+    let b = next_curve();
+    let m = next_size();
+    match operation {
+        1 => curve_met(a.sum(b)),
+        2 => curve_met(a.difference(b)),
+        3 => curve_met(a.combinatorial_derivatives(b)),
+        4 => curve_met(a.rational_derivatives(b)),
+        5 => curve_met(a.derivative()),
+        _ => real_met(a.combinatorial_derivative(b, m)),
     }
 }
 
-fn write_real(a: ieee::Real) {
-    match a {
-        ieee::Real::Value(y) => write_float(y),
-        ieee::Real::Refused(c) => {
-            io::write_all(1, b"r");
-            io::print_decimal(1, wide(c));
-        }
+fn on_surfaces(operation: usize) -> bool {
+    let a = next_surface();
+    let b = next_surface();
+    let m = next_size();
+    let n = next_size();
+    match operation {
+        11 => surface_met(a.sum(b)),
+        12 => surface_met(a.difference(b)),
+        13 => surface_met(a.combinatorial_derivatives(b)),
+        14 => surface_met(a.rational_derivatives(b)),
+        15 => surface_met(a.derivative_u()),
+        16 => surface_met(a.derivative_v()),
+        _ => real_met(a.combinatorial_derivative(b, m, n)),
     }
-    io::write_all(1, b"\n");
 }
 
-fn write_head(refusal: u8, order: usize) {
-    io::write_all(1, b"r");
-    io::print_decimal(1, wide(refusal));
-    io::write_all(1, b" ");
-    io::print_decimal(1, order as u64);
-    io::write_all(1, b" ");
+fn along(operation: usize) -> bool {
+    let a = next_surface();
+    let c = next_parameter();
+    let m = next_size();
+    match operation {
+        21 => real_met(a.composite_derivative(c, m)),
+        _ => curve_met(a.composite_derivatives(c, m)),
+    }
 }
 
-fn write_entries(a: &[f64]) {
+fn next_case() -> bool {
+    let operation = next_size();
+    match operation {
+        1..=6 => on_curves(operation),
+        11..=17 => on_surfaces(operation),
+        _ => along(operation),
+    }
+}
+
+fn main() {
+    let n = next_size();
+    let mut differ = 0usize;
     let mut i = 0;
-    while i < a.len() {
-        let x = a[i];
-        write_entry(i, x);
+    while i < n {
+        let d = differing(next_case(), i);
+        differ += d;
         i += 1;
     }
-}
-
-fn end_line() {
-    io::write_all(1, b"\n");
-}
-
-fn write_curve(a: CurveAnswer) {
-    let j = a.jet;
-    let e = j.entries;
-    write_head(a.refusal, j.order);
-    write_entries(&e);
-    end_line();
-}
-
-fn write_surface(a: SurfaceAnswer) {
-    let j = a.jet;
-    let e = j.entries;
-    write_head(a.refusal, j.order);
-    write_entries(&e);
-    end_line();
-}
-
-fn on_curves(op: u64) {
-    let a = curve();
-    let b = curve();
-    let m = word() as usize;
-    match op {
-        1 => write_curve(a.sum(b)),
-        2 => write_curve(a.difference(b)),
-        3 => write_curve(a.combinatorial_derivatives(b)),
-        4 => write_curve(a.rational_derivatives(b)),
-        5 => write_curve(a.derivative()),
-        _ => write_real(a.combinatorial_derivative(b, m)),
-    }
-}
-
-fn on_surfaces(op: u64) {
-    let a = surface();
-    let b = surface();
-    let m = word() as usize;
-    let n = word() as usize;
-    match op {
-        17 => write_surface(a.sum(b)),
-        18 => write_surface(a.difference(b)),
-        19 => write_surface(a.combinatorial_derivatives(b)),
-        20 => write_surface(a.rational_derivatives(b)),
-        21 => write_surface(a.derivative_u()),
-        22 => write_surface(a.derivative_v()),
-        _ => write_real(a.combinatorial_derivative(b, m, n)),
-    }
-}
-
-fn along(op: u64) {
-    let a = surface();
-    let c = parameter();
-    let m = word() as usize;
-    if op == 33 {
-        write_real(a.composite_derivative(c, m));
-    } else {
-        write_curve(a.composite_derivatives(c, m));
-    }
-}
-
-// Up to a thousand cases; the operation 0 ends them.
-fn main() {
-    let mut turns = 0u32;
-    while turns < 1000 {
-        let op = word();
-        if op == 0 {
-            return;
-        }
-        if op < 16 {
-            on_curves(op);
-        } else if op < 32 {
-            on_surfaces(op);
-        } else {
-            along(op);
-        }
-        turns += 1;
-    }
+    report(n, differ);
 }

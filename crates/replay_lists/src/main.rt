@@ -1,24 +1,25 @@
 // Jets of floats and of vectors from lists, and back into a list that is lent: each refusal, pairs of faults, and the orders 0, 1 and 20.
 // A case is five words: from a list (0) or into one (1); the kind of jet; its order; the list's length; the place of a float that is not finite.
-// What is written is the case and the refusal met, and whether a refusal changed the list (tools/replay_lists.py says what is expected).
+// Then the refusal, and what each place of the list lent holds after the call (tools/replay_lists.py says what is wanted).
 use derivatives::CurveDerivatives;
 use derivatives::ParameterCurve;
 use derivatives::SurfaceDerivatives;
 use derivatives::VectorCurveDerivatives;
 use derivatives::VectorSurfaceDerivatives;
+use ieee::both;
+use replay_text::differing;
 use replay_text::first_floats;
 use replay_text::float_at;
 use replay_text::floats_part;
+use replay_text::next_float;
 use replay_text::next_size;
-
-fn not_finite() -> f64 {
-    ieee::from_bits(0x7ff0_0000_0000_0000)
-}
+use replay_text::refusal_met;
+use replay_text::report;
 
 // One float of a list becomes infinite; none past its end.
 fn spoil(l: &mut [f64], at: usize) {
     if at < l.len() {
-        l[at] = not_finite();
+        l[at] = ieee::from_bits(0x7ff0_0000_0000_0000);
     }
 }
 
@@ -105,46 +106,27 @@ fn all_are(l: &[f64], x: f64) -> bool {
     true
 }
 
-fn write_number(n: usize) {
-    io::print_decimal(1, n as u64);
-    io::write_all(1, b" ");
-}
-
-fn report(refusal: u8, kept: bool) {
-    io::write_all(1, b"-> ");
-    io::print_decimal(1, refusal as u64);
-    if !kept {
-        io::write_all(1, b" changed");
-    }
-    io::write_all(1, b"\n");
-}
-
-// Before the call each place of the list lent holds 7.
-fn lent_case(kind: usize, order: usize, count: usize, at: usize) {
+// Before the call each place holds 7, and so it stays past the list lent.
+fn lent_case(kind: usize, order: usize, count: usize, at: usize) -> bool {
     let mut l = [7.0f64; 800];
     let refusal = into_list(kind, order, at, first_floats(&mut l, count));
-    let kept = all_are(&l, 7.0);
-    report(refusal, kept);
+    let met = refusal_met(refusal);
+    let held = all_are(floats_part(&l, 0, count), next_float());
+    both(met, both(held, all_are(floats_part(&l, count, 800), 7.0)))
 }
 
-fn given_case(kind: usize, order: usize, count: usize, at: usize) {
+fn given_case(kind: usize, order: usize, count: usize, at: usize) -> bool {
     let mut l = [1.0f64; 800];
     spoil(&mut l, at);
-    let refusal = from_list(kind, order, floats_part(&l, 0, count));
-    report(refusal, true);
+    refusal_met(from_list(kind, order, floats_part(&l, 0, count)))
 }
 
-fn next_case() {
+fn next_case() -> bool {
     let way = next_size();
     let kind = next_size();
     let order = next_size();
     let count = next_size();
     let at = next_size();
-    write_number(way);
-    write_number(kind);
-    write_number(order);
-    write_number(count);
-    write_number(at);
     if way == 0 {
         return given_case(kind, order, count, at);
     }
@@ -153,9 +135,12 @@ fn next_case() {
 
 fn main() {
     let n = next_size();
+    let mut differ = 0usize;
     let mut i = 0;
     while i < n {
-        next_case();
+        let d = differing(next_case(), i);
+        differ += d;
         i += 1;
     }
+    report(n, differ);
 }

@@ -1,7 +1,11 @@
-// What the replays read: words of 16 hexadecimal digits, each with a byte that parts it from the one after it, and lists, each a count and its
-// members, one after the other in one array. Lists are cut out of it again, and compared bit by bit.
+// What the test programs read, compare and write. The input is words of 16 hexadecimal digits, each with a byte that parts it from the one after it;
+// a list is its count, then its members. Lists are read into an array that is lent, one or several after each other, cut out of it again, and
+// compared bit by bit. What a case wants stands in it after what it gives: `…_met` reads it, and says whether it is what was met.
+ghost use lib.ListN.{length};
 ghost use mathlib.Core.Path.{_≡_};
-ghost use Prim.Native.Nat.{_<_};
+ghost use Prim.Native.Nat.{_≤_, _<_};
+use ieee::Real;
+use ieee::both;
 use whole::Whole;
 
 fn wide(c: u8) -> u64
@@ -69,103 +73,96 @@ pub fn next_whole() -> i64 {
     signed(next_word())
 }
 
-// A place past n more members; 0 past any array.
-fn past(at: usize, n: usize) -> usize {
-    if 65536 < at {
-        return 0;
-    }
-    if 65536 < n {
-        return 0;
-    }
-    at + n
-}
-
-fn put_float(l: &mut [f64], i: usize, x: f64) {
-    if i < l.len() {
-        l[i] = x;
-    }
-}
-
-fn next_floats(l: &mut [f64], from: usize, to: usize) {
-    let mut i = from;
-    while i < to {
-        let x = next_float();
-        put_float(l, i, x);
+// A list of the input into the first places of the one lent, as far as it has places: how many are read.
+pub fn next_floats(l: &mut [f64]) -> usize
+    ensures { λ r. ⌜ r ≤ length (now (l .entry)) ⌝ }
+{
+    let n = next_size();
+    let mut i = 0;
+    while i < l.len() {
+        if n <= i {
+            return i;
+        }
+        l[i] = next_float();
         i += 1;
     }
+    i
 }
 
-fn put_whole(l: &mut [i64], i: usize, x: i64) {
-    if i < l.len() {
-        l[i] = x;
-    }
-}
-
-fn next_wholes(l: &mut [i64], from: usize, to: usize) {
-    let mut i = from;
-    while i < to {
-        let x = next_whole();
-        put_whole(l, i, x);
+pub fn next_wholes(l: &mut [i64]) -> usize
+    ensures { λ r. ⌜ r ≤ length (now (l .entry)) ⌝ }
+{
+    let n = next_size();
+    let mut i = 0;
+    while i < l.len() {
+        if n <= i {
+            return i;
+        }
+        l[i] = next_whole();
         i += 1;
     }
+    i
 }
 
-fn put_size(l: &mut [usize], i: usize, x: usize) {
-    if i < l.len() {
-        l[i] = x;
-    }
-}
-
-fn next_sizes(l: &mut [usize], from: usize, to: usize) {
-    let mut i = from;
-    while i < to {
-        let x = next_size();
-        put_size(l, i, x);
+pub fn next_sizes(l: &mut [usize]) -> usize
+    ensures { λ r. ⌜ r ≤ length (now (l .entry)) ⌝ }
+{
+    let n = next_size();
+    let mut i = 0;
+    while i < l.len() {
+        if n <= i {
+            return i;
+        }
+        l[i] = next_size();
         i += 1;
     }
+    i
 }
 
-// Reads how many lists there are, and these: the list at i stands from ends[i] to ends[i + 1].
+// Reads how many lists there are, and these, as far as their ends have places: the list at i stands from ends[i] to ends[i + 1].
 pub fn next_float_lists(l: &mut [f64], ends: &mut [usize]) {
     let n = next_size();
     let mut at = 0usize;
     let mut i = 0;
-    while i < n {
-        put_size(ends, i, at);
-        let to = past(at, next_size());
-        next_floats(l, at, to);
-        at = to;
+    while i < ends.len() {
+        ends[i] = at;
+        if n <= i {
+            return;
+        }
+        let k = next_floats(&mut l[at..]);
+        at += k;
         i += 1;
     }
-    put_size(ends, n, at);
 }
 
 pub fn next_whole_lists(l: &mut [i64], ends: &mut [usize]) {
     let n = next_size();
     let mut at = 0usize;
     let mut i = 0;
-    while i < n {
-        put_size(ends, i, at);
-        let to = past(at, next_size());
-        next_wholes(l, at, to);
-        at = to;
+    while i < ends.len() {
+        ends[i] = at;
+        if n <= i {
+            return;
+        }
+        let k = next_wholes(&mut l[at..]);
+        at += k;
         i += 1;
     }
-    put_size(ends, n, at);
 }
 
 pub fn next_size_lists(l: &mut [usize], ends: &mut [usize]) {
     let n = next_size();
     let mut at = 0usize;
     let mut i = 0;
-    while i < n {
-        put_size(ends, i, at);
-        let to = past(at, next_size());
-        next_sizes(l, at, to);
-        at = to;
+    while i < ends.len() {
+        ends[i] = at;
+        if n <= i {
+            return;
+        }
+        let k = next_sizes(&mut l[at..]);
+        at += k;
         i += 1;
     }
-    put_size(ends, n, at);
 }
 
 // The part of a list from a place up to another, and the empty list where it has no such part.
@@ -196,6 +193,15 @@ pub fn sizes_part(l: &[usize], from: usize, to: usize) -> &[usize] {
     &l[0..0]
 }
 
+pub fn words_part(l: &[u64], from: usize, to: usize) -> &[u64] {
+    if to <= l.len() {
+        if from <= to {
+            return &l[from..to];
+        }
+    }
+    &l[0..0]
+}
+
 pub fn first_floats(l: &mut [f64], n: usize) -> &mut [f64] {
     if n <= l.len() {
         return &mut l[0..n];
@@ -217,58 +223,11 @@ pub fn first_sizes(l: &mut [usize], n: usize) -> &mut [usize] {
     &mut l[0..0]
 }
 
-pub fn same_floats(a: &[f64], b: &[f64]) -> bool {
-    if a.len() != b.len() {
-        return false;
+pub fn first_words(l: &mut [u64], n: usize) -> &mut [u64] {
+    if n <= l.len() {
+        return &mut l[0..n];
     }
-    let mut i = 0;
-    while i < a.len() {
-        if i < b.len() {
-            let x = a[i];
-            let y = b[i];
-            if ieee::to_bits(x) != ieee::to_bits(y) {
-                return false;
-            }
-        }
-        i += 1;
-    }
-    true
-}
-
-pub fn same_wholes(a: &[i64], b: &[i64]) -> bool {
-    if a.len() != b.len() {
-        return false;
-    }
-    let mut i = 0;
-    while i < a.len() {
-        if i < b.len() {
-            let x = a[i];
-            let y = b[i];
-            if x != y {
-                return false;
-            }
-        }
-        i += 1;
-    }
-    true
-}
-
-pub fn same_sizes(a: &[usize], b: &[usize]) -> bool {
-    if a.len() != b.len() {
-        return false;
-    }
-    let mut i = 0;
-    while i < a.len() {
-        if i < b.len() {
-            let x = a[i];
-            let y = b[i];
-            if x != y {
-                return false;
-            }
-        }
-        i += 1;
-    }
-    true
+    &mut l[0..0]
 }
 
 // The list at i; where there is none, the empty list.
@@ -321,20 +280,53 @@ pub fn size_at(l: &[usize], i: usize) -> usize {
     0
 }
 
-pub fn words_part(l: &[u64], from: usize, to: usize) -> &[u64] {
-    if to <= l.len() {
-        if from <= to {
-            return &l[from..to];
-        }
+fn word_at(l: &[u64], i: usize) -> u64 {
+    if i < l.len() {
+        return l[i];
     }
-    &l[0..0]
+    0
 }
 
-pub fn first_words(l: &mut [u64], n: usize) -> &mut [u64] {
-    if n <= l.len() {
-        return &mut l[0..n];
+pub fn same_floats(a: &[f64], b: &[f64]) -> bool {
+    if a.len() != b.len() {
+        return false;
     }
-    &mut l[0..0]
+    let mut i = 0;
+    while i < a.len() {
+        if ieee::to_bits(float_at(a, i)) != ieee::to_bits(float_at(b, i)) {
+            return false;
+        }
+        i += 1;
+    }
+    true
+}
+
+pub fn same_wholes(a: &[i64], b: &[i64]) -> bool {
+    if a.len() != b.len() {
+        return false;
+    }
+    let mut i = 0;
+    while i < a.len() {
+        if whole_at(a, i) != whole_at(b, i) {
+            return false;
+        }
+        i += 1;
+    }
+    true
+}
+
+pub fn same_sizes(a: &[usize], b: &[usize]) -> bool {
+    if a.len() != b.len() {
+        return false;
+    }
+    let mut i = 0;
+    while i < a.len() {
+        if size_at(a, i) != size_at(b, i) {
+            return false;
+        }
+        i += 1;
+    }
+    true
 }
 
 pub fn same_words(a: &[u64], b: &[usize]) -> bool {
@@ -343,14 +335,93 @@ pub fn same_words(a: &[u64], b: &[usize]) -> bool {
     }
     let mut i = 0;
     while i < a.len() {
-        if i < b.len() {
-            let x = a[i];
-            let y = b[i];
-            if x != (y as u64) {
-                return false;
-            }
+        if word_at(a, i) != (size_at(b, i) as u64) {
+            return false;
         }
         i += 1;
     }
     true
+}
+
+// ---- what a case wants, read after the call
+
+pub fn word_met(w: u64) -> bool {
+    next_word() == w
+}
+
+pub fn size_met(n: usize) -> bool {
+    next_size() == n
+}
+
+pub fn refusal_met(c: u8) -> bool {
+    word_met(c as u64)
+}
+
+pub fn float_met(x: f64) -> bool {
+    word_met(ieee::to_bits(x))
+}
+
+fn whole_met(z: i64) -> bool {
+    next_whole() == z
+}
+
+// What stands beside a jet's entries.
+pub fn answer_met(refusal: u8, order: usize) -> bool {
+    both(refusal_met(refusal), size_met(order))
+}
+
+// A refusal and a number: 0 and the number, or the refusal and 0.
+pub fn real_met(a: Real) -> bool {
+    match a {
+        Real::Value(x) => both(refusal_met(0), float_met(x)),
+        Real::Refused(c) => both(refusal_met(c), float_met(0.0)),
+    }
+}
+
+pub fn checked_met(a: Whole) -> bool {
+    match a {
+        Whole::Value(z) => both(refusal_met(0), whole_met(z)),
+        Whole::Refused(c) => both(refusal_met(c), whole_met(0)),
+    }
+}
+
+// A list, with zeros past its members.
+pub fn floats_met(l: &[f64]) -> bool {
+    let mut wanted = [0.0f64; 256];
+    next_floats(&mut wanted);
+    same_floats(l, floats_part(&wanted, 0, l.len()))
+}
+
+pub fn wholes_met(l: &[i64]) -> bool {
+    let mut wanted = [0i64; 256];
+    next_wholes(&mut wanted);
+    same_wholes(l, wholes_part(&wanted, 0, l.len()))
+}
+
+pub fn sizes_met(l: &[usize]) -> bool {
+    let mut wanted = [0usize; 256];
+    next_sizes(&mut wanted);
+    same_sizes(l, sizes_part(&wanted, 0, l.len()))
+}
+
+// ---- what a program writes
+
+// 1 for a case that differs, whose place is written, else 0.
+pub fn differing(met: bool, i: usize) -> usize
+    ensures { λ r. ⌜ r ≤ 1 ⌝ }
+{
+    if met {
+        return 0;
+    }
+    io::write_all(1, b"differs at ");
+    io::print_decimal(1, i as u64);
+    io::write_all(1, b"\n");
+    1
+}
+
+pub fn report(cases: usize, differ: usize) {
+    io::print_decimal(1, cases as u64);
+    io::write_all(1, b" cases, ");
+    io::print_decimal(1, differ as u64);
+    io::write_all(1, b" differ\n");
 }

@@ -1,156 +1,61 @@
-// Runs the four operations of `whole` on every pair of a table of numbers, most of them at an edge of a range, and then on every pair of a
-// table of numbers and refusals. Each result is written, so that a wrong one shows (tools/replay_whole.py says what is expected).
+// The four operations of `whole` on pairs of numbers, most of them at an edge of a range, and on pairs of numbers and refusals. A case is 0 and two
+// numbers, or 1 and two operands, each a refusal and a number; then sum, difference, product and quotient (tools/replay_whole.py works them out).
+use ieee::both;
+use replay_text::checked_met;
+use replay_text::differing;
+use replay_text::next_size;
+use replay_text::next_whole;
+use replay_text::report;
+use whole::Whole;
 
-const COUNT: usize = 32;
-
-const NUMBERS: [i64; COUNT] = [
-    0,
-    1,
-    -1,
-    2,
-    -2,
-    3,
-    -3,
-    2147483647,
-    -2147483647,
-    2147483648,
-    -2147483648,
-    2147483649,
-    -2147483649,
-    4294967296,
-    -4294967296,
-    4611686018427387904,
-    -4611686018427387904,
-    4611686018427387903,
-    -4611686018427387905,
-    3037000499,
-    -3037000499,
-    3037000500,
-    -3037000500,
-    9223372036854775807,
-    -9223372036854775808,
-    -9223372036854775807,
-    10,
-    -12,
-    35,
-    5040,
-    -1000003,
-    2432902008176640000,
-];
-
-const OPERANDS: usize = 9;
-
-fn operand(i: usize) -> whole::Whole {
-    match i {
-        0 => whole::Whole::Value(6),
-        1 => whole::Whole::Value(-4),
-        2 => whole::Whole::Value(0),
-        3 => whole::Whole::Value(9223372036854775807),
-        4 => whole::Whole::Value(-9223372036854775808),
-        5 => whole::Whole::Refused(7),
-        6 => whole::Whole::Refused(8),
-        7 => whole::Whole::Refused(9),
-        _ => whole::Whole::Refused(200),
+fn next_operand() -> Whole {
+    let refusal = next_size();
+    let z = next_whole();
+    match refusal {
+        1..=255 => Whole::Refused(refusal as u8),
+        _ => Whole::Value(z),
     }
 }
 
-fn write_number(a: i64) {
-    if a < 0 {
-        io::write_all(1, b"-");
-    }
-    io::print_decimal(1, whole::magnitude(a));
+fn all_met(sum: Whole, difference: Whole, product: Whole, quotient: Whole) -> bool {
+    let p = both(checked_met(sum), checked_met(difference));
+    let q = both(checked_met(product), checked_met(quotient));
+    both(p, q)
 }
 
-fn write_whole(w: whole::Whole) {
-    match w {
-        whole::Whole::Value(a) => write_number(a),
-        whole::Whole::Refused(c) => {
-            io::write_all(1, b"r");
-            io::print_decimal(1, c as u64);
-        }
-    }
-}
-
-fn write_space() {
-    io::write_all(1, b" ");
-}
-
-fn write_results(
-    sum: whole::Whole,
-    difference: whole::Whole,
-    product: whole::Whole,
-    quotient: whole::Whole,
-) {
-    write_space();
-    write_whole(sum);
-    write_space();
-    write_whole(difference);
-    write_space();
-    write_whole(product);
-    write_space();
-    write_whole(quotient);
-    io::write_all(1, b"\n");
-}
-
-fn on_numbers(a: i64, b: i64) {
-    write_number(a);
-    write_space();
-    write_number(b);
-    write_results(
+fn on_numbers(a: i64, b: i64) -> bool {
+    all_met(
         whole::add(a, b),
         whole::sub(a, b),
         whole::mul(a, b),
         whole::div(a, b),
-    );
+    )
 }
 
-fn on_operands(x: whole::Whole, y: whole::Whole) {
-    write_whole(x);
-    write_space();
-    write_whole(y);
-    write_results(
+fn on_operands(x: Whole, y: Whole) -> bool {
+    all_met(
         whole::plus(x, y),
         whole::minus(x, y),
         whole::times(x, y),
         whole::over(x, y),
-    );
+    )
 }
 
-fn number_row(a: i64) {
-    let numbers = NUMBERS;
-    let mut j = 0;
-    while j < COUNT {
-        on_numbers(a, numbers[j]);
-        j += 1;
+fn next_case() -> bool {
+    if next_size() == 0 {
+        return on_numbers(next_whole(), next_whole());
     }
-}
-
-fn number_table() {
-    let numbers = NUMBERS;
-    let mut i = 0;
-    while i < COUNT {
-        number_row(numbers[i]);
-        i += 1;
-    }
-}
-
-fn operand_row(x: whole::Whole) {
-    let mut j = 0;
-    while j < OPERANDS {
-        on_operands(x, operand(j));
-        j += 1;
-    }
-}
-
-fn operand_table() {
-    let mut i = 0;
-    while i < OPERANDS {
-        operand_row(operand(i));
-        i += 1;
-    }
+    on_operands(next_operand(), next_operand())
 }
 
 fn main() {
-    number_table();
-    operand_table();
+    let n = next_size();
+    let mut differ = 0usize;
+    let mut i = 0;
+    while i < n {
+        let d = differing(next_case(), i);
+        differ += d;
+        i += 1;
+    }
+    report(n, differ);
 }

@@ -1,38 +1,32 @@
--- `main` is safe and ends: a turn for each line, a thousand at most. Assumes nothing.
+-- `main` is safe and ends: a turn for each case. Assumes nothing.
 use Prim.Native.Nat.{_-_, _≤_}
 use borrow.Author.Needs.{needs}
 use Rattle.replay_sqrt.proofs.main.Statement.{statement}
 use Rattle.replay_sqrt.proofs.main.Tie as tie
 
 abbrev Inv-loop : tie.InvT-loop
-Inv-loop turns₀ turns = turns ≤ 1000
+Inv-loop n differ₀ i₀ differ i = (i ≤ n) × (differ ≤ i)
 
 abbrev μ-loop : tie.MeasureT-loop
-μ-loop turns₀ turns = 1000 - turns
+μ-loop n differ₀ i₀ differ i = n - i
+
+next-size-requires : tie.Need-next-size-requires Inv-loop μ-loop
+next-size-requires c κs = search needs
 
 loop-holds : tie.Need-loop-holds Inv-loop μ-loop
 loop-holds c = search needs
 
-slice-aggregate-read-full : tie.Need-slice-aggregate-read-full Inv-loop μ-loop
-slice-aggregate-read-full c = search needs
+next-case-requires : tie.Need-next-case-requires Inv-loop μ-loop
+next-case-requires c κs = search needs
 
-read-full-requires : tie.Need-read-full-requires Inv-loop μ-loop
-read-full-requires c κs = search needs
+differing-requires : tie.Need-differing-requires Inv-loop μ-loop
+differing-requires c κs = search needs
 
-returns : tie.Need-returns Inv-loop μ-loop
-returns c = search needs
+add-differ : tie.Need-add-differ Inv-loop μ-loop
+add-differ c = search needs
 
-bits-requires : tie.Need-bits-requires Inv-loop μ-loop
-bits-requires c κs = search needs
-
-from-bits-requires : tie.Need-from-bits-requires Inv-loop μ-loop
-from-bits-requires c κs = search needs
-
-replay-requires : tie.Need-replay-requires Inv-loop μ-loop
-replay-requires c κs = search needs
-
-add-turns : tie.Need-add-turns Inv-loop μ-loop
-add-turns c = search needs
+add-i : tie.Need-add-i Inv-loop μ-loop
+add-i c = search needs
 
 loop-less : tie.Need-loop-less Inv-loop μ-loop
 loop-less c = search needs
@@ -40,8 +34,11 @@ loop-less c = search needs
 loop-again : tie.Need-loop-again Inv-loop μ-loop
 loop-again c = search needs
 
-returns-2 : tie.Need-returns-2 Inv-loop μ-loop
-returns-2 c = search needs
+report-requires : tie.Need-report-requires Inv-loop μ-loop
+report-requires c κs = search needs
+
+returns : tie.Need-returns Inv-loop μ-loop
+returns c = search needs
 
 pub main-spec : {M : Type 1} → statement M
 main-spec =
@@ -49,14 +46,13 @@ main-spec =
     (tie.spec
     Inv-loop
     μ-loop
+    next-size-requires
     loop-holds
-    slice-aggregate-read-full
-    read-full-requires
-    returns
-    bits-requires
-    from-bits-requires
-    replay-requires
-    add-turns
+    next-case-requires
+    differing-requires
+    add-differ
+    add-i
     loop-less
     loop-again
-    returns-2)
+    report-requires
+    returns)

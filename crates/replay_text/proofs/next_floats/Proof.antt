@@ -7,19 +7,31 @@ use Rattle.replay_text.proofs.next_floats.Statement.{statement}
 use Rattle.replay_text.proofs.next_floats.Tie as tie
 
 abbrev Inv-loop : tie.InvT-loop
-Inv-loop l₀ from to i₀ l i = (from ≤ i) × (length l ≡ length l₀)
+Inv-loop l₀ n i₀ l i = (i ≤ length l₀) × (length l ≡ length l₀)
 
 abbrev μ-loop : tie.MeasureT-loop
-μ-loop l₀ from to i₀ l i = to - i
+μ-loop l₀ n i₀ l i = length l₀ - i
+
+next-size-requires : tie.Need-next-size-requires Inv-loop μ-loop
+next-size-requires c κs = search needs
 
 loop-holds : tie.Need-loop-holds Inv-loop μ-loop
 loop-holds c = search needs
 
+same-length : tie.Need-same-length Inv-loop μ-loop
+same-length c = search needs
+
+returns : tie.Need-returns Inv-loop μ-loop
+returns c = search needs
+
 next-float-requires : tie.Need-next-float-requires Inv-loop μ-loop
 next-float-requires c κs = search needs
 
-put-float-requires : tie.Need-put-float-requires Inv-loop μ-loop
-put-float-requires c κs = search needs
+mul-l : tie.Need-mul-l Inv-loop μ-loop
+mul-l c = search needs
+
+slice-write-l : tie.Need-slice-write-l Inv-loop μ-loop
+slice-write-l c = search needs
 
 add-i : tie.Need-add-i Inv-loop μ-loop
 add-i c = search needs
@@ -30,11 +42,11 @@ loop-less c = search needs
 loop-again : tie.Need-loop-again Inv-loop μ-loop
 loop-again c = search needs
 
-same-length : tie.Need-same-length Inv-loop μ-loop
-same-length c = search needs
+same-length-2 : tie.Need-same-length-2 Inv-loop μ-loop
+same-length-2 c = search needs
 
-returns : tie.Need-returns Inv-loop μ-loop
-returns c = search needs
+returns-2 : tie.Need-returns-2 Inv-loop μ-loop
+returns-2 c = search needs
 
 pub next-floats-spec : {M : Type 1} → statement M
 next-floats-spec =
@@ -42,11 +54,15 @@ next-floats-spec =
     (tie.spec
     Inv-loop
     μ-loop
+    next-size-requires
     loop-holds
+    same-length
+    returns
     next-float-requires
-    put-float-requires
+    mul-l
+    slice-write-l
     add-i
     loop-less
     loop-again
-    same-length
-    returns)
+    same-length-2
+    returns-2)

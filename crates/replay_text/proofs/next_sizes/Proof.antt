@@ -7,19 +7,31 @@ use Rattle.replay_text.proofs.next_sizes.Statement.{statement}
 use Rattle.replay_text.proofs.next_sizes.Tie as tie
 
 abbrev Inv-loop : tie.InvT-loop
-Inv-loop l₀ from to i₀ l i = (from ≤ i) × (length l ≡ length l₀)
+Inv-loop l₀ n i₀ l i = (i ≤ length l₀) × (length l ≡ length l₀)
 
 abbrev μ-loop : tie.MeasureT-loop
-μ-loop l₀ from to i₀ l i = to - i
-
-loop-holds : tie.Need-loop-holds Inv-loop μ-loop
-loop-holds c = search needs
+μ-loop l₀ n i₀ l i = length l₀ - i
 
 next-size-requires : tie.Need-next-size-requires Inv-loop μ-loop
 next-size-requires c κs = search needs
 
-put-size-requires : tie.Need-put-size-requires Inv-loop μ-loop
-put-size-requires c κs = search needs
+loop-holds : tie.Need-loop-holds Inv-loop μ-loop
+loop-holds c = search needs
+
+same-length : tie.Need-same-length Inv-loop μ-loop
+same-length c = search needs
+
+returns : tie.Need-returns Inv-loop μ-loop
+returns c = search needs
+
+next-size-requires-2 : tie.Need-next-size-requires-2 Inv-loop μ-loop
+next-size-requires-2 c κs = search needs
+
+mul-l : tie.Need-mul-l Inv-loop μ-loop
+mul-l c = search needs
+
+slice-write-l : tie.Need-slice-write-l Inv-loop μ-loop
+slice-write-l c = search needs
 
 add-i : tie.Need-add-i Inv-loop μ-loop
 add-i c = search needs
@@ -30,11 +42,11 @@ loop-less c = search needs
 loop-again : tie.Need-loop-again Inv-loop μ-loop
 loop-again c = search needs
 
-same-length : tie.Need-same-length Inv-loop μ-loop
-same-length c = search needs
+same-length-2 : tie.Need-same-length-2 Inv-loop μ-loop
+same-length-2 c = search needs
 
-returns : tie.Need-returns Inv-loop μ-loop
-returns c = search needs
+returns-2 : tie.Need-returns-2 Inv-loop μ-loop
+returns-2 c = search needs
 
 pub next-sizes-spec : {M : Type 1} → statement M
 next-sizes-spec =
@@ -42,11 +54,15 @@ next-sizes-spec =
     (tie.spec
     Inv-loop
     μ-loop
-    loop-holds
     next-size-requires
-    put-size-requires
+    loop-holds
+    same-length
+    returns
+    next-size-requires-2
+    mul-l
+    slice-write-l
     add-i
     loop-less
     loop-again
-    same-length
-    returns)
+    same-length-2
+    returns-2)

@@ -17,20 +17,14 @@ returns c = search needs
 loop-holds : tie.Need-loop-holds Inv-loop μ-loop
 loop-holds c = search needs
 
-mul-x : tie.Need-mul-x Inv-loop μ-loop
-mul-x c = search needs
-
-shared-slice-read-x : tie.Need-shared-slice-read-x Inv-loop μ-loop
-shared-slice-read-x c = search needs
-
-mul-y : tie.Need-mul-y Inv-loop μ-loop
-mul-y c = search needs
-
-shared-slice-read-y : tie.Need-shared-slice-read-y Inv-loop μ-loop
-shared-slice-read-y c = search needs
+float-at-requires : tie.Need-float-at-requires Inv-loop μ-loop
+float-at-requires c κs = search needs
 
 to-bits-requires : tie.Need-to-bits-requires Inv-loop μ-loop
 to-bits-requires c κs = search needs
+
+float-at-requires-2 : tie.Need-float-at-requires-2 Inv-loop μ-loop
+float-at-requires-2 c κs = search needs
 
 to-bits-requires-2 : tie.Need-to-bits-requires-2 Inv-loop μ-loop
 to-bits-requires-2 c κs = search needs
@@ -58,11 +52,9 @@ same-floats-spec =
     μ-loop
     returns
     loop-holds
-    mul-x
-    shared-slice-read-x
-    mul-y
-    shared-slice-read-y
+    float-at-requires
     to-bits-requires
+    float-at-requires-2
     to-bits-requires-2
     returns-2
     add-i

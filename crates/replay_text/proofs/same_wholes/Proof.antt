@@ -17,17 +17,11 @@ returns c = search needs
 loop-holds : tie.Need-loop-holds Inv-loop μ-loop
 loop-holds c = search needs
 
-mul-x : tie.Need-mul-x Inv-loop μ-loop
-mul-x c = search needs
+whole-at-requires : tie.Need-whole-at-requires Inv-loop μ-loop
+whole-at-requires c κs = search needs
 
-shared-slice-copy-out-x : tie.Need-shared-slice-copy-out-x Inv-loop μ-loop
-shared-slice-copy-out-x c = search needs
-
-mul-y : tie.Need-mul-y Inv-loop μ-loop
-mul-y c = search needs
-
-shared-slice-copy-out-y : tie.Need-shared-slice-copy-out-y Inv-loop μ-loop
-shared-slice-copy-out-y c = search needs
+whole-at-requires-2 : tie.Need-whole-at-requires-2 Inv-loop μ-loop
+whole-at-requires-2 c κs = search needs
 
 returns-2 : tie.Need-returns-2 Inv-loop μ-loop
 returns-2 c = search needs
@@ -52,10 +46,8 @@ same-wholes-spec =
     μ-loop
     returns
     loop-holds
-    mul-x
-    shared-slice-copy-out-x
-    mul-y
-    shared-slice-copy-out-y
+    whole-at-requires
+    whole-at-requires-2
     returns-2
     add-i
     loop-less
