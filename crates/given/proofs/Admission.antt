@@ -5,13 +5,11 @@ use Prim.Native.Nat.{ℕ, zero, suc, min}
 use native.Mathlib.Decide.{ℕ-discrete}
 use native.Mathlib.Omega.{arith}
 use lib.ListN.{length}
-use lib.Ieee.{Float}
 use borrow.Author.Tests.{eq-eqb, ne-eqb}
-use Rattle.capi.specs.Given.{first, orderGiven, floatsGiven}
-use Rattle.capi.specs.Delivery.{admitted}
-use Rattle.capi.specs.Lists.{Input, Output, onTwo, onTwoAt, onOne}
+use Rattle.given.specs.Given.{first, orderGiven, countGiven}
+use Rattle.given.specs.Lists.{admitted, Input, Output, onTwo, onTwoAt, onOne}
 
-abbrev pub pair : ℕ → List Float → ℕ × List Float
+abbrev pub pair : {T : Type 0} → ℕ → List T → ℕ × List T
 pair c l = (c, l)
 
 -- the test is not 0, or it is
@@ -26,13 +24,13 @@ module _ {L : Type 0} {t g : ℕ} (out : L) (e : t ≡ g) where
   allowed h p = p ∙ rw (eq-eqb g 0 (sym e ∙ h))
 
 -- ---- operations on jets
-module _ {J K A : Type 0} (X : Input J) (Y : Input K) (Z : Output A) (op : J → K → A) (m : ℕ) (a : List Float) (n : ℕ) (b out : List Float) where
+module _ {T J K A : Type 0} (X : Input T J) (Y : Input T K) (Z : Output T A) (op : J → K → A) (m : ℕ) (a : List T) (n : ℕ) (b out : List T) where
   module _ {t : ℕ} (e : t ≡ first (X .given m (length a)) (first (Y .given n (length b)) (Z .given (min m n) (length out)))) where
     pub two-refused : ¬ (t ≡ 0) → pair t out ≡ onTwo X Y Z op m a n b out
     unfolding onTwo
     two-refused h = refused out e (Z .deliver (op (X .jet m a) (Y .jet n b)) out) h
 
-    pub two-worked : t ≡ 0 → {x : J} {y : K} {r : A} {s : ℕ × List Float} → x ≡ X .jet m a → y ≡ Y .jet n b → r ≡ op x y → s ≡ Z .deliver r out →
+    pub two-worked : t ≡ 0 → {x : J} {y : K} {r : A} {s : ℕ × List T} → x ≡ X .jet m a → y ≡ Y .jet n b → r ≡ op x y → s ≡ Z .deliver r out →
         s ≡ onTwo X Y Z op m a n b out
     unfolding onTwo
     two-worked h p q w v = allowed out e h (v ∙ ap (λ (r : A). Z .deliver r out) (w ∙ ap₂ op p q))
@@ -42,18 +40,18 @@ module _ {J K A : Type 0} (X : Input J) (Y : Input K) (Z : Output A) (op : J →
     unfolding onTwoAt
     two-refused-at h = refused out e (Z .deliver (op (X .jet m a) (Y .jet n b)) out) h
 
-    pub two-worked-at : t ≡ 0 → {x : J} {y : K} {r : A} {s : ℕ × List Float} → x ≡ X .jet m a → y ≡ Y .jet n b → r ≡ op x y → s ≡ Z .deliver r out →
+    pub two-worked-at : t ≡ 0 → {x : J} {y : K} {r : A} {s : ℕ × List T} → x ≡ X .jet m a → y ≡ Y .jet n b → r ≡ op x y → s ≡ Z .deliver r out →
         s ≡ onTwoAt X Y Z k op m a n b out
     unfolding onTwoAt
     two-worked-at h p q w v = allowed out e h (v ∙ ap (λ (r : A). Z .deliver r out) (w ∙ ap₂ op p q))
 
-module _ {J A : Type 0} (X : Input J) (Z : Output A) (k : ℕ) (op : J → A) (n : ℕ) (a out : List Float) where
+module _ {T J A : Type 0} (X : Input T J) (Z : Output T A) (k : ℕ) (op : J → A) (n : ℕ) (a out : List T) where
   module _ {t : ℕ} (e : t ≡ first (X .given n (length a)) (Z .given k (length out))) where
     pub one-refused : ¬ (t ≡ 0) → pair t out ≡ onOne X Z k op n a out
     unfolding onOne
     one-refused h = refused out e (Z .deliver (op (X .jet n a)) out) h
 
-    pub one-worked : t ≡ 0 → {x : J} {r : A} {s : ℕ × List Float} → x ≡ X .jet n a → r ≡ op x → s ≡ Z .deliver r out → s ≡ onOne X Z k op n a out
+    pub one-worked : t ≡ 0 → {x : J} {r : A} {s : ℕ × List T} → x ≡ X .jet n a → r ≡ op x → s ≡ Z .deliver r out → s ≡ onOne X Z k op n a out
     unfolding onOne
     one-worked h p w v = allowed out e h (v ∙ ap (λ (r : A). Z .deliver r out) (w ∙ ap op p))
 
@@ -81,9 +79,9 @@ module _ (a b : ℕ) (e : first a b ≡ 0) where
   pub rest-fits : b ≡ 0
   rest-fits = parts .1
 
--- so many floats as are due
-pub floats-fit : (due l : ℕ) → floatsGiven due l ≡ 0 → l ≡ due
-floats-fit due l e = go (ℕ-discrete l due)
+-- as many numbers as are due
+pub count-fits : (due l : ℕ) → countGiven due l ≡ 0 → l ≡ due
+count-fits due l e = go (ℕ-discrete l due)
   where
     go : Dec (l ≡ due) → l ≡ due
     go (yes q) = q

@@ -1,11 +1,11 @@
--- `capi::given::first` meets its contract. Assumes nothing.
+-- `given::first` meets its contract. Assumes nothing.
 use borrow.Author.Tests.{eq-eqb, ne-eqb}
 use native.Mathlib.Omega.{arith}
-use Rattle.capi.specs.Given.{first}
-use Rattle.capi.proofs.given.first.Statement.{statement}
-use Rattle.capi.proofs.given.first.Tie as tie
-use Rattle.capi.proofs.given.first.Reads as reads
-use Rattle.capi.proofs.given.first.Lts as lts
+use Rattle.given.specs.Given.{first}
+use Rattle.given.proofs.first.Statement.{statement}
+use Rattle.given.proofs.first.Tie as tie
+use Rattle.given.proofs.first.Reads as reads
+use Rattle.given.proofs.first.Lts as lts
 
 returns : tie.Need-returns
 unfolding first

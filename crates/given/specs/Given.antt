@@ -1,4 +1,4 @@
--- The tests of what a caller hands over, before any work: 0 where it is fit, 1 for an order above 20, 2 for a list whose count of floats is not
+-- The tests of what a caller hands over, before any work: 0 where it is fit, 1 for an order above 20, 2 for a list whose count of numbers is not
 -- the one that is due. Assumes nothing.
 use mathlib.Core.Bool.{cond}
 use Prim.Native.Nat.{ℕ, suc, _*_, min}
@@ -13,13 +13,13 @@ first a b = cond (eqb a 0) b (cond (eqb b 0) a (min a b))
 abbrev pub orderGiven : ℕ → ℕ
 orderGiven n = cond (ltb 20 n) 1 0
 
--- a list of l floats, where so many are due
-abbrev pub floatsGiven : ℕ → ℕ → ℕ
-floatsGiven due l = cond (eqb l due) 0 2
+-- a list of l numbers, where so many are due
+abbrev pub countGiven : ℕ → ℕ → ℕ
+countGiven due l = cond (eqb l due) 0 2
 
--- a list of l floats as a jet of the order n, which has so many
+-- a list of l numbers as a jet of the order n, which has so many
 abbrev pub listGiven : (ℕ → ℕ) → ℕ → ℕ → ℕ
-listGiven count n l = cond (ltb 20 n) 1 (floatsGiven (count n) l)
+listGiven count n l = cond (ltb 20 n) 1 (countGiven (count n) l)
 
 abbrev pub curveGiven : ℕ → ℕ → ℕ
 curveGiven = listGiven (λ n. suc n)

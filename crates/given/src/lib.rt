@@ -1,15 +1,9 @@
 // The tests of what a caller hands over, before any work: 0 where it is fit, 1 for an order above 20, 2 for a list of another length.
 ghost use mathlib.Core.Path.{_≡_};
-ghost use Prim.Native.Nat.{suc, _+_, _-_, _≤_, min};
-ghost use Rattle.calculus.specs.Graded.{triangle};
-ghost use Rattle.capi.specs.Given.{first as firstOf, orderGiven, floatsGiven, curveGiven, surfaceGiven, parameterGiven, vectorCurveGiven, vectorSurfaceGiven};
+ghost use Prim.Native.Nat.{_+_, _-_};
+ghost use Rattle.given.specs.Given.{first as firstOf, orderGiven, countGiven, curveGiven, surfaceGiven, parameterGiven, vectorCurveGiven, vectorSurfaceGiven};
 
-pub fn smaller(m: usize, n: usize) -> usize
-    ensures { λ r. ⌜ r ≡ min m n ⌝ }
-{
-    if m < n { m } else { n }
-}
-
+// The order of a derivative: one less, but not below 0.
 pub fn lower(n: usize) -> usize
     ensures { λ r. ⌜ r ≡ n - 1 ⌝ }
 {
@@ -47,29 +41,21 @@ pub fn order_sum(m: usize, n: usize) -> u8
     order(m + n)
 }
 
-// A list of l floats, where `due` are due.
-pub fn floats(due: usize, l: usize) -> u8
-    ensures { λ r. ⌜ r ≡ floatsGiven due l ⌝ }
+// A list of l numbers, where `due` are due.
+pub fn count(due: usize, l: usize) -> u8
+    ensures { λ r. ⌜ r ≡ countGiven due l ⌝ }
 {
     if l == due { 0 } else { 2 }
 }
 
-// How many entries a surface of the order n has.
-fn entries(n: usize) -> usize
-    requires { ⌜ n ≤ 20 ⌝ }
-    ensures { λ r. ⌜ r ≡ triangle (suc n) ⌝ }
-{
-    (n + 1) * (n + 2) / 2
-}
-
-// A list of l floats as a jet of the order n.
+// A list of l numbers as a jet of the order n.
 pub fn curve(n: usize, l: usize) -> u8
     ensures { λ r. ⌜ r ≡ curveGiven n l ⌝ }
 {
     if 20 < n {
         return 1;
     }
-    floats(n + 1, l)
+    count(n + 1, l)
 }
 
 pub fn surface(n: usize, l: usize) -> u8
@@ -78,8 +64,8 @@ pub fn surface(n: usize, l: usize) -> u8
     if 20 < n {
         return 1;
     }
-    let k = entries(n);
-    floats(k, l)
+    let k = calculus::surface_count(n);
+    count(k, l)
 }
 
 pub fn parameter(n: usize, l: usize) -> u8
@@ -88,7 +74,7 @@ pub fn parameter(n: usize, l: usize) -> u8
     if 20 < n {
         return 1;
     }
-    floats(2 * (n + 1), l)
+    count(2 * (n + 1), l)
 }
 
 pub fn vector_curve(n: usize, l: usize) -> u8
@@ -97,7 +83,7 @@ pub fn vector_curve(n: usize, l: usize) -> u8
     if 20 < n {
         return 1;
     }
-    floats(3 * (n + 1), l)
+    count(3 * (n + 1), l)
 }
 
 pub fn vector_surface(n: usize, l: usize) -> u8
@@ -106,6 +92,6 @@ pub fn vector_surface(n: usize, l: usize) -> u8
     if 20 < n {
         return 1;
     }
-    let k = entries(n);
-    floats(3 * k, l)
+    let k = calculus::surface_count(n);
+    count(3 * k, l)
 }

@@ -1,13 +1,13 @@
--- `capi::given::order_sum` meets its contract. Assumes nothing.
+-- `given::order_sum` meets its contract. Assumes nothing.
 use borrow.Author.Tests.{lt-ltb}
 use native.Mathlib.Omega.{arith}
 use Prim.Native.Nat.{_+_}
 use borrow.Author.Needs.{needs}
-use Rattle.capi.proofs.given.order_sum.Statement.{statement}
-use Rattle.capi.proofs.given.order_sum.Tie as tie
-use Rattle.capi.proofs.given.order_sum.Reads as reads
-use Rattle.capi.proofs.given.order_sum.Lts as lts
-use Rattle.capi.proofs.given.order.Reads as order-reads
+use Rattle.given.proofs.order_sum.Statement.{statement}
+use Rattle.given.proofs.order_sum.Tie as tie
+use Rattle.given.proofs.order_sum.Reads as reads
+use Rattle.given.proofs.order_sum.Lts as lts
+use Rattle.given.proofs.order.Reads as order-reads
 
 returns : tie.Need-returns
 returns c = rw (lt-ltb 20 (c .before .args .m + c .before .args .n) (omega arith))

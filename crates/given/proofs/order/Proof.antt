@@ -1,9 +1,9 @@
--- `capi::given::order` meets its contract. Assumes nothing.
+-- `given::order` meets its contract. Assumes nothing.
 use borrow.Author.Tests.{lt-ltb, le-ltb}
-use Rattle.capi.proofs.given.order.Statement.{statement}
-use Rattle.capi.proofs.given.order.Tie as tie
-use Rattle.capi.proofs.given.order.Reads as reads
-use Rattle.capi.proofs.given.order.Lts as lts
+use Rattle.given.proofs.order.Statement.{statement}
+use Rattle.given.proofs.order.Tie as tie
+use Rattle.given.proofs.order.Reads as reads
+use Rattle.given.proofs.order.Lts as lts
 
 returns : tie.Need-returns
 returns c = rw (lt-ltb 20 (c .before .args .n) (c .if1 .taken))
