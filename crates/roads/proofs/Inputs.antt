@@ -28,7 +28,7 @@ then-false : (t u : Bool) → cond t false u ≡ true → (t ≡ false) × (u �
 then-false true u e = let z : _≡_ {A = ℕ} 0 1 = cc in absurd (suc-ne-zero 0 (sym z))
 then-false false u e = (refl, e)
 
-then-true : (t u : Bool) → cond t true u ≡ false → (t ≡ false) × (u ≡ false)
+pub then-true : (t u : Bool) → cond t true u ≡ false → (t ≡ false) × (u ≡ false)
 then-true true u e = let z : _≡_ {A = ℕ} 0 1 = cc in absurd (suc-ne-zero 0 (sym z))
 then-true false u e = (refl, e)
 

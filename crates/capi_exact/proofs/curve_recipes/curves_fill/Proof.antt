@@ -1,0 +1,76 @@
+-- `capi_exact::curve_recipes::curves_fill` meets its contract. Assumes nothing.
+use mathlib.Core.Path.{_≡_, _∙_}
+use Prim.Native.Nat.{_≤_, _+_, _-_, suc}
+use native.Mathlib.Omega.{arith}
+use native.Mathlib.Numerals.{add-one}
+use lib.ListN.{length, getD, take}
+use denote.Ref.{now}
+use borrow.Author.Needs.{needs}
+use Rattle.capi_exact.specs.Recipes.{total}
+use Rattle.capi_exact.proofs.RecipeLists.{below-20, too-few, enough, all-counted, total-none}
+use Rattle.capi_exact.proofs.curve_recipes.curves_fill.Statement.{statement}
+use Rattle.capi_exact.proofs.curve_recipes.curves_fill.Tie as tie
+
+abbrev Inv-loop : tie.InvT-loop
+Inv-loop orders count rest₀ i₀ rest i = (i ≤ length orders) × (count ≡ total suc (take i orders) + rest)
+
+abbrev μ-loop : tie.MeasureT-loop
+μ-loop orders count rest₀ i₀ rest i = length orders - i
+
+loop-holds : tie.Need-loop-holds Inv-loop μ-loop
+loop-holds c = (omega arith, total-none suc (now (c .before .args .orders)) (c .before .args .count))
+
+mul-n : tie.Need-mul-n Inv-loop μ-loop
+mul-n c = search needs
+
+shared-slice-read-n : tie.Need-shared-slice-read-n Inv-loop μ-loop
+shared-slice-read-n c = search needs
+
+add-k : tie.Need-add-k Inv-loop μ-loop
+add-k c =
+    let l = c .before .before in
+    record { fits = omega (arith, below-20 (now (l .before .before .args .orders)) (l .before .before .pre) (l .loop .i) (c .before .loop-test .taken)) }
+
+returns : tie.Need-returns Inv-loop μ-loop
+returns c =
+    let l = c .before .before .before in
+    let a = l .before .before .args in
+    too-few suc (now (a .orders)) (l .loop .i) (c .before .before .loop-test .taken) (a .count) (l .loop .rest) (getD (now (a .orders)) (l .loop .i) 0 + 1) (l .loop .inv .1) (add-one (getD (now (a .orders)) (l .loop .i) 0)) (c .if1 .taken)
+
+add-i : tie.Need-add-i Inv-loop μ-loop
+add-i c = search needs
+
+loop-less : tie.Need-loop-less Inv-loop μ-loop
+loop-less c = search needs
+
+loop-again : tie.Need-loop-again Inv-loop μ-loop
+loop-again c =
+    let l = c .before .before .before in
+    let a = l .before .before .args in
+    (omega arith, enough suc (now (a .orders)) (l .loop .i) (c .before .before .loop-test .taken) (a .count) (l .loop .rest) (getD (now (a .orders)) (l .loop .i) 0 + 1) (l .loop .inv .1) (add-one (getD (now (a .orders)) (l .loop .i) 0)) (c .if1 .left))
+
+count-requires : tie.Need-count-requires Inv-loop μ-loop
+count-requires c κs = search needs
+
+returns-2 : tie.Need-returns-2 Inv-loop μ-loop
+returns-2 c =
+    let l = c .before .before in
+    let a = l .before .before .args in
+    c .count .ensures ∙ all-counted suc (now (a .orders)) (l .loop .i) (c .before .loop-test .left) (a .count) (l .loop .rest) (l .loop .inv .1)
+
+pub curves-fill-spec : {M : Type 1} → statement M
+curves-fill-spec =
+    tie.close
+    (tie.spec
+    Inv-loop
+    μ-loop
+    loop-holds
+    mul-n
+    shared-slice-read-n
+    add-k
+    returns
+    add-i
+    loop-less
+    loop-again
+    count-requires
+    returns-2)

@@ -1,0 +1,31 @@
+-- `capi_exact::exact_carry::given_carry_entry` meets its contract. Assumes nothing.
+use borrow.Author.Needs.{needs}
+use Rattle.capi_exact.proofs.exact_carry.given_carry_entry.Statement.{statement}
+use Rattle.capi_exact.proofs.exact_carry.given_carry_entry.Tie as tie
+
+surface-requires : tie.Need-surface-requires
+surface-requires c κs = search needs
+
+parameter-requires : tie.Need-parameter-requires
+parameter-requires c κs = search needs
+
+order-requires : tie.Need-order-requires
+order-requires c κs = search needs
+
+count-requires : tie.Need-count-requires
+count-requires c κs = search needs
+
+first-requires : tie.Need-first-requires
+first-requires c κs = search needs
+
+first-requires-2 : tie.Need-first-requires-2
+first-requires-2 c κs = search needs
+
+first-requires-3 : tie.Need-first-requires-3
+first-requires-3 c κs = search needs
+
+returns : tie.Need-returns
+returns c = cc
+
+pub given-carry-entry-spec : {M : Type 1} → statement M
+given-carry-entry-spec = tie.close (tie.spec surface-requires parameter-requires order-requires count-requires first-requires first-requires-2 first-requires-3 returns)

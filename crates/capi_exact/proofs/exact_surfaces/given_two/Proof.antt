@@ -1,0 +1,28 @@
+-- `capi_exact::exact_surfaces::given_two` meets its contract. Assumes nothing.
+use borrow.Author.Needs.{needs}
+use Rattle.capi_exact.proofs.exact_surfaces.given_two.Statement.{statement}
+use Rattle.capi_exact.proofs.exact_surfaces.given_two.Tie as tie
+
+smaller-requires : tie.Need-smaller-requires
+smaller-requires c κs = search needs
+
+surface-requires : tie.Need-surface-requires
+surface-requires c κs = search needs
+
+surface-requires-2 : tie.Need-surface-requires-2
+surface-requires-2 c κs = search needs
+
+surface-requires-3 : tie.Need-surface-requires-3
+surface-requires-3 c κs = search needs
+
+first-requires : tie.Need-first-requires
+first-requires c κs = search needs
+
+first-requires-2 : tie.Need-first-requires-2
+first-requires-2 c κs = search needs
+
+returns : tie.Need-returns
+returns c = cc
+
+pub given-two-spec : {M : Type 1} → statement M
+given-two-spec = tie.close (tie.spec smaller-requires surface-requires surface-requires-2 surface-requires-3 first-requires first-requires-2 returns)
