@@ -1,7 +1,7 @@
 // Part lists: walks, multiplicities, factorials and Stirling numbers. A walk is 23 numbers: its order, its len, 1 where it has ended and 0 else, and 20 parts.
 ghost use mathlib.Core.Path.{_≡_};
 ghost use mathlib.Core.Bool.{cond};
-ghost use mathlib.Core.List.{List, _∷_};
+ghost use mathlib.Core.List.{List};
 ghost use Prim.Native.Nat.{ℕ};
 ghost use lib.ListN.{length};
 ghost use Rattle.partitions.specs.Count.{counted, factorialOf, stirlingOf};

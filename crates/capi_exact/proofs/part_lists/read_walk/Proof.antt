@@ -1,26 +1,30 @@
 -- `capi_exact::part_lists::read_walk` meets its contract. Assumes nothing.
-use mathlib.Core.List.{List}
+use mathlib.Core.List.{List, _∷_}
 use mathlib.Core.Path.{_≡_, refl, sym, ap, _∙_}
-use Prim.Native.Nat.{ℕ, _+_, _-_}
+use Prim.Native.Nat.{ℕ, _+_, _-_, _≤_, _<_}
 use native.Mathlib.Omega.{arith}
 use lib.Dec.{eqb}
 use lib.Seq.{getD-drop}
-use lib.ListN.{getD, length-drop, length, drop}
+use lib.ListN.{length, getD, drop, length-drop, drop-of-length-le}
 use denote.Ref.{now}
 use borrow.Author.Needs.{needs}
 use Rattle.capi_exact.specs.PartLists.{walkOf}
-use Rattle.capi_exact.proofs.Copying.{Copied, copy-more, copy-done}
+use Rattle.partitions.proofs.Slices.{drop-at}
+use Rattle.calculus.proofs.Writing.{Writing, writing-begins, writing-goes-on, writing-ends}
 use Rattle.capi_exact.proofs.part_lists.read_walk.Statement.{statement}
 use Rattle.capi_exact.proofs.part_lists.read_walk.Tie as tie
 
 abbrev Inv-loop : tie.InvT-loop
-Inv-loop walk current₀ i₀ current i = Copied (drop 3 walk) current 20 i
+Inv-loop walk current₀ i₀ current i = Writing (drop 3 walk) current (drop i (drop 3 walk)) i
 
 abbrev μ-loop : tie.MeasureT-loop
 μ-loop walk current₀ i₀ current i = 20 - i
 
 loop-holds : tie.Need-loop-holds Inv-loop μ-loop
-loop-holds c = record { long = refl; within = omega arith; same = refl }
+loop-holds c =
+    let w = now (c .args .walk) in
+    let t : 20 ≡ length (drop 3 w) = omega (arith, length-drop 3 w, c .pre) in
+    writing-begins (drop 3 w) _ refl t
 
 add-k : tie.Need-add-k Inv-loop μ-loop
 add-k c = search needs
@@ -49,7 +53,9 @@ loop-again c =
     let w = now (l .before .args .walk) in
     let t : length (drop 3 w) ≡ 20 = omega (arith, length-drop 3 w, l .before .pre) in
     let e : l .loop .i + 3 ≡ 3 + l .loop .i = omega arith in
-    copy-more (l .loop .inv) 0 _ (c .before .loop-test .taken) t (ap (λ (k : ℕ). getD w k 0) e ∙ sym (getD-drop 3 w (l .loop .i) 0))
+    let v : getD w (l .loop .i + 3) 0 ≡ getD (drop 3 w) (l .loop .i) 0 = ap (λ (k : ℕ). getD w k 0) e ∙ sym (getD-drop 3 w (l .loop .i) 0) in
+    let h : l .loop .i < length (drop 3 w) = omega (arith, t) in
+    writing-goes-on (drop 3 w) (l .loop .inv) (drop-at (drop 3 w) (l .loop .i) h ∙ ap (λ (x : ℕ). x ∷ drop (l .loop .i + 1) (drop 3 w)) (sym v))
 
 shared-slice-read-order : tie.Need-shared-slice-read-order Inv-loop μ-loop
 shared-slice-read-order c = search needs
@@ -66,7 +72,8 @@ returns c =
     let l = c .before .before .before .before in
     let w = now (l .before .args .walk) in
     let t : length (drop 3 w) ≡ 20 = omega (arith, length-drop 3 w, l .before .pre) in
-    ap (λ (x : List ℕ). record { order = getD w 0 0; len = getD w 1 0; current = x; end = eqb (getD w 2 0) 1 }) (copy-done (l .loop .inv) (c .before .before .before .loop-test .left) t)
+    let h : length (drop 3 w) ≤ l .loop .i = omega (arith, t) in
+    ap (λ (x : List ℕ). record { order = getD w 0 0; len = getD w 1 0; current = x; end = eqb (getD w 2 0) 1 }) (writing-ends (drop 3 w) (l .loop .inv) (drop-of-length-le (drop 3 w) h))
 
 pub read-walk-spec : {M : Type 1} → statement M
 read-walk-spec =

@@ -1,21 +1,24 @@
 -- `capi_exact::part_lists::write_parts` meets its contract. Assumes nothing.
-use mathlib.Core.Path.{sym, _∙_, _≡_, refl}
-use Prim.Native.Nat.{_-_}
+use mathlib.Core.Path.{_≡_, refl, sym, _∙_}
+use Prim.Native.Nat.{_-_, _≤_, _<_}
 use native.Mathlib.Omega.{arith}
-use lib.ListN.{length}
+use lib.ListN.{length, drop, drop-of-length-le}
+use Rattle.partitions.proofs.Slices.{drop-at}
+use Rattle.calculus.proofs.Writing.{Writing, writing-begins, in-list, writing-goes-on, writing-ends}
 use borrow.Author.Needs.{needs}
-use Rattle.capi_exact.proofs.Copying.{Copied, copy-more, copy-done}
 use Rattle.capi_exact.proofs.part_lists.write_parts.Statement.{statement}
 use Rattle.capi_exact.proofs.part_lists.write_parts.Tie as tie
 
 abbrev Inv-loop : tie.InvT-loop
-Inv-loop out₀ parts i₀ out i = Copied parts out 20 i
+Inv-loop out₀ parts i₀ out i = Writing parts out (drop i parts) i
 
 abbrev μ-loop : tie.MeasureT-loop
 μ-loop out₀ parts i₀ out i = 20 - i
 
 loop-holds : tie.Need-loop-holds Inv-loop μ-loop
-loop-holds c = record { long = c .pre; within = omega arith; same = refl }
+loop-holds c =
+    let t : length (c .args .t1) ≡ 20 = search needs in
+    writing-begins (c .args .t1) _ refl (c .pre ∙ sym t)
 
 mul-out : tie.Need-mul-out Inv-loop μ-loop
 mul-out c = search needs
@@ -27,7 +30,11 @@ mul-out-2 : tie.Need-mul-out-2 Inv-loop μ-loop
 mul-out-2 c = search needs
 
 slice-write-out : tie.Need-slice-write-out Inv-loop μ-loop
-slice-write-out c = omega (arith, c .before .loop .inv .long)
+slice-write-out c =
+    let l = c .before in
+    let t : length (l .before .args .t1) ≡ 20 = search needs in
+    let h : l .loop .i < length (l .before .args .t1) = omega arith in
+    in-list (l .before .args .t1) (l .loop .inv) (drop-at (l .before .args .t1) (l .loop .i) h)
 
 add-i : tie.Need-add-i Inv-loop μ-loop
 add-i c = search needs
@@ -39,16 +46,20 @@ loop-again : tie.Need-loop-again Inv-loop μ-loop
 loop-again c =
     let l = c .before in
     let t : length (l .before .args .t1) ≡ 20 = search needs in
-    copy-more (l .loop .inv) 0 _ (c .loop-test .taken) t refl
+    let h : l .loop .i < length (l .before .args .t1) = omega arith in
+    writing-goes-on (l .before .args .t1) (l .loop .inv) (drop-at (l .before .args .t1) (l .loop .i) h)
 
 same-length : tie.Need-same-length Inv-loop μ-loop
-same-length c = c .before .loop .inv .long ∙ sym (c .before .before .pre)
+same-length c =
+    let t : length (c .before .before .args .t1) ≡ 20 = search needs in
+    c .before .loop .inv .long ∙ t ∙ sym (c .before .before .pre)
 
 returns : tie.Need-returns Inv-loop μ-loop
 returns c =
     let l = c .before in
     let t : length (l .before .args .t1) ≡ 20 = search needs in
-    copy-done (l .loop .inv) (c .loop-test .left) t
+    let h : length (l .before .args .t1) ≤ l .loop .i = omega arith in
+    writing-ends (l .before .args .t1) (l .loop .inv) (drop-of-length-le (l .before .args .t1) h)
 
 pub write-parts-spec : {M : Type 1} → statement M
 write-parts-spec =
