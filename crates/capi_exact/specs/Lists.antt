@@ -1,8 +1,6 @@
 -- Exact jets as lists, and answers that go into lists, for the operations over lists of crates/given/specs/Lists.antt. Assumes nothing.
-use Prim.Native.Nat.{ℕ}
 use lib.IntN.{ℤ}
 use Rattle.whole.specs.declared.Whole.{Whole}
-use Rattle.calculus.specs.Surface.{derivativeU, derivativeV}
 use Rattle.exact.specs.declared.CurveDerivatives.{CurveDerivatives}
 use Rattle.exact.specs.declared.SurfaceDerivatives.{SurfaceDerivatives}
 use Rattle.exact.specs.declared.ParameterCurve.{ParameterCurve}
@@ -11,8 +9,6 @@ use Rattle.exact.specs.declared.SurfaceAnswer.{SurfaceAnswer}
 use Rattle.exact.specs.Answer.{curveFromList, surfaceFromList, parameterFromList}
 use Rattle.given.specs.Given.{countGiven, curveGiven, surfaceGiven, parameterGiven}
 use Rattle.given.specs.Lists.{Input, Output}
-use Rattle.capi_exact.specs.declared.exact_surfaces.By.{By}
-use Rattle.capi_exact.specs.declared.exact_surfaces.By.the-variants as by
 use Rattle.capi_exact.specs.Delivery.{deliverWhole, deliverCurve, deliverSurface}
 
 abbrev pub curve : Input ℤ CurveDerivatives
@@ -33,8 +29,3 @@ toSurface = record { given = surfaceGiven; deliver = deliverSurface }
 -- one entry, whatever the order
 abbrev pub toWhole : Output ℤ Whole
 toWhole = record { given = λ n. countGiven 1; deliver = deliverWhole }
-
--- a derivative of a surface by u or by v
-abbrev pub derivativeBy : {X : Type 0} → By → (ℕ → ℕ → X) → ℕ → ℕ → X
-derivativeBy by.U = derivativeU
-derivativeBy by.V = derivativeV

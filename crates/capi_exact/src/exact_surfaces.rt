@@ -4,23 +4,18 @@ ghost use mathlib.Core.List.{List};
 ghost use Prim.Native.Nat.{ℕ, _+_, _-_, min};
 ghost use lib.IntN.{ℤ};
 ghost use Rattle.calculus.specs.Kind.{regular};
-ghost use Rattle.calculus.specs.Surface.{sum as sums, difference as differences, product, quotient as quotients, derivativeU, derivativeV};
+ghost use Rattle.calculus.specs.Surface.{sum as sums, difference as differences, product, quotient as quotients, derivativeU, derivativeV, derivativeBy};
 ghost use Rattle.exact.specs.Kinds.{checked};
 ghost use Rattle.exact.specs.Answer.{onSurfaces, onSurfacesAt, surfaceDerivative};
 ghost use Rattle.roads.specs.Roads.{surfaces as kind};
 ghost use Rattle.given.specs.Given.{first, orderGiven, countGiven, surfaceGiven};
 ghost use Rattle.given.specs.Lists.{onTwo, onTwoAt, onOne};
-ghost use Rattle.capi_exact.specs.Lists.{surface as surfaces, toSurface, toWhole, derivativeBy};
+ghost use Rattle.capi_exact.specs.Lists.{surface as surfaces, toSurface, toWhole};
 use crate::deliver;
+use calculus::By;
 use exact::SurfaceAnswer;
 use exact::SurfaceDerivatives;
 use roads::Operation;
-
-// By which of a surface's parameters.
-pub enum By {
-    U,
-    V,
-}
 
 fn derived(by: By, a: SurfaceDerivatives) -> SurfaceAnswer
     ensures { λ r. ⌜ r ≡ surfaceDerivative (derivativeBy by) a ⌝ }

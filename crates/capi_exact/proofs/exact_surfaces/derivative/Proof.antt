@@ -3,11 +3,12 @@ use mathlib.Core.Path.{_≡_, ap}
 use Prim.Native.Nat.{_-_}
 use lib.ListN.{length}
 use denote.Ref.{now}
+use Rattle.calculus.specs.Surface.{derivativeBy}
 use Rattle.exact.specs.Answer.{surfaceDerivative}
 use Rattle.exact.specs.declared.SurfaceAnswer.{SurfaceAnswer}
 use Rattle.given.specs.Given.{first, surfaceGiven}
 use Rattle.given.proofs.Admission.{one-refused, one-worked}
-use Rattle.capi_exact.specs.Lists.{surface, toSurface, derivativeBy}
+use Rattle.capi_exact.specs.Lists.{surface, toSurface}
 use borrow.Author.Needs.{needs}
 use Rattle.capi_exact.proofs.exact_surfaces.derivative.Statement.{statement}
 use Rattle.capi_exact.proofs.exact_surfaces.derivative.Tie as tie

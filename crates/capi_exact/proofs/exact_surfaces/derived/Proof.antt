@@ -2,8 +2,8 @@
 use mathlib.Core.Path.{sym, ap, _∙_}
 use borrow.Author.Needs.{needs}
 use Rattle.exact.specs.Answer.{surfaceDerivative}
-use Rattle.capi_exact.specs.Lists.{derivativeBy}
-use Rattle.capi_exact.specs.declared.exact_surfaces.By.{By}
+use Rattle.calculus.specs.declared.By.{By}
+use Rattle.calculus.specs.Surface.{derivativeBy}
 use Rattle.capi_exact.proofs.exact_surfaces.derived.Statement.{statement}
 use Rattle.capi_exact.proofs.exact_surfaces.derived.Tie as tie
 
