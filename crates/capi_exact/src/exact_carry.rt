@@ -4,33 +4,12 @@ ghost use mathlib.Core.List.{List};
 ghost use Prim.Native.Nat.{ℕ};
 ghost use lib.IntN.{ℤ};
 ghost use Rattle.exact.specs.Composite.{alongCurveAt, alongCurve};
-ghost use Rattle.given.specs.Given.{first, orderGiven, countGiven, curveGiven, surfaceGiven, parameterGiven};
 ghost use Rattle.given.specs.Lists.{onTwoAt};
 ghost use Rattle.capi_exact.specs.Lists.{surface as surfaces, parameter as parameters, toCurve, toWhole};
 use crate::deliver;
 use exact::ParameterCurve;
 use exact::SurfaceDerivatives;
-
-// The test of a surface, of a curve in its parameters, of an order asked, and of the list: for one number, or for a curve of that order.
-fn given_carry_entry(m: usize, a: usize, n: usize, c: usize, k: usize, out: usize) -> u8
-    ensures { λ r. ⌜ r ≡ first (surfaceGiven m a) (first (parameterGiven n c) (first (orderGiven k) (countGiven 1 out))) ⌝ }
-{
-    let p = given::surface(m, a);
-    let q = given::parameter(n, c);
-    let o = given::order(k);
-    let l = given::count(1, out);
-    given::first(p, given::first(q, given::first(o, l)))
-}
-
-fn given_carry(m: usize, a: usize, n: usize, c: usize, k: usize, out: usize) -> u8
-    ensures { λ r. ⌜ r ≡ first (surfaceGiven m a) (first (parameterGiven n c) (first (orderGiven k) (curveGiven k out))) ⌝ }
-{
-    let p = given::surface(m, a);
-    let q = given::parameter(n, c);
-    let o = given::order(k);
-    let l = given::curve(k, out);
-    given::first(p, given::first(q, given::first(o, l)))
-}
+use given::Shape;
 
 // The derivative of order n of the surface a along the curve c in its parameters, which is zero at order 0.
 #[no_mangle]
@@ -44,7 +23,19 @@ pub extern "C" fn sugamdely_exact_composite_derivative(
 ) -> u8
     ensures { λ r. ⌜ _≡_ {A = ℕ × List ℤ} (r, now (out .exit)) (onTwoAt surfaces parameters toWhole n (λ x y. alongCurveAt x y n) «a_order» (now (a .entry)) «c_order» (now (c .entry)) (now (out .entry))) ⌝ }
 {
-    let t = given_carry_entry(a_order, a.len(), c_order, c.len(), n, out.len());
+    let asked = given::order(n);
+    let t = given::two_at(
+        Shape::Surface,
+        a_order,
+        a.len(),
+        Shape::Parameter,
+        c_order,
+        c.len(),
+        asked,
+        Shape::Number,
+        0,
+        out.len(),
+    );
     if t != 0 {
         return t;
     }
@@ -68,7 +59,19 @@ pub extern "C" fn sugamdely_exact_composite_derivatives(
 ) -> u8
     ensures { λ r. ⌜ _≡_ {A = ℕ × List ℤ} (r, now (out .exit)) (onTwoAt surfaces parameters toCurve n (λ x y. alongCurve x y n) «a_order» (now (a .entry)) «c_order» (now (c .entry)) (now (out .entry))) ⌝ }
 {
-    let t = given_carry(a_order, a.len(), c_order, c.len(), n, out.len());
+    let asked = given::order(n);
+    let t = given::two_at(
+        Shape::Surface,
+        a_order,
+        a.len(),
+        Shape::Parameter,
+        c_order,
+        c.len(),
+        asked,
+        Shape::Curve,
+        n,
+        out.len(),
+    );
     if t != 0 {
         return t;
     }

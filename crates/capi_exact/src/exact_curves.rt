@@ -1,30 +1,19 @@
 // Exact jets of curves, as lists.
 ghost use mathlib.Core.Path.{_≡_};
 ghost use mathlib.Core.List.{List};
-ghost use Prim.Native.Nat.{ℕ, _-_, min};
+ghost use Prim.Native.Nat.{ℕ, _-_};
 ghost use lib.IntN.{ℤ};
 ghost use Rattle.calculus.specs.Kind.{regular};
 ghost use Rattle.calculus.specs.Curve.{sum as sums, difference as differences, product, quotient as quotients};
 ghost use Rattle.exact.specs.Kinds.{checked};
 ghost use Rattle.exact.specs.Answer.{onCurves, onCurvesAt, curveDerivative};
 ghost use Rattle.roads.specs.Roads.{curves as kind};
-ghost use Rattle.given.specs.Given.{first, orderGiven, countGiven, curveGiven};
 ghost use Rattle.given.specs.Lists.{onTwo, onTwoAt, onOne};
 ghost use Rattle.capi_exact.specs.Lists.{curve as curves, toCurve, toWhole};
 use crate::deliver;
 use exact::CurveDerivatives;
+use given::Shape;
 use roads::Operation;
-
-// The test of two curves and of the list for a third, by the orders and the lengths.
-fn given_two(m: usize, a: usize, n: usize, b: usize, out: usize) -> u8
-    ensures { λ r. ⌜ r ≡ first (curveGiven m a) (first (curveGiven n b) (curveGiven (min m n) out)) ⌝ }
-{
-    let k = calculus::smaller(m, n);
-    let p = given::curve(m, a);
-    let q = given::curve(n, b);
-    let o = given::curve(k, out);
-    given::first(p, given::first(q, o))
-}
 
 fn on_two(
     op: Operation,
@@ -36,7 +25,16 @@ fn on_two(
 ) -> u8
     ensures { λ r. ⌜ _≡_ {A = ℕ × List ℤ} (r, now (out .exit)) (onTwo curves curves toCurve (kind .apply op) «a_order» (now (a .entry)) «b_order» (now (b .entry)) (now (out .entry))) ⌝ }
 {
-    let t = given_two(a_order, a.len(), b_order, b.len(), out.len());
+    let t = given::two(
+        Shape::Curve,
+        a_order,
+        a.len(),
+        Shape::Curve,
+        b_order,
+        b.len(),
+        Shape::Curve,
+        out.len(),
+    );
     if t != 0 {
         return t;
     }
@@ -46,26 +44,6 @@ fn on_two(
     let right = y.jet;
     let r = op.on_curves(left, right);
     deliver::curve(r, out)
-}
-
-// The test of two curves, of an order asked, and of the list for one number.
-fn given_entry(m: usize, a: usize, n: usize, b: usize, k: usize, out: usize) -> u8
-    ensures { λ r. ⌜ r ≡ first (curveGiven m a) (first (curveGiven n b) (first (orderGiven k) (countGiven 1 out))) ⌝ }
-{
-    let p = given::curve(m, a);
-    let q = given::curve(n, b);
-    let o = given::order(k);
-    let l = given::count(1, out);
-    given::first(p, given::first(q, given::first(o, l)))
-}
-
-// The test of a curve and of the list for one of the order k.
-fn given_one(n: usize, a: usize, k: usize, out: usize) -> u8
-    ensures { λ r. ⌜ r ≡ first (curveGiven n a) (curveGiven k out) ⌝ }
-{
-    let p = given::curve(n, a);
-    let o = given::curve(k, out);
-    given::first(p, o)
 }
 
 #[no_mangle]
@@ -99,7 +77,7 @@ pub extern "C" fn sugamdely_exact_curve_derivative(a_order: usize, a: &[i64], ou
     ensures { λ r. ⌜ _≡_ {A = ℕ × List ℤ} (r, now (out .exit)) (onOne curves toCurve («a_order» - 1) curveDerivative «a_order» (now (a .entry)) (now (out .entry))) ⌝ }
 {
     let k = given::lower(a_order);
-    let t = given_one(a_order, a.len(), k, out.len());
+    let t = given::one(Shape::Curve, a_order, a.len(), Shape::Curve, k, out.len());
     if t != 0 {
         return t;
     }
@@ -121,7 +99,19 @@ pub extern "C" fn sugamdely_exact_curve_combinatorial_derivative(
 ) -> u8
     ensures { λ r. ⌜ _≡_ {A = ℕ × List ℤ} (r, now (out .exit)) (onTwoAt curves curves toWhole m (λ x y. onCurvesAt (product checked) x y m) «a_order» (now (a .entry)) «b_order» (now (b .entry)) (now (out .entry))) ⌝ }
 {
-    let t = given_entry(a_order, a.len(), b_order, b.len(), m, out.len());
+    let asked = given::order(m);
+    let t = given::two_at(
+        Shape::Curve,
+        a_order,
+        a.len(),
+        Shape::Curve,
+        b_order,
+        b.len(),
+        asked,
+        Shape::Number,
+        0,
+        out.len(),
+    );
     if t != 0 {
         return t;
     }

@@ -1,20 +1,20 @@
 // Exact jets of surfaces, as lists.
 ghost use mathlib.Core.Path.{_≡_};
 ghost use mathlib.Core.List.{List};
-ghost use Prim.Native.Nat.{ℕ, _+_, _-_, min};
+ghost use Prim.Native.Nat.{ℕ, _+_, _-_};
 ghost use lib.IntN.{ℤ};
 ghost use Rattle.calculus.specs.Kind.{regular};
 ghost use Rattle.calculus.specs.Surface.{sum as sums, difference as differences, product, quotient as quotients, derivativeU, derivativeV, derivativeBy};
 ghost use Rattle.exact.specs.Kinds.{checked};
 ghost use Rattle.exact.specs.Answer.{onSurfaces, onSurfacesAt, surfaceDerivative};
 ghost use Rattle.roads.specs.Roads.{surfaces as kind};
-ghost use Rattle.given.specs.Given.{first, orderGiven, countGiven, surfaceGiven};
 ghost use Rattle.given.specs.Lists.{onTwo, onTwoAt, onOne};
 ghost use Rattle.capi_exact.specs.Lists.{surface as surfaces, toSurface, toWhole};
 use crate::deliver;
 use calculus::By;
 use exact::SurfaceAnswer;
 use exact::SurfaceDerivatives;
+use given::Shape;
 use roads::Operation;
 
 fn derived(by: By, a: SurfaceDerivatives) -> SurfaceAnswer
@@ -24,17 +24,6 @@ fn derived(by: By, a: SurfaceDerivatives) -> SurfaceAnswer
         By::U => a.derivative_u(),
         By::V => a.derivative_v(),
     }
-}
-
-// The test of two surfaces and of the list for a third, by the orders and the lengths.
-fn given_two(m: usize, a: usize, n: usize, b: usize, out: usize) -> u8
-    ensures { λ r. ⌜ r ≡ first (surfaceGiven m a) (first (surfaceGiven n b) (surfaceGiven (min m n) out)) ⌝ }
-{
-    let k = calculus::smaller(m, n);
-    let p = given::surface(m, a);
-    let q = given::surface(n, b);
-    let o = given::surface(k, out);
-    given::first(p, given::first(q, o))
 }
 
 fn on_two(
@@ -47,7 +36,16 @@ fn on_two(
 ) -> u8
     ensures { λ r. ⌜ _≡_ {A = ℕ × List ℤ} (r, now (out .exit)) (onTwo surfaces surfaces toSurface (kind .apply op) «a_order» (now (a .entry)) «b_order» (now (b .entry)) (now (out .entry))) ⌝ }
 {
-    let t = given_two(a_order, a.len(), b_order, b.len(), out.len());
+    let t = given::two(
+        Shape::Surface,
+        a_order,
+        a.len(),
+        Shape::Surface,
+        b_order,
+        b.len(),
+        Shape::Surface,
+        out.len(),
+    );
     if t != 0 {
         return t;
     }
@@ -59,20 +57,18 @@ fn on_two(
     deliver::surface(r, out)
 }
 
-// The test of a surface and of the list for one of the order k.
-fn given_one(n: usize, a: usize, k: usize, out: usize) -> u8
-    ensures { λ r. ⌜ r ≡ first (surfaceGiven n a) (surfaceGiven k out) ⌝ }
-{
-    let p = given::surface(n, a);
-    let o = given::surface(k, out);
-    given::first(p, o)
-}
-
 fn derivative(by: By, a_order: usize, a: &[i64], out: &mut [i64]) -> u8
     ensures { λ r. ⌜ _≡_ {A = ℕ × List ℤ} (r, now (out .exit)) (onOne surfaces toSurface («a_order» - 1) (surfaceDerivative (derivativeBy by)) «a_order» (now (a .entry)) (now (out .entry))) ⌝ }
 {
     let k = given::lower(a_order);
-    let t = given_one(a_order, a.len(), k, out.len());
+    let t = given::one(
+        Shape::Surface,
+        a_order,
+        a.len(),
+        Shape::Surface,
+        k,
+        out.len(),
+    );
     if t != 0 {
         return t;
     }
@@ -80,17 +76,6 @@ fn derivative(by: By, a_order: usize, a: &[i64], out: &mut [i64]) -> u8
     let jet = x.jet;
     let r = derived(by, jet);
     deliver::surface(r, out)
-}
-
-// The test of two surfaces, of the orders asked, and of the list for one number.
-fn given_entry(m: usize, a: usize, n: usize, b: usize, i: usize, j: usize, out: usize) -> u8
-    ensures { λ r. ⌜ r ≡ first (surfaceGiven m a) (first (surfaceGiven n b) (first (orderGiven (i + j)) (countGiven 1 out))) ⌝ }
-{
-    let p = given::surface(m, a);
-    let q = given::surface(n, b);
-    let o = given::order_sum(i, j);
-    let l = given::count(1, out);
-    given::first(p, given::first(q, given::first(o, l)))
 }
 
 #[no_mangle]
@@ -154,7 +139,19 @@ pub extern "C" fn sugamdely_exact_surface_combinatorial_derivative(
 ) -> u8
     ensures { λ r. ⌜ _≡_ {A = ℕ × List ℤ} (r, now (out .exit)) (onTwoAt surfaces surfaces toWhole (m + n) (λ x y. onSurfacesAt (product checked) x y m n) «a_order» (now (a .entry)) «b_order» (now (b .entry)) (now (out .entry))) ⌝ }
 {
-    let t = given_entry(a_order, a.len(), b_order, b.len(), m, n, out.len());
+    let asked = given::order_sum(m, n);
+    let t = given::two_at(
+        Shape::Surface,
+        a_order,
+        a.len(),
+        Shape::Surface,
+        b_order,
+        b.len(),
+        asked,
+        Shape::Number,
+        0,
+        out.len(),
+    );
     if t != 0 {
         return t;
     }

@@ -9,13 +9,13 @@ use borrow.Author.Needs.{needs}
 use Rattle.capi_exact.proofs.exact_curves.on_two.Statement.{statement}
 use Rattle.capi_exact.proofs.exact_curves.on_two.Tie as tie
 
-given-two-requires : tie.Need-given-two-requires
-given-two-requires c κs = search needs
+two-requires : tie.Need-two-requires
+two-requires c κs = search needs
 
 returns : tie.Need-returns
 returns c =
     let s = c .before .before .args in
-    two-refused curve curve toCurve (kind .apply (s .op)) (s .a-order) (now (s .a)) (s .b-order) (now (s .b)) (now (s .out)) (c .before .given-two .ensures) (c .if1 .taken)
+    two-refused curve curve toCurve (kind .apply (s .op)) (s .a-order) (now (s .a)) (s .b-order) (now (s .b)) (now (s .out)) (c .before .two .ensures) (c .if1 .taken)
 
 from-list-requires : tie.Need-from-list-requires
 from-list-requires c κs = search needs
@@ -39,7 +39,7 @@ returns-2 c =
     let g = y .before .before in
     let s = g .before .before .args in
     two-worked curve curve toCurve (kind .apply (s .op)) (s .a-order) (now (s .a)) (s .b-order) (now (s .b)) (now (s .out))
-    (g .before .given-two .ensures) (g .if1 .left) (ap (λ (l : CurveAnswer). l .jet) (y .before .from-list .ensures)) (ap (λ (l : CurveAnswer). l .jet) (y .from-list2 .ensures)) (p .on-curves .ensures) (c .before .curve .ensures)
+    (g .before .two .ensures) (g .if1 .left) (ap (λ (l : CurveAnswer). l .jet) (y .before .from-list .ensures)) (ap (λ (l : CurveAnswer). l .jet) (y .from-list2 .ensures)) (p .on-curves .ensures) (c .before .curve .ensures)
 
 pub on-two-spec : {M : Type 1} → statement M
-on-two-spec = tie.close (tie.spec given-two-requires returns from-list-requires from-list-requires-2 on-curves-requires curve-requires same-length returns-2)
+on-two-spec = tie.close (tie.spec two-requires returns from-list-requires from-list-requires-2 on-curves-requires curve-requires same-length returns-2)

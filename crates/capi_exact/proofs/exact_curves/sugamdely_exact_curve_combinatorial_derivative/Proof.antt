@@ -5,19 +5,22 @@ use Rattle.calculus.specs.Curve.{product}
 use Rattle.exact.specs.Kinds.{checked}
 use Rattle.exact.specs.Answer.{onCurvesAt}
 use Rattle.exact.specs.declared.CurveAnswer.{CurveAnswer}
-use Rattle.given.proofs.Admission.{two-refused-at, two-worked-at}
+use Rattle.given.proofs.Admission.{asked-at, two-refused-at, two-worked-at}
 use Rattle.capi_exact.specs.Lists.{curve, toWhole}
 use borrow.Author.Needs.{needs}
 use Rattle.capi_exact.proofs.exact_curves.sugamdely_exact_curve_combinatorial_derivative.Statement.{statement}
 use Rattle.capi_exact.proofs.exact_curves.sugamdely_exact_curve_combinatorial_derivative.Tie as tie
 
-given-entry-requires : tie.Need-given-entry-requires
-given-entry-requires c κs = search needs
+order-requires : tie.Need-order-requires
+order-requires c κs = search needs
+
+two-at-requires : tie.Need-two-at-requires
+two-at-requires c κs = search needs
 
 returns : tie.Need-returns
 returns c =
-    let s = c .before .before .args in
-    two-refused-at curve curve toWhole (λ x y. onCurvesAt (product checked) x y (s .m)) (s .a-order) (now (s .a)) (s .b-order) (now (s .b)) (now (s .out)) (s .m) (c .before .given-entry .ensures) (c .if1 .taken)
+    let s = c .before .before .before .args in
+    two-refused-at curve curve toWhole (λ x y. onCurvesAt (product checked) x y (s .m)) (s .a-order) (now (s .a)) (s .b-order) (now (s .b)) (now (s .out)) (s .m) (asked-at _ _ _ (c .before .before .order .ensures) (c .before .two-at .ensures)) (c .if1 .taken)
 
 from-list-requires : tie.Need-from-list-requires
 from-list-requires c κs = search needs
@@ -39,9 +42,9 @@ returns-2 c =
     let p = c .before .before .before in
     let y = p .before .before .before in
     let g = y .before .before in
-    let s = g .before .before .args in
+    let s = g .before .before .before .args in
     two-worked-at curve curve toWhole (λ x y. onCurvesAt (product checked) x y (s .m)) (s .a-order) (now (s .a)) (s .b-order) (now (s .b)) (now (s .out)) (s .m)
-    (g .before .given-entry .ensures) (g .if1 .left) (ap (λ (l : CurveAnswer). l .jet) (y .before .from-list .ensures)) (ap (λ (l : CurveAnswer). l .jet) (y .from-list2 .ensures)) (p .combinatorial-derivative .ensures) (c .before .whole .ensures)
+    (asked-at _ _ _ (g .before .before .order .ensures) (g .before .two-at .ensures)) (g .if1 .left) (ap (λ (l : CurveAnswer). l .jet) (y .before .from-list .ensures)) (ap (λ (l : CurveAnswer). l .jet) (y .from-list2 .ensures)) (p .combinatorial-derivative .ensures) (c .before .whole .ensures)
 
 pub sugamdely-exact-curve-combinatorial-derivative-spec : {M : Type 1} → statement M
-sugamdely-exact-curve-combinatorial-derivative-spec = tie.close (tie.spec given-entry-requires returns from-list-requires from-list-requires-2 combinatorial-derivative-requires whole-requires same-length returns-2)
+sugamdely-exact-curve-combinatorial-derivative-spec = tie.close (tie.spec order-requires two-at-requires returns from-list-requires from-list-requires-2 combinatorial-derivative-requires whole-requires same-length returns-2)

@@ -15,8 +15,8 @@ use Rattle.capi_exact.proofs.exact_curves.sugamdely_exact_curve_derivat
 lower-requires : tie.Need-lower-requires
 lower-requires c κs = search needs
 
-given-one-requires : tie.Need-given-one-requires
-given-one-requires c κs = search needs
+one-requires : tie.Need-one-requires
+one-requires c κs = search needs
 
 returns : tie.Need-returns
 returns c =
@@ -25,7 +25,7 @@ returns c =
     let n = s .a-order in
     let a = now (s .a) in
     let out = now (s .out) in
-    let e : g .given-one .result ≡ first (curveGiven n (length a)) (curveGiven (n - 1) (length out)) = cc in
+    let e : g .one .result ≡ first (curveGiven n (length a)) (curveGiven (n - 1) (length out)) = cc in
     one-refused curve toCurve (n - 1) curveDerivative n a out e (c .if1 .taken)
 
 from-list-requires : tie.Need-from-list-requires
@@ -50,8 +50,8 @@ returns-2 c =
     let n = s .a-order in
     let a = now (s .a) in
     let out = now (s .out) in
-    let e : g .given-one .result ≡ first (curveGiven n (length a)) (curveGiven (n - 1) (length out)) = cc in
+    let e : g .one .result ≡ first (curveGiven n (length a)) (curveGiven (n - 1) (length out)) = cc in
     one-worked curve toCurve (n - 1) curveDerivative n a out e (f .if1 .left) (ap (λ (l : CurveAnswer). l .jet) (x .from-list .ensures)) (p .derivative .ensures) (c .before .curve .ensures)
 
 pub sugamdely-exact-curve-derivative-spec : {M : Type 1} → statement M
-sugamdely-exact-curve-derivative-spec = tie.close (tie.spec lower-requires given-one-requires returns from-list-requires derivative-requires curve-requires same-length returns-2)
+sugamdely-exact-curve-derivative-spec = tie.close (tie.spec lower-requires one-requires returns from-list-requires derivative-requires curve-requires same-length returns-2)

@@ -16,8 +16,8 @@ use Rattle.capi_exact.proofs.exact_surfaces.derivative.Tie as tie
 lower-requires : tie.Need-lower-requires
 lower-requires c κs = search needs
 
-given-one-requires : tie.Need-given-one-requires
-given-one-requires c κs = search needs
+one-requires : tie.Need-one-requires
+one-requires c κs = search needs
 
 returns : tie.Need-returns
 returns c =
@@ -26,7 +26,7 @@ returns c =
     let n = s .a-order in
     let a = now (s .a) in
     let out = now (s .out) in
-    let e : g .given-one .result ≡ first (surfaceGiven n (length a)) (surfaceGiven (n - 1) (length out)) = cc in
+    let e : g .one .result ≡ first (surfaceGiven n (length a)) (surfaceGiven (n - 1) (length out)) = cc in
     one-refused surface toSurface (n - 1) (surfaceDerivative (derivativeBy (s .by))) n a out e (c .if1 .taken)
 
 from-list-requires : tie.Need-from-list-requires
@@ -51,8 +51,8 @@ returns-2 c =
     let n = s .a-order in
     let a = now (s .a) in
     let out = now (s .out) in
-    let e : g .given-one .result ≡ first (surfaceGiven n (length a)) (surfaceGiven (n - 1) (length out)) = cc in
+    let e : g .one .result ≡ first (surfaceGiven n (length a)) (surfaceGiven (n - 1) (length out)) = cc in
     one-worked surface toSurface (n - 1) (surfaceDerivative (derivativeBy (s .by))) n a out e (f .if1 .left) (ap (λ (l : SurfaceAnswer). l .jet) (x .from-list .ensures)) (p .derived .ensures) (c .before .surface .ensures)
 
 pub derivative-spec : {M : Type 1} → statement M
-derivative-spec = tie.close (tie.spec lower-requires given-one-requires returns from-list-requires derived-requires surface-requires same-length returns-2)
+derivative-spec = tie.close (tie.spec lower-requires one-requires returns from-list-requires derived-requires surface-requires same-length returns-2)

@@ -9,13 +9,13 @@ use borrow.Author.Needs.{needs}
 use Rattle.capi_exact.proofs.exact_surfaces.on_two.Statement.{statement}
 use Rattle.capi_exact.proofs.exact_surfaces.on_two.Tie as tie
 
-given-two-requires : tie.Need-given-two-requires
-given-two-requires c κs = search needs
+two-requires : tie.Need-two-requires
+two-requires c κs = search needs
 
 returns : tie.Need-returns
 returns c =
     let s = c .before .before .args in
-    two-refused surface surface toSurface (kind .apply (s .op)) (s .a-order) (now (s .a)) (s .b-order) (now (s .b)) (now (s .out)) (c .before .given-two .ensures) (c .if1 .taken)
+    two-refused surface surface toSurface (kind .apply (s .op)) (s .a-order) (now (s .a)) (s .b-order) (now (s .b)) (now (s .out)) (c .before .two .ensures) (c .if1 .taken)
 
 from-list-requires : tie.Need-from-list-requires
 from-list-requires c κs = search needs
@@ -39,7 +39,7 @@ returns-2 c =
     let g = y .before .before in
     let s = g .before .before .args in
     two-worked surface surface toSurface (kind .apply (s .op)) (s .a-order) (now (s .a)) (s .b-order) (now (s .b)) (now (s .out))
-    (g .before .given-two .ensures) (g .if1 .left) (ap (λ (l : SurfaceAnswer). l .jet) (y .before .from-list .ensures)) (ap (λ (l : SurfaceAnswer). l .jet) (y .from-list2 .ensures)) (p .on-surfaces .ensures) (c .before .surface .ensures)
+    (g .before .two .ensures) (g .if1 .left) (ap (λ (l : SurfaceAnswer). l .jet) (y .before .from-list .ensures)) (ap (λ (l : SurfaceAnswer). l .jet) (y .from-list2 .ensures)) (p .on-surfaces .ensures) (c .before .surface .ensures)
 
 pub on-two-spec : {M : Type 1} → statement M
-on-two-spec = tie.close (tie.spec given-two-requires returns from-list-requires from-list-requires-2 on-surfaces-requires surface-requires same-length returns-2)
+on-two-spec = tie.close (tie.spec two-requires returns from-list-requires from-list-requires-2 on-surfaces-requires surface-requires same-length returns-2)
