@@ -23,12 +23,19 @@ use Rattle.roads.specs.Recipe.{someAbove20, smallest}
 use Rattle.roads.specs.Roads.{builtSurface, builtCurve}
 use Rattle.given.specs.Given.{first, countGiven, listGiven, curveGiven, parameterGiven}
 use Rattle.given.specs.Lists.{admitted}
+use Rattle.capi_exact.specs.declared.recipe_steps.Jets.{Jets}
+use Rattle.capi_exact.specs.declared.recipe_steps.Jets.the-variants as jets
 use Rattle.capi_exact.specs.Delivery.{deliverCurve, deliverSurface}
 use Rattle.capi_exact.specs.Lists.{curve, surface, parameter}
 
 -- ---- the jets of lists that stand one after the other
 abbrev pub surfaceSize : ℕ → ℕ
 surfaceSize n = triangle (suc n)
+
+-- how many numbers a jet of an order has
+abbrev pub size : Jets → ℕ → ℕ
+size jets.Curves = suc
+size jets.Surfaces = surfaceSize
 
 -- how many numbers the lists have
 unfoldable pub total : (ℕ → ℕ) → List ℕ → ℕ

@@ -7,62 +7,13 @@ ghost use lib.IntN.{ℤ};
 ghost use lib.ListN.{length};
 ghost use Rattle.calculus.specs.Array.{filled};
 ghost use Rattle.roads.specs.Recipe.{someAbove20};
-ghost use Rattle.given.specs.Given.{countGiven};
 ghost use Rattle.capi_exact.specs.Lists.{curve as curves};
-ghost use Rattle.capi_exact.specs.Recipes.{total, jetAt, blankCurve, curveRecipe, listsGiven, resultGiven, recipeGiven, curveRecipeInto};
+ghost use Rattle.capi_exact.specs.Recipes.{total, jetAt, blankCurve, curveRecipe, curveRecipeInto};
 use crate::deliver;
 use crate::recipe_steps;
+use crate::recipe_steps::Jets;
 use exact::CurveDerivatives;
 use roads::CurveRecipe;
-use roads::checks;
-
-// What is left of the count after each list in turn, so that no sum is formed.
-fn curves_fill(orders: &[usize], count: usize) -> u8
-    requires { ⌜ someAbove20 (now orders) ≡ false ⌝ }
-    ensures { λ r. ⌜ r ≡ countGiven (total suc (now (orders .entry))) count ⌝ }
-{
-    let mut rest = count;
-    let mut i = 0;
-    while i < orders.len() {
-        let n = orders[i];
-        let k = n + 1;
-        if rest < k {
-            return 2;
-        }
-        rest -= k;
-        i += 1;
-    }
-    given::count(0, rest)
-}
-
-fn given_lists(orders: &[usize], count: usize) -> u8
-    ensures { λ r. ⌜ r ≡ listsGiven suc (now (orders .entry)) count ⌝ }
-{
-    if checks::some_above_20(orders) {
-        return 1;
-    }
-    curves_fill(orders, count)
-}
-
-fn given_result(orders: &[usize], count: usize) -> u8
-    ensures { λ r. ⌜ r ≡ resultGiven suc (now (orders .entry)) count ⌝ }
-{
-    if orders.len() == 0 {
-        return 0;
-    }
-    given::curve(checks::smallest(orders), count)
-}
-
-// The test of a recipe of jets of these orders, with l numbers together, and of the list for its result.
-fn given_recipe(orders: &[usize], l: usize, steps: &[usize], out: usize) -> u8
-    ensures { λ r. ⌜ r ≡ recipeGiven suc (now (orders .entry)) l (now (steps .entry)) out ⌝ }
-{
-    let p = given_lists(orders, l);
-    let q = recipe_steps::given_steps(steps);
-    let o = given_result(orders, out);
-    let f = recipe_steps::given_limits(orders.len(), steps);
-    given::first(p, given::first(q, given::first(o, f)))
-}
 
 fn read_curves(orders: &[usize], entries: &[i64]) -> [CurveDerivatives; 4]
     requires { ⌜ (length (now orders) ≤ 4) × (someAbove20 (now orders) ≡ false) × (length (now entries) ≡ total suc (now orders)) ⌝ }
@@ -110,7 +61,7 @@ pub extern "C" fn sugamdely_recipe_curves(
 ) -> u8
     ensures { λ r. ⌜ _≡_ {A = ℕ × List ℤ} (r, now (out .exit)) (curveRecipeInto (now (orders .entry)) (now (entries .entry)) (now (steps .entry)) (now (out .entry))) ⌝ }
 {
-    let t = given_recipe(orders, entries.len(), steps, out.len());
+    let t = recipe_steps::given_recipe(Jets::Curves, orders, entries.len(), steps, out.len());
     if t != 0 {
         return t;
     }

@@ -9,63 +9,15 @@ ghost use lib.ListN.{length};
 ghost use Rattle.calculus.specs.Array.{filled};
 ghost use Rattle.roads.specs.Recipe.{someAbove20};
 ghost use Rattle.roads.specs.Roads.{buildThenCarry, carryThenBuild};
-ghost use Rattle.given.specs.Given.{countGiven};
 ghost use Rattle.capi_exact.specs.Lists.{surface as surfaces};
-ghost use Rattle.capi_exact.specs.Recipes.{surfaceSize, total, jetAt, blankSurface, surfaceRecipe, listsGiven, resultGiven, recipeGiven, reachGiven, roadGiven, surfaceRecipeInto, roadInto};
+ghost use Rattle.capi_exact.specs.Recipes.{surfaceSize, total, jetAt, blankSurface, surfaceRecipe, reachGiven, roadGiven, surfaceRecipeInto, roadInto};
 use crate::deliver;
 use crate::recipe_steps;
+use crate::recipe_steps::Jets;
 use exact::ParameterCurve;
 use exact::SurfaceDerivatives;
 use roads::SurfaceRecipe;
 use roads::checks;
-
-// What is left of the count after each list in turn, so that no sum is formed.
-fn surfaces_fill(orders: &[usize], count: usize) -> u8
-    requires { ⌜ someAbove20 (now orders) ≡ false ⌝ }
-    ensures { λ r. ⌜ r ≡ countGiven (total surfaceSize (now (orders .entry))) count ⌝ }
-{
-    let mut rest = count;
-    let mut i = 0;
-    while i < orders.len() {
-        let n = orders[i];
-        let k = calculus::surface_count(n);
-        if rest < k {
-            return 2;
-        }
-        rest -= k;
-        i += 1;
-    }
-    given::count(0, rest)
-}
-
-fn given_lists(orders: &[usize], count: usize) -> u8
-    ensures { λ r. ⌜ r ≡ listsGiven surfaceSize (now (orders .entry)) count ⌝ }
-{
-    if checks::some_above_20(orders) {
-        return 1;
-    }
-    surfaces_fill(orders, count)
-}
-
-fn given_result(orders: &[usize], count: usize) -> u8
-    ensures { λ r. ⌜ r ≡ resultGiven surfaceSize (now (orders .entry)) count ⌝ }
-{
-    if orders.len() == 0 {
-        return 0;
-    }
-    given::surface(checks::smallest(orders), count)
-}
-
-// The test of a recipe of jets of these orders, with l numbers together, and of the list for its result.
-fn given_recipe(orders: &[usize], l: usize, steps: &[usize], out: usize) -> u8
-    ensures { λ r. ⌜ r ≡ recipeGiven surfaceSize (now (orders .entry)) l (now (steps .entry)) out ⌝ }
-{
-    let p = given_lists(orders, l);
-    let q = recipe_steps::given_steps(steps);
-    let o = given_result(orders, out);
-    let f = recipe_steps::given_limits(orders.len(), steps);
-    given::first(p, given::first(q, given::first(o, f)))
-}
 
 fn given_reach(k: usize, n: usize) -> u8
     ensures { λ r. ⌜ r ≡ reachGiven k n ⌝ }
@@ -85,7 +37,7 @@ fn given_road(
 ) -> u8
     ensures { λ r. ⌜ r ≡ roadGiven (now (orders .entry)) l (now (steps .entry)) m c n out ⌝ }
 {
-    let p = given_lists(orders, l);
+    let p = recipe_steps::given_lists(Jets::Surfaces, orders, l);
     let q = recipe_steps::given_steps(steps);
     let g = given::parameter(m, c);
     let o = given::curve(n, out);
@@ -144,7 +96,7 @@ pub extern "C" fn sugamdely_recipe_surfaces(
 ) -> u8
     ensures { λ r. ⌜ _≡_ {A = ℕ × List ℤ} (r, now (out .exit)) (surfaceRecipeInto (now (orders .entry)) (now (entries .entry)) (now (steps .entry)) (now (out .entry))) ⌝ }
 {
-    let t = given_recipe(orders, entries.len(), steps, out.len());
+    let t = recipe_steps::given_recipe(Jets::Surfaces, orders, entries.len(), steps, out.len());
     if t != 0 {
         return t;
     }

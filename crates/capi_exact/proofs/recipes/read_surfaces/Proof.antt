@@ -9,6 +9,7 @@ use denote.Ref.{now}
 use Rattle.calculus.proofs.Filling.{CurveStored, curve-none, curve-more, curve-all}
 use Rattle.exact.specs.declared.SurfaceAnswer.{SurfaceAnswer}
 use Rattle.exact.specs.declared.SurfaceDerivatives.{SurfaceDerivatives}
+use Rattle.capi_exact.specs.declared.recipe_steps.Jets.the-variants.{Surfaces}
 use Rattle.capi_exact.specs.Lists.{surface}
 use Rattle.capi_exact.specs.Recipes.{surfaceSize, total, jetAt, blankSurface}
 use Rattle.capi_exact.proofs.RecipeLists.{below-20, sized, total-more, within-entries}
@@ -51,7 +52,7 @@ add-end c =
     let l = c .before .before .before in
     let s = l .before .before .before .before in
     let h : l .loop .at + (c .surface-count .result) ≤ length (now (s .args .entries)) =
-    within-entries surfaceSize (now (s .args .orders)) (l .loop .i) (c .before .before .loop-test .taken) (l .loop .at) (c .surface-count .result) (length (now (s .args .entries))) (l .loop .inv .1) (sized _ (below-20 (now (s .args .orders)) (s .pre .1) (l .loop .i) (c .before .before .loop-test .taken)) (c .surface-count .ensures)) (s .pre .2) in
+    within-entries surfaceSize (now (s .args .orders)) (l .loop .i) (c .before .before .loop-test .taken) (l .loop .at) (c .surface-count .result) (length (now (s .args .entries))) (l .loop .inv .1) (sized Surfaces _ (below-20 (now (s .args .orders)) (s .pre .1) (l .loop .i) (c .before .before .loop-test .taken)) (c .surface-count .ensures)) (s .pre .2) in
     record { fits = omega (arith, h) }
 
 mul-from-list : tie.Need-mul-from-list Inv-loop μ-loop
@@ -59,7 +60,7 @@ mul-from-list c =
     let l = c .before .before .before in
     let s = l .before .before .before .before in
     let h : l .loop .at + (c .surface-count .result) ≤ length (now (s .args .entries)) =
-    within-entries surfaceSize (now (s .args .orders)) (l .loop .i) (c .before .before .loop-test .taken) (l .loop .at) (c .surface-count .result) (length (now (s .args .entries))) (l .loop .inv .1) (sized _ (below-20 (now (s .args .orders)) (s .pre .1) (l .loop .i) (c .before .before .loop-test .taken)) (c .surface-count .ensures)) (s .pre .2) in
+    within-entries surfaceSize (now (s .args .orders)) (l .loop .i) (c .before .before .loop-test .taken) (l .loop .at) (c .surface-count .result) (length (now (s .args .entries))) (l .loop .inv .1) (sized Surfaces _ (below-20 (now (s .args .orders)) (s .pre .1) (l .loop .i) (c .before .before .loop-test .taken)) (c .surface-count .ensures)) (s .pre .2) in
     record { fits = omega (arith, h) }
 
 sub-from-list : tie.Need-sub-from-list Inv-loop μ-loop
@@ -73,7 +74,7 @@ part-from-list-end c =
     let l = c .before .before .before in
     let s = l .before .before .before .before in
     let h : l .loop .at + (c .surface-count .result) ≤ length (now (s .args .entries)) =
-    within-entries surfaceSize (now (s .args .orders)) (l .loop .i) (c .before .before .loop-test .taken) (l .loop .at) (c .surface-count .result) (length (now (s .args .entries))) (l .loop .inv .1) (sized _ (below-20 (now (s .args .orders)) (s .pre .1) (l .loop .i) (c .before .before .loop-test .taken)) (c .surface-count .ensures)) (s .pre .2) in
+    within-entries surfaceSize (now (s .args .orders)) (l .loop .i) (c .before .before .loop-test .taken) (l .loop .at) (c .surface-count .result) (length (now (s .args .entries))) (l .loop .inv .1) (sized Surfaces _ (below-20 (now (s .args .orders)) (s .pre .1) (l .loop .i) (c .before .before .loop-test .taken)) (c .surface-count .ensures)) (s .pre .2) in
     omega (arith, h)
 
 from-list-requires : tie.Need-from-list-requires Inv-loop μ-loop
@@ -101,7 +102,7 @@ loop-again c =
     let es = now (s .args .entries) in
     let i = l .loop .i in
     let h : i < 4 = omega (arith, s .pre .0) in
-    let k : (x .surface-count .result) ≡ surfaceSize (getD os i 0) = (sized _ (below-20 os (s .pre .1) i (x .before .before .loop-test .taken)) (x .surface-count .ensures)) in
+    let k : (x .surface-count .result) ≡ surfaceSize (getD os i 0) = (sized Surfaces _ (below-20 os (s .pre .1) i (x .before .before .loop-test .taken)) (x .surface-count .ensures)) in
     let e : l .loop .at + (x .surface-count .result) - l .loop .at ≡ (x .surface-count .result) = omega arith in
     let v : c .before .from-list .result .jet ≡ jetAt surfaceSize (surface .jet) os es i =
     ap (λ (y : SurfaceAnswer). y .jet) (c .before .from-list .ensures)

@@ -1,8 +1,8 @@
--- `capi_exact::recipes::given_recipe` meets its contract. Assumes nothing.
+-- `capi_exact::recipe_steps::given_recipe` meets its contract. Assumes nothing.
 use Rattle.capi_exact.specs.Recipes.{recipeGiven}
 use borrow.Author.Needs.{needs}
-use Rattle.capi_exact.proofs.recipes.given_recipe.Statement.{statement}
-use Rattle.capi_exact.proofs.recipes.given_recipe.Tie as tie
+use Rattle.capi_exact.proofs.recipe_steps.given_recipe.Statement.{statement}
+use Rattle.capi_exact.proofs.recipe_steps.given_recipe.Tie as tie
 
 given-lists-requires : tie.Need-given-lists-requires
 given-lists-requires c κs = search needs
