@@ -14,7 +14,7 @@ use Rattle.roads.specs.Recipe.{someAbove20}
 use Rattle.roads.proofs.Inputs.{then-true}
 use Rattle.given.specs.Given.{countGiven}
 use Rattle.capi_exact.specs.declared.recipe_steps.Jets.{Jets}
-use Rattle.capi_exact.specs.Recipes.{size, total, knownOperations}
+use Rattle.capi_exact.specs.Recipes.{sizeOf, total, knownOperations}
 
 -- ---- orders
 pub below-20 : (l : List ℕ) → someAbove20 l ≡ false → (i : ℕ) → i < length l → getD l i 0 ≤ 20
@@ -24,7 +24,7 @@ below-20 (x ∷ l) e zero h = ltb-false 20 x (then-true (ltb 20 x) (someAbove20 
 below-20 (x ∷ l) e (suc i) h = below-20 l (then-true (ltb 20 x) (someAbove20 l) e .1) i (le-of-suc-le-suc h)
 
 -- how many numbers a jet has
-pub sized : (jets : Jets) (n : ℕ) {k : ℕ} → n ≤ 20 → k ≡ cond (ltb 20 n) 0 (size jets n) → k ≡ size jets n
+pub sized : (jets : Jets) (n : ℕ) {k : ℕ} → n ≤ 20 → k ≡ cond (ltb 20 n) 0 (sizeOf jets n) → k ≡ sizeOf jets n
 sized jets n h e = e ∙ rw (le-ltb 20 n h)
 
 -- ---- the lists of the first i orders

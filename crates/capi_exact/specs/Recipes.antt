@@ -33,9 +33,9 @@ abbrev pub surfaceSize : ℕ → ℕ
 surfaceSize n = triangle (suc n)
 
 -- how many numbers a jet of an order has
-abbrev pub size : Jets → ℕ → ℕ
-size jets.Curves = suc
-size jets.Surfaces = surfaceSize
+abbrev pub sizeOf : Jets → ℕ → ℕ
+sizeOf jets.Curves = suc
+sizeOf jets.Surfaces = surfaceSize
 
 -- how many numbers the lists have
 unfoldable pub total : (ℕ → ℕ) → List ℕ → ℕ

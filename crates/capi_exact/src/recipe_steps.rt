@@ -7,7 +7,7 @@ ghost use lib.ListN.{length};
 ghost use Rattle.calculus.specs.Array.{filled};
 ghost use Rattle.roads.specs.Recipe.{someAbove20};
 ghost use Rattle.given.specs.Given.{countGiven};
-ghost use Rattle.capi_exact.specs.Recipes.{size as sizeOf, total, operationOf, stepAt, knownOperations, blankStep, listsGiven, stepsGiven, resultGiven, limitsGiven, recipeGiven};
+ghost use Rattle.capi_exact.specs.Recipes.{sizeOf, total, operationOf, stepAt, knownOperations, blankStep, listsGiven, stepsGiven, resultGiven, limitsGiven, recipeGiven};
 use roads::Operation;
 use roads::Step;
 use roads::checks;

@@ -5,19 +5,19 @@ use native.Mathlib.Omega.{arith}
 use lib.ListN.{length, take}
 use denote.Ref.{now}
 use borrow.Author.Needs.{needs}
-use Rattle.capi_exact.specs.Recipes.{size, total}
+use Rattle.capi_exact.specs.Recipes.{sizeOf, total}
 use Rattle.capi_exact.proofs.RecipeLists.{below-20, sized, too-few, enough, all-counted, total-none}
 use Rattle.capi_exact.proofs.recipe_steps.fill.Statement.{statement}
 use Rattle.capi_exact.proofs.recipe_steps.fill.Tie as tie
 
 abbrev Inv-loop : tie.InvT-loop
-Inv-loop jets orders count rest₀ i₀ rest i = (i ≤ length orders) × (count ≡ total (size jets) (take i orders) + rest)
+Inv-loop jets orders count rest₀ i₀ rest i = (i ≤ length orders) × (count ≡ total (sizeOf jets) (take i orders) + rest)
 
 abbrev μ-loop : tie.MeasureT-loop
 μ-loop jets orders count rest₀ i₀ rest i = length orders - i
 
 loop-holds : tie.Need-loop-holds Inv-loop μ-loop
-loop-holds c = (omega arith, total-none (size (c .before .args .jets)) (now (c .before .args .orders)) (c .before .args .count))
+loop-holds c = (omega arith, total-none (sizeOf (c .before .args .jets)) (now (c .before .args .orders)) (c .before .args .count))
 
 mul-n : tie.Need-mul-n Inv-loop μ-loop
 mul-n c = search needs
@@ -32,7 +32,7 @@ returns : tie.Need-returns Inv-loop μ-loop
 returns c =
     let l = c .before .before .before .before in
     let a = l .before .before .args in
-    too-few (size (a .jets)) (now (a .orders)) (l .loop .i) (c .before .before .before .loop-test .taken) (a .count) (l .loop .rest) (c .before .size .result) (l .loop .inv .1) (sized (a .jets) _ (below-20 (now (a .orders)) (l .before .before .pre) (l .loop .i) (c .before .before .before .loop-test .taken)) (c .before .size .ensures)) (c .if1 .taken)
+    too-few (sizeOf (a .jets)) (now (a .orders)) (l .loop .i) (c .before .before .before .loop-test .taken) (a .count) (l .loop .rest) (c .before .size .result) (l .loop .inv .1) (sized (a .jets) _ (below-20 (now (a .orders)) (l .before .before .pre) (l .loop .i) (c .before .before .before .loop-test .taken)) (c .before .size .ensures)) (c .if1 .taken)
 
 add-i : tie.Need-add-i Inv-loop μ-loop
 add-i c = search needs
@@ -44,7 +44,7 @@ loop-again : tie.Need-loop-again Inv-loop μ-loop
 loop-again c =
     let l = c .before .before .before .before in
     let a = l .before .before .args in
-    (omega arith, enough (size (a .jets)) (now (a .orders)) (l .loop .i) (c .before .before .before .loop-test .taken) (a .count) (l .loop .rest) (c .before .size .result) (l .loop .inv .1) (sized (a .jets) _ (below-20 (now (a .orders)) (l .before .before .pre) (l .loop .i) (c .before .before .before .loop-test .taken)) (c .before .size .ensures)) (c .if1 .left))
+    (omega arith, enough (sizeOf (a .jets)) (now (a .orders)) (l .loop .i) (c .before .before .before .loop-test .taken) (a .count) (l .loop .rest) (c .before .size .result) (l .loop .inv .1) (sized (a .jets) _ (below-20 (now (a .orders)) (l .before .before .pre) (l .loop .i) (c .before .before .before .loop-test .taken)) (c .before .size .ensures)) (c .if1 .left))
 
 count-requires : tie.Need-count-requires Inv-loop μ-loop
 count-requires c κs = search needs
@@ -53,7 +53,7 @@ returns-2 : tie.Need-returns-2 Inv-loop μ-loop
 returns-2 c =
     let l = c .before .before in
     let a = l .before .before .args in
-    c .count .ensures ∙ all-counted (size (a .jets)) (now (a .orders)) (l .loop .i) (c .before .loop-test .left) (a .count) (l .loop .rest) (l .loop .inv .1)
+    c .count .ensures ∙ all-counted (sizeOf (a .jets)) (now (a .orders)) (l .loop .i) (c .before .loop-test .left) (a .count) (l .loop .rest) (l .loop .inv .1)
 
 pub fill-spec : {M : Type 1} → statement M
 fill-spec =
