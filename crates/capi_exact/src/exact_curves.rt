@@ -76,8 +76,7 @@ pub extern "C" fn sugamdely_exact_curve_difference(
 pub extern "C" fn sugamdely_exact_curve_derivative(a_order: usize, a: &[i64], out: &mut [i64]) -> u8
     ensures { λ r. ⌜ _≡_ {A = ℕ × List ℤ} (r, now (out .exit)) (onOne curves toCurve («a_order» - 1) curveDerivative «a_order» (now (a .entry)) (now (out .entry))) ⌝ }
 {
-    let k = given::lower(a_order);
-    let t = given::one(Shape::Curve, a_order, a.len(), Shape::Curve, k, out.len());
+    let t = given::lowered(Shape::Curve, a_order, a.len(), out.len());
     if t != 0 {
         return t;
     }

@@ -60,15 +60,7 @@ fn on_two(
 fn derivative(by: By, a_order: usize, a: &[i64], out: &mut [i64]) -> u8
     ensures { λ r. ⌜ _≡_ {A = ℕ × List ℤ} (r, now (out .exit)) (onOne surfaces toSurface («a_order» - 1) (surfaceDerivative (derivativeBy by)) «a_order» (now (a .entry)) (now (out .entry))) ⌝ }
 {
-    let k = given::lower(a_order);
-    let t = given::one(
-        Shape::Surface,
-        a_order,
-        a.len(),
-        Shape::Surface,
-        k,
-        out.len(),
-    );
+    let t = given::lowered(Shape::Surface, a_order, a.len(), out.len());
     if t != 0 {
         return t;
     }

@@ -1,32 +1,22 @@
 -- `capi_exact::exact_curves::sugamdely_exact_curve_derivative` meets its contract. Assumes nothing.
-use mathlib.Core.Path.{_≡_, ap}
+use mathlib.Core.Path.{ap}
 use Prim.Native.Nat.{_-_}
-use lib.ListN.{length}
 use denote.Ref.{now}
 use Rattle.exact.specs.Answer.{curveDerivative}
 use Rattle.exact.specs.declared.CurveAnswer.{CurveAnswer}
-use Rattle.given.specs.Given.{first, curveGiven}
 use Rattle.given.proofs.Admission.{one-refused, one-worked}
 use Rattle.capi_exact.specs.Lists.{curve, toCurve}
 use borrow.Author.Needs.{needs}
 use Rattle.capi_exact.proofs.exact_curves.sugamdely_exact_curve_derivative.Statement.{statement}
 use Rattle.capi_exact.proofs.exact_curves.sugamdely_exact_curve_derivative.Tie as tie
 
-lower-requires : tie.Need-lower-requires
-lower-requires c κs = search needs
-
-one-requires : tie.Need-one-requires
-one-requires c κs = search needs
+lowered-requires : tie.Need-lowered-requires
+lowered-requires c κs = search needs
 
 returns : tie.Need-returns
 returns c =
-    let g = c .before in
-    let s = g .before .before .args in
-    let n = s .a-order in
-    let a = now (s .a) in
-    let out = now (s .out) in
-    let e : g .one .result ≡ first (curveGiven n (length a)) (curveGiven (n - 1) (length out)) = cc in
-    one-refused curve toCurve (n - 1) curveDerivative n a out e (c .if1 .taken)
+    let s = c .before .before .args in
+    one-refused curve toCurve (s .a-order - 1) curveDerivative (s .a-order) (now (s .a)) (now (s .out)) (c .before .lowered .ensures) (c .if1 .taken)
 
 from-list-requires : tie.Need-from-list-requires
 from-list-requires c κs = search needs
@@ -44,14 +34,10 @@ returns-2 : tie.Need-returns-2
 returns-2 c =
     let p = c .before .before .before in
     let x = p .before .before in
-    let f = x .before in
-    let g = f .before in
+    let g = x .before in
     let s = g .before .before .args in
-    let n = s .a-order in
-    let a = now (s .a) in
-    let out = now (s .out) in
-    let e : g .one .result ≡ first (curveGiven n (length a)) (curveGiven (n - 1) (length out)) = cc in
-    one-worked curve toCurve (n - 1) curveDerivative n a out e (f .if1 .left) (ap (λ (l : CurveAnswer). l .jet) (x .from-list .ensures)) (p .derivative .ensures) (c .before .curve .ensures)
+    one-worked curve toCurve (s .a-order - 1) curveDerivative (s .a-order) (now (s .a)) (now (s .out))
+    (g .before .lowered .ensures) (g .if1 .left) (ap (λ (l : CurveAnswer). l .jet) (x .from-list .ensures)) (p .derivative .ensures) (c .before .curve .ensures)
 
 pub sugamdely-exact-curve-derivative-spec : {M : Type 1} → statement M
-sugamdely-exact-curve-derivative-spec = tie.close (tie.spec lower-requires one-requires returns from-list-requires derivative-requires curve-requires same-length returns-2)
+sugamdely-exact-curve-derivative-spec = tie.close (tie.spec lowered-requires returns from-list-requires derivative-requires curve-requires same-length returns-2)

@@ -1,18 +1,30 @@
 -- `capi_exact::part_lists::sugamdely_walk_next` meets its contract. Assumes nothing.
-use mathlib.Core.Path.{_≡_, sym, ap, ap₂, _∙_}
+use mathlib.Core.Bool.{Bool, true, false, cond}
 use mathlib.Core.List.{List}
+use mathlib.Core.Path.{_≡_, refl, sym, ap, ap₂, _∙_}
 use Prim.Native.Nat.{ℕ}
-use lib.ListN.{length}
+use native.Mathlib.Nat.{suc-ne-zero}
+use lib.Dec.{eqb}
+use lib.ListN.{length, getD}
+use borrow.Author.Tests.{eqb-true}
 use denote.Ref.{now}
 use Rattle.partitions.specs.Walk.{stepped}
 use Rattle.partitions.specs.declared.Stepped.{Stepped}
-use Rattle.given.specs.Given.{first, countGiven}
+use Rattle.given.specs.Given.{first, orderGiven, countGiven}
 use Rattle.given.proofs.Admission.{refused, allowed, one-fits, rest-fits, count-fits}
-use Rattle.capi_exact.specs.PartLists.{walkNumbers, walkGiven, walkStepped}
-use Rattle.capi_exact.proofs.Walks.{walk-fits}
+use Rattle.capi_exact.specs.PartLists.{walkNumbers, flagGiven, walkGiven, walkStepped}
 use borrow.Author.Needs.{needs}
 use Rattle.capi_exact.proofs.part_lists.sugamdely_walk_next.Statement.{statement}
 use Rattle.capi_exact.proofs.part_lists.sugamdely_walk_next.Tie as tie
+
+-- a walk that passes its test has 23 numbers
+walk-fits : (walk : List ℕ) → walkGiven walk ≡ 0 → length walk ≡ 23
+unfolding walkGiven
+walk-fits walk e = by (eqb (length walk) 23) refl
+  where
+    by : (t : Bool) → eqb (length walk) 23 ≡ t → length walk ≡ 23
+    by true q = eqb-true (length walk) 23 q
+    by false q = absurd (suc-ne-zero 1 (sym (ap (λ (t : Bool). cond t (first (orderGiven (getD walk 0 0)) (flagGiven (getD walk 2 0))) 2) q) ∙ e))
 
 given-walk-requires : tie.Need-given-walk-requires
 given-walk-requires c κs = search needs
