@@ -38,4 +38,4 @@ pub road-fits : (orders : List ℕ) (l : ℕ) (steps : List ℕ) (m c n o : ℕ)
 unfolding roadGiven
 road-fits orders l steps m c n o e z =
     let f = sym e ∙ z in
-    fit surfaceSize orders l steps (one-fits _ _ f) (rest-fits _ _ (rest-fits _ _ (rest-fits _ _ (rest-fits _ _ (rest-fits _ _ f)))))
+    fit surfaceSize orders l steps (one-fits _ _ f) (rest-fits _ _ (rest-fits _ _ (rest-fits _ _ (rest-fits _ _ f))))

@@ -3,7 +3,7 @@
 -- Assumes nothing.
 use mathlib.Core.Bool.{Bool, true, false, cond}
 use mathlib.Core.List.{List, [], _∷_}
-use Prim.Native.Nat.{ℕ, zero, suc, _+_, _*_, _/_, _%_, min}
+use Prim.Native.Nat.{ℕ, zero, suc, _+_, _*_, _/_, _%_}
 use lib.Dec.{ltb, eqb}
 use lib.IntN.{ℤ}
 use lib.ListN.{length, getD, take, drop}
@@ -104,14 +104,9 @@ unfoldable pub recipeGiven : (ℕ → ℕ) → List ℕ → ℕ → List ℕ →
 recipeGiven size orders l steps o =
     first (listsGiven size orders l) (first (stepsGiven steps) (first (resultGiven size orders o) (limitsGiven (length orders) steps)))
 
--- an order n that is asked, of jets up to the order k
-abbrev pub reachGiven : ℕ → ℕ → ℕ
-reachGiven k n = cond (ltb k n) 2 0
-
 unfoldable pub roadGiven : List ℕ → ℕ → List ℕ → ℕ → ℕ → ℕ → ℕ → ℕ
 roadGiven orders l steps m c n o =
-    first (listsGiven surfaceSize orders l) (first (stepsGiven steps) (first (parameterGiven m c) (first (curveGiven n o)
-    (first (reachGiven (min m (smallest orders)) n) (limitsGiven (length orders) steps)))))
+    first (listsGiven surfaceSize orders l) (first (stepsGiven steps) (first (parameterGiven m c) (first (curveGiven n o) (limitsGiven (length orders) steps))))
 
 -- ---- a recipe's answer, and a road's
 unfoldable pub surfaceRecipeInto : List ℕ → List ℤ → List ℕ → List ℤ → ℕ × List ℤ

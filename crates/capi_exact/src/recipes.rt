@@ -10,22 +10,16 @@ ghost use Rattle.calculus.specs.Array.{filled};
 ghost use Rattle.roads.specs.Recipe.{someAbove20};
 ghost use Rattle.roads.specs.Roads.{buildThenCarry, carryThenBuild};
 ghost use Rattle.capi_exact.specs.Lists.{surface as surfaces};
-ghost use Rattle.capi_exact.specs.Recipes.{surfaceSize, total, jetAt, blankSurface, surfaceRecipe, reachGiven, roadGiven, surfaceRecipeInto, roadInto};
+ghost use Rattle.capi_exact.specs.Recipes.{surfaceSize, total, jetAt, blankSurface, surfaceRecipe, roadGiven, surfaceRecipeInto, roadInto};
 use crate::deliver;
 use crate::recipe_steps;
 use crate::recipe_steps::Jets;
 use exact::ParameterCurve;
 use exact::SurfaceDerivatives;
 use roads::SurfaceRecipe;
-use roads::checks;
 
-fn given_reach(k: usize, n: usize) -> u8
-    ensures { λ r. ⌜ r ≡ reachGiven k n ⌝ }
-{
-    if k < n { 2 } else { 0 }
-}
-
-// The test of a recipe, of a curve of the order m with c numbers, of an order n asked, and of the list for a curve of it.
+// The test of a recipe, of a curve of the order m with c numbers, of an order n asked, and of the list for a curve of it. Whether the jets have the
+// order n the road itself finds, where it comes to the carry.
 fn given_road(
     orders: &[usize],
     l: usize,
@@ -41,13 +35,8 @@ fn given_road(
     let q = recipe_steps::given_steps(steps);
     let g = given::parameter(m, c);
     let o = given::curve(n, out);
-    let k = calculus::smaller(m, checks::smallest(orders));
-    let h = given_reach(k, n);
     let f = recipe_steps::given_limits(orders.len(), steps);
-    given::first(
-        p,
-        given::first(q, given::first(g, given::first(o, given::first(h, f)))),
-    )
+    given::first(p, given::first(q, given::first(g, given::first(o, f))))
 }
 
 fn read_surfaces(orders: &[usize], entries: &[i64]) -> [SurfaceDerivatives; 4]

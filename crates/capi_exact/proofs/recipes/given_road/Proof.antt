@@ -16,15 +16,6 @@ parameter-requires c κs = search needs
 curve-requires : tie.Need-curve-requires
 curve-requires c κs = search needs
 
-smallest-requires : tie.Need-smallest-requires
-smallest-requires c κs = search needs
-
-smaller-requires : tie.Need-smaller-requires
-smaller-requires c κs = search needs
-
-given-reach-requires : tie.Need-given-reach-requires
-given-reach-requires c κs = search needs
-
 given-limits-requires : tie.Need-given-limits-requires
 given-limits-requires c κs = search needs
 
@@ -40,12 +31,9 @@ first-requires-3 c κs = search needs
 first-requires-4 : tie.Need-first-requires-4
 first-requires-4 c κs = search needs
 
-first-requires-5 : tie.Need-first-requires-5
-first-requires-5 c κs = search needs
-
 returns : tie.Need-returns
 unfolding roadGiven
 returns c = cc
 
 pub given-road-spec : {M : Type 1} → statement M
-given-road-spec = tie.close (tie.spec given-lists-requires given-steps-requires parameter-requires curve-requires smallest-requires smaller-requires given-reach-requires given-limits-requires first-requires first-requires-2 first-requires-3 first-requires-4 first-requires-5 returns)
+given-road-spec = tie.close (tie.spec given-lists-requires given-steps-requires parameter-requires curve-requires given-limits-requires first-requires first-requires-2 first-requires-3 first-requires-4 returns)
