@@ -3,6 +3,8 @@
 use Prim.Native.Nat.{ℕ, suc, _-_, _*_}
 use Rattle.calculus.specs.Kind.{Kind, Module, regular}
 use Rattle.calculus.specs.InTurn.{inTurn, inRows}
+use Rattle.calculus.specs.declared.By.{By}
+use Rattle.calculus.specs.declared.By.the-variants as by
 use Rattle.calculus.specs.Rising.{beforeEntry, risingRows}
 use Rattle.calculus.specs.Choose.{choose}
 
@@ -11,6 +13,10 @@ derivativeU a m n = a (suc m) n
 
 abbrev pub derivativeV : {A : Type 0} → (ℕ → ℕ → A) → ℕ → ℕ → A
 derivativeV a m n = a m (suc n)
+
+abbrev pub derivativeBy : {A : Type 0} → By → (ℕ → ℕ → A) → ℕ → ℕ → A
+derivativeBy by.U = derivativeU
+derivativeBy by.V = derivativeV
 
 module _ {S A : Type 0} (M : Module S A) where
   abbrev pub sum : (ℕ → ℕ → A) → (ℕ → ℕ → A) → ℕ → ℕ → A

@@ -6,6 +6,12 @@ ghost use lib.Dec.{ltb};
 ghost use Rattle.calculus.specs.Choose.{pascal, binomialTable};
 ghost use Rattle.calculus.specs.Graded.{triangle};
 
+// A derivative by which of a surface's parameters.
+pub enum By {
+    U,
+    V,
+}
+
 // The smaller of two orders, at which two jets meet.
 pub fn smaller(m: usize, n: usize) -> usize
     ensures { λ r. ⌜ r ≡ min m n ⌝ }

@@ -1,10 +1,3 @@
 pub mod Admission
-pub mod ExactOutcomes
 pub mod Delivered
 pub mod FilletDelivered
-pub mod Copying
-pub mod Counts
-pub mod Walks
-pub mod RecipeLists
-pub mod RecipeChecks
-pub mod RoadsMeet

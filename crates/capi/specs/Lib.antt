@@ -4,8 +4,4 @@ pub mod Lists
 pub mod Values
 pub mod Operations
 pub mod Fillet
-pub mod ExactChecks
-pub mod ExactJets
 pub mod VectorOperations
-pub mod PartLists
-pub mod Recipes

@@ -1,0 +1,4 @@
+pub mod Numbers
+pub mod RecipeLists
+pub mod RecipeChecks
+pub mod RoadsMeet

@@ -1,0 +1,31 @@
+-- `given::vector_curve` meets its contract. Assumes nothing.
+use borrow.Author.Tests.{lt-ltb, le-ltb}
+use mathlib.Core.Path.{_≡_, ap, _∙_}
+use Prim.Native.Nat.{ℕ, _*_}
+use native.Mathlib.Numerals.{add-one}
+use Rattle.given.specs.Given.{countGiven}
+use borrow.Author.Needs.{needs}
+use Rattle.given.proofs.vector_curve.Statement.{statement}
+use Rattle.given.proofs.vector_curve.Tie as tie
+use Rattle.given.proofs.vector_curve.Reads as reads
+use Rattle.given.proofs.vector_curve.Lts as lts
+use Rattle.given.proofs.count.Reads as count-reads
+
+returns : tie.Need-returns
+returns c = rw (lt-ltb 20 (c .before .args .n) (c .if1 .taken))
+
+add-count : tie.Need-add-count
+add-count c = search needs
+
+mul-count : tie.Need-mul-count
+mul-count c = search needs
+
+count-requires : tie.Need-count-requires
+count-requires c κs = search needs
+
+returns-2 : tie.Need-returns-2
+returns-2 c = let s = c .before .before .args in
+    c .count .ensures ∙ ap (λ (k : ℕ). countGiven (3 * k) (s .l)) (add-one (s .n)) ∙ rw (le-ltb 20 (s .n) (c .before .if1 .left))
+
+pub vector-curve-spec : {M : Type 1} → statement M
+vector-curve-spec = tie.close (tie.spec returns add-count mul-count count-requires returns-2)
