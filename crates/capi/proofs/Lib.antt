@@ -1,7 +1,5 @@
 pub mod Admission
 pub mod ExactOutcomes
-pub mod Delivered
-pub mod FilletDelivered
 pub mod Copying
 pub mod Counts
 pub mod Walks

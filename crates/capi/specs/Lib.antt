@@ -1,11 +1,5 @@
 pub mod Given
-pub mod Delivery
-pub mod Lists
-pub mod Values
-pub mod Operations
-pub mod Fillet
 pub mod ExactChecks
 pub mod ExactJets
-pub mod VectorOperations
 pub mod PartLists
 pub mod Recipes

@@ -1,0 +1,34 @@
+-- `capi_vectors::vector_surfaces::given_carry` meets its contract. Assumes nothing.
+use mathlib.Core.Path.{ap₂, _∙_}
+use Rattle.given.specs.Given.{first}
+use borrow.Author.Needs.{needs}
+use Rattle.capi_vectors.proofs.vector_surfaces.given_carry.Statement.{statement}
+use Rattle.capi_vectors.proofs.vector_surfaces.given_carry.Tie as tie
+
+vector-surface-requires : tie.Need-vector-surface-requires
+vector-surface-requires c κs = search needs
+
+parameter-requires : tie.Need-parameter-requires
+parameter-requires c κs = search needs
+
+order-requires : tie.Need-order-requires
+order-requires c κs = search needs
+
+vector-curve-requires : tie.Need-vector-curve-requires
+vector-curve-requires c κs = search needs
+
+first-requires : tie.Need-first-requires
+first-requires c κs = search needs
+
+first-requires-2 : tie.Need-first-requires-2
+first-requires-2 c κs = search needs
+
+first-requires-3 : tie.Need-first-requires-3
+first-requires-3 c κs = search needs
+
+returns : tie.Need-returns
+returns c = c .first3 .ensures
+    ∙ ap₂ first (c .before .before .before .before .before .before .vector-surface .ensures) (c .before .first2 .ensures ∙ ap₂ first (c .before .before .before .before .before .parameter .ensures) (c .before .before .first .ensures ∙ ap₂ first (c .before .before .before .before .order .ensures) (c .before .before .before .vector-curve .ensures)))
+
+pub given-carry-spec : {M : Type 1} → statement M
+given-carry-spec = tie.close (tie.spec vector-surface-requires parameter-requires order-requires vector-curve-requires first-requires first-requires-2 first-requires-3 returns)
