@@ -8,7 +8,6 @@ ghost use Rattle.calculus.specs.Curve.{sum, difference, product};
 ghost use Rattle.derivatives.specs.Real.{real};
 ghost use Rattle.derivatives.specs.Rational.{rational};
 ghost use Rattle.derivatives.specs.Answer.{onCurves, byFormula, byDivision, onCurvesAt, curveDerivative};
-ghost use Rattle.given.specs.Given.{first, orderGiven, countGiven, curveGiven};
 ghost use Rattle.given.specs.Lists.{onTwo, onTwoAt, onOne};
 ghost use Rattle.capi_floats.specs.Lists.{curve as curves, toCurve, toFloat};
 ghost use Rattle.capi_floats.specs.Operations.{curveOperation};
@@ -17,6 +16,7 @@ use crate::operations::Operation;
 use derivatives::CurveAnswer;
 use derivatives::CurveDerivatives;
 use derivatives::lists;
+use given::Shape;
 
 fn work(op: Operation, a: CurveDerivatives, b: CurveDerivatives) -> CurveAnswer
     ensures { λ r. ⌜ r ≡ curveOperation op a b ⌝ }
@@ -29,17 +29,6 @@ fn work(op: Operation, a: CurveDerivatives, b: CurveDerivatives) -> CurveAnswer
     }
 }
 
-// The test of two curves and of the list for a third, by the orders and the lengths.
-fn given_two(m: usize, a: usize, n: usize, b: usize, out: usize) -> u8
-    ensures { λ r. ⌜ r ≡ first (curveGiven m a) (first (curveGiven n b) (curveGiven (min m n) out)) ⌝ }
-{
-    let k = calculus::smaller(m, n);
-    let p = given::curve(m, a);
-    let q = given::curve(n, b);
-    let o = given::curve(k, out);
-    given::first(p, given::first(q, o))
-}
-
 fn on_two(
     op: Operation,
     a_order: usize,
@@ -50,7 +39,16 @@ fn on_two(
 ) -> u8
     ensures { λ r. ⌜ _≡_ {A = ℕ × List Float} (r, now (out .exit)) (onTwo curves curves toCurve (curveOperation op) «a_order» (now (a .entry)) «b_order» (now (b .entry)) (now (out .entry))) ⌝ }
 {
-    let t = given_two(a_order, a.len(), b_order, b.len(), out.len());
+    let t = given::two(
+        Shape::Curve,
+        a_order,
+        a.len(),
+        Shape::Curve,
+        b_order,
+        b.len(),
+        Shape::Curve,
+        out.len(),
+    );
     if t != 0 {
         return t;
     }
@@ -58,26 +56,6 @@ fn on_two(
     let y = lists::curve(b_order, b);
     let r = work(op, x, y);
     deliver::curve(r, out)
-}
-
-// The test of two curves, of an order asked, and of the list for one float.
-fn given_entry(m: usize, a: usize, n: usize, b: usize, k: usize, out: usize) -> u8
-    ensures { λ r. ⌜ r ≡ first (curveGiven m a) (first (curveGiven n b) (first (orderGiven k) (countGiven 1 out))) ⌝ }
-{
-    let p = given::curve(m, a);
-    let q = given::curve(n, b);
-    let o = given::order(k);
-    let l = given::count(1, out);
-    given::first(p, given::first(q, given::first(o, l)))
-}
-
-// The test of a curve and of the list for one of the order k.
-fn given_one(n: usize, a: usize, k: usize, out: usize) -> u8
-    ensures { λ r. ⌜ r ≡ first (curveGiven n a) (curveGiven k out) ⌝ }
-{
-    let p = given::curve(n, a);
-    let o = given::curve(k, out);
-    given::first(p, o)
 }
 
 #[no_mangle]
@@ -111,7 +89,7 @@ pub extern "C" fn sugamdely_curve_derivative(a_order: usize, a: &[f64], out: &mu
     ensures { λ r. ⌜ _≡_ {A = ℕ × List Float} (r, now (out .exit)) (onOne curves toCurve («a_order» - 1) curveDerivative «a_order» (now (a .entry)) (now (out .entry))) ⌝ }
 {
     let k = given::lower(a_order);
-    let t = given_one(a_order, a.len(), k, out.len());
+    let t = given::one(Shape::Curve, a_order, a.len(), Shape::Curve, k, out.len());
     if t != 0 {
         return t;
     }
@@ -132,7 +110,19 @@ pub extern "C" fn sugamdely_curve_combinatorial_derivative(
 ) -> u8
     ensures { λ r. ⌜ _≡_ {A = ℕ × List Float} (r, now (out .exit)) (onTwoAt curves curves toFloat m (λ x y. onCurvesAt (product real) x y m) «a_order» (now (a .entry)) «b_order» (now (b .entry)) (now (out .entry))) ⌝ }
 {
-    let t = given_entry(a_order, a.len(), b_order, b.len(), m, out.len());
+    let asked = given::order(m);
+    let t = given::two_at(
+        Shape::Curve,
+        a_order,
+        a.len(),
+        Shape::Curve,
+        b_order,
+        b.len(),
+        asked,
+        Shape::Number,
+        0,
+        out.len(),
+    );
     if t != 0 {
         return t;
     }

@@ -9,7 +9,6 @@ ghost use Rattle.derivatives.specs.Real.{real};
 ghost use Rattle.derivatives.specs.Rational.{surfaceRational};
 ghost use Rattle.derivatives.specs.Answer.{onSurfaces, bySurfaceFormula, bySurfaceDivision, onSurfacesAt, surfaceDerivative};
 ghost use Rattle.derivatives.specs.Composite.{alongCurveAt, alongCurve};
-ghost use Rattle.given.specs.Given.{first, orderGiven, countGiven, curveGiven, surfaceGiven, parameterGiven};
 ghost use Rattle.given.specs.Lists.{onTwo, onTwoAt, onOne};
 ghost use Rattle.capi_floats.specs.Lists.{surface as surfaces, parameter as parameters, toCurve, toSurface, toFloat};
 ghost use Rattle.capi_floats.specs.Operations.{surfaceOperation, derivativeBy};
@@ -19,6 +18,7 @@ use crate::operations::Operation;
 use derivatives::SurfaceAnswer;
 use derivatives::SurfaceDerivatives;
 use derivatives::lists;
+use given::Shape;
 
 fn work(op: Operation, a: SurfaceDerivatives, b: SurfaceDerivatives) -> SurfaceAnswer
     ensures { λ r. ⌜ r ≡ surfaceOperation op a b ⌝ }
@@ -40,17 +40,6 @@ fn derived(by: By, a: SurfaceDerivatives) -> SurfaceAnswer
     }
 }
 
-// The test of two surfaces and of the list for a third, by the orders and the lengths.
-fn given_two(m: usize, a: usize, n: usize, b: usize, out: usize) -> u8
-    ensures { λ r. ⌜ r ≡ first (surfaceGiven m a) (first (surfaceGiven n b) (surfaceGiven (min m n) out)) ⌝ }
-{
-    let k = calculus::smaller(m, n);
-    let p = given::surface(m, a);
-    let q = given::surface(n, b);
-    let o = given::surface(k, out);
-    given::first(p, given::first(q, o))
-}
-
 fn on_two(
     op: Operation,
     a_order: usize,
@@ -61,7 +50,16 @@ fn on_two(
 ) -> u8
     ensures { λ r. ⌜ _≡_ {A = ℕ × List Float} (r, now (out .exit)) (onTwo surfaces surfaces toSurface (surfaceOperation op) «a_order» (now (a .entry)) «b_order» (now (b .entry)) (now (out .entry))) ⌝ }
 {
-    let t = given_two(a_order, a.len(), b_order, b.len(), out.len());
+    let t = given::two(
+        Shape::Surface,
+        a_order,
+        a.len(),
+        Shape::Surface,
+        b_order,
+        b.len(),
+        Shape::Surface,
+        out.len(),
+    );
     if t != 0 {
         return t;
     }
@@ -71,58 +69,24 @@ fn on_two(
     deliver::surface(r, out)
 }
 
-// The test of a surface and of the list for one of the order k.
-fn given_one(n: usize, a: usize, k: usize, out: usize) -> u8
-    ensures { λ r. ⌜ r ≡ first (surfaceGiven n a) (surfaceGiven k out) ⌝ }
-{
-    let p = given::surface(n, a);
-    let o = given::surface(k, out);
-    given::first(p, o)
-}
-
 fn derivative(by: By, a_order: usize, a: &[f64], out: &mut [f64]) -> u8
     ensures { λ r. ⌜ _≡_ {A = ℕ × List Float} (r, now (out .exit)) (onOne surfaces toSurface («a_order» - 1) (surfaceDerivative (derivativeBy by)) «a_order» (now (a .entry)) (now (out .entry))) ⌝ }
 {
     let k = given::lower(a_order);
-    let t = given_one(a_order, a.len(), k, out.len());
+    let t = given::one(
+        Shape::Surface,
+        a_order,
+        a.len(),
+        Shape::Surface,
+        k,
+        out.len(),
+    );
     if t != 0 {
         return t;
     }
     let x = lists::surface(a_order, a);
     let r = derived(by, x);
     deliver::surface(r, out)
-}
-
-// The test of two surfaces, of the orders asked, and of the list for one float.
-fn given_entry(m: usize, a: usize, n: usize, b: usize, i: usize, j: usize, out: usize) -> u8
-    ensures { λ r. ⌜ r ≡ first (surfaceGiven m a) (first (surfaceGiven n b) (first (orderGiven (i + j)) (countGiven 1 out))) ⌝ }
-{
-    let p = given::surface(m, a);
-    let q = given::surface(n, b);
-    let o = given::order_sum(i, j);
-    let l = given::count(1, out);
-    given::first(p, given::first(q, given::first(o, l)))
-}
-
-// The test of a surface, of a curve in its parameters, of an order asked, and of the list: for one float, or for a curve of that order.
-fn given_carry_entry(m: usize, a: usize, n: usize, c: usize, k: usize, out: usize) -> u8
-    ensures { λ r. ⌜ r ≡ first (surfaceGiven m a) (first (parameterGiven n c) (first (orderGiven k) (countGiven 1 out))) ⌝ }
-{
-    let p = given::surface(m, a);
-    let q = given::parameter(n, c);
-    let o = given::order(k);
-    let l = given::count(1, out);
-    given::first(p, given::first(q, given::first(o, l)))
-}
-
-fn given_carry(m: usize, a: usize, n: usize, c: usize, k: usize, out: usize) -> u8
-    ensures { λ r. ⌜ r ≡ first (surfaceGiven m a) (first (parameterGiven n c) (first (orderGiven k) (curveGiven k out))) ⌝ }
-{
-    let p = given::surface(m, a);
-    let q = given::parameter(n, c);
-    let o = given::order(k);
-    let l = given::curve(k, out);
-    given::first(p, given::first(q, given::first(o, l)))
 }
 
 #[no_mangle]
@@ -178,7 +142,19 @@ pub extern "C" fn sugamdely_surface_combinatorial_derivative(
 ) -> u8
     ensures { λ r. ⌜ _≡_ {A = ℕ × List Float} (r, now (out .exit)) (onTwoAt surfaces surfaces toFloat (m + n) (λ x y. onSurfacesAt (product real) x y m n) «a_order» (now (a .entry)) «b_order» (now (b .entry)) (now (out .entry))) ⌝ }
 {
-    let t = given_entry(a_order, a.len(), b_order, b.len(), m, n, out.len());
+    let asked = given::order_sum(m, n);
+    let t = given::two_at(
+        Shape::Surface,
+        a_order,
+        a.len(),
+        Shape::Surface,
+        b_order,
+        b.len(),
+        asked,
+        Shape::Number,
+        0,
+        out.len(),
+    );
     if t != 0 {
         return t;
     }
@@ -227,7 +203,19 @@ pub extern "C" fn sugamdely_composite_derivative(
 ) -> u8
     ensures { λ r. ⌜ _≡_ {A = ℕ × List Float} (r, now (out .exit)) (onTwoAt surfaces parameters toFloat n (λ x y. alongCurveAt x y n) «a_order» (now (a .entry)) «c_order» (now (c .entry)) (now (out .entry))) ⌝ }
 {
-    let t = given_carry_entry(a_order, a.len(), c_order, c.len(), n, out.len());
+    let asked = given::order(n);
+    let t = given::two_at(
+        Shape::Surface,
+        a_order,
+        a.len(),
+        Shape::Parameter,
+        c_order,
+        c.len(),
+        asked,
+        Shape::Number,
+        0,
+        out.len(),
+    );
     if t != 0 {
         return t;
     }
@@ -249,7 +237,19 @@ pub extern "C" fn sugamdely_composite_derivatives(
 ) -> u8
     ensures { λ r. ⌜ _≡_ {A = ℕ × List Float} (r, now (out .exit)) (onTwoAt surfaces parameters toCurve n (λ x y. alongCurve x y n) «a_order» (now (a .entry)) «c_order» (now (c .entry)) (now (out .entry))) ⌝ }
 {
-    let t = given_carry(a_order, a.len(), c_order, c.len(), n, out.len());
+    let asked = given::order(n);
+    let t = given::two_at(
+        Shape::Surface,
+        a_order,
+        a.len(),
+        Shape::Parameter,
+        c_order,
+        c.len(),
+        asked,
+        Shape::Curve,
+        n,
+        out.len(),
+    );
     if t != 0 {
         return t;
     }

@@ -11,7 +11,7 @@ ghost use Rattle.ieee.specs.Answer.{realFrom, rootAnswer};
 ghost use Rattle.vectors.specs.Vectors.{sum, difference, multiple, dot, cross, magnitude};
 ghost use Rattle.vectors.specs.Matrices.{determinant2, determinant3, image3};
 ghost use Rattle.vectors.specs.Answers.{finiteVector, finiteMatrix2, finiteMatrix3, vectorFrom, quotientFrom, inverseAnswer2, inverseAnswer3};
-ghost use Rattle.given.specs.Given.{first, countGiven};
+ghost use Rattle.given.specs.Given.{countGiven};
 ghost use Rattle.given.specs.Lists.{admitted};
 ghost use Rattle.capi_floats.specs.Delivery.{deliverFloat};
 ghost use Rattle.capi_floats.specs.Values.{aVector, aMatrix2, aMatrix3, toMatrix2, toMatrix3};
@@ -22,6 +22,7 @@ use crate::deliver;
 use crate::operations::ScalarOperation;
 use crate::operations::VectorOperation;
 use crate::read;
+use given::Shape;
 use vectors::Vector3;
 use vectors::VectorAnswer;
 use vectors::answers;
@@ -45,28 +46,19 @@ fn work_scalar(op: ScalarOperation, a: Vector3, s: f64) -> VectorAnswer
     }
 }
 
-// The test of two lists, and of the one for the answer, by the counts that are due and the lengths.
-fn given_two(m: usize, a: usize, n: usize, b: usize, k: usize, out: usize) -> u8
-    ensures { λ r. ⌜ r ≡ first (countGiven m a) (first (countGiven n b) (countGiven k out)) ⌝ }
-{
-    let p = given::count(m, a);
-    let q = given::count(n, b);
-    let o = given::count(k, out);
-    given::first(p, given::first(q, o))
-}
-
-fn given_one(n: usize, a: usize, k: usize, out: usize) -> u8
-    ensures { λ r. ⌜ r ≡ first (countGiven n a) (countGiven k out) ⌝ }
-{
-    let p = given::count(n, a);
-    let o = given::count(k, out);
-    given::first(p, o)
-}
-
 fn on_vectors(op: VectorOperation, a: &[f64], b: &[f64], out: &mut [f64]) -> u8
     ensures { λ r. ⌜ _≡_ {A = ℕ × List Float} (r, now (out .exit)) (onTwo aVector aVector toVector (vectorOperation op) 0 (now (a .entry)) 0 (now (b .entry)) (now (out .entry))) ⌝ }
 {
-    let t = given_two(3, a.len(), 3, b.len(), 3, out.len());
+    let t = given::two(
+        Shape::Vector,
+        0,
+        a.len(),
+        Shape::Vector,
+        0,
+        b.len(),
+        Shape::Vector,
+        out.len(),
+    );
     if t != 0 {
         return t;
     }
@@ -79,7 +71,7 @@ fn on_vectors(op: VectorOperation, a: &[f64], b: &[f64], out: &mut [f64]) -> u8
 fn on_scalar(op: ScalarOperation, a: &[f64], s: f64, out: &mut [f64]) -> u8
     ensures { λ r. ⌜ _≡_ {A = ℕ × List Float} (r, now (out .exit)) (onOne aVector toVector 0 (scalarOperation op s) 0 (now (a .entry)) (now (out .entry))) ⌝ }
 {
-    let t = given_one(3, a.len(), 3, out.len());
+    let t = given::one(Shape::Vector, 0, a.len(), Shape::Vector, 0, out.len());
     if t != 0 {
         return t;
     }
@@ -140,7 +132,16 @@ pub extern "C" fn sugamdely_vector_cross(a: &[f64], b: &[f64], out: &mut [f64]) 
 pub extern "C" fn sugamdely_vector_dot(a: &[f64], b: &[f64], out: &mut [f64]) -> u8
     ensures { λ r. ⌜ _≡_ {A = ℕ × List Float} (r, now (out .exit)) (onTwo aVector aVector toFloat (λ x y. realFrom (finiteVector x && finiteVector y) (dot x y)) 0 (now (a .entry)) 0 (now (b .entry)) (now (out .entry))) ⌝ }
 {
-    let t = given_two(3, a.len(), 3, b.len(), 1, out.len());
+    let t = given::two(
+        Shape::Vector,
+        0,
+        a.len(),
+        Shape::Vector,
+        0,
+        b.len(),
+        Shape::Number,
+        out.len(),
+    );
     if t != 0 {
         return t;
     }
@@ -154,7 +155,7 @@ pub extern "C" fn sugamdely_vector_dot(a: &[f64], b: &[f64], out: &mut [f64]) ->
 pub extern "C" fn sugamdely_vector_magnitude(a: &[f64], out: &mut [f64]) -> u8
     ensures { λ r. ⌜ _≡_ {A = ℕ × List Float} (r, now (out .exit)) (onOne aVector toFloat 0 (λ x. realFrom (finiteVector x) (magnitude x)) 0 (now (a .entry)) (now (out .entry))) ⌝ }
 {
-    let t = given_one(3, a.len(), 1, out.len());
+    let t = given::one(Shape::Vector, 0, a.len(), Shape::Number, 0, out.len());
     if t != 0 {
         return t;
     }
@@ -167,7 +168,7 @@ pub extern "C" fn sugamdely_vector_magnitude(a: &[f64], out: &mut [f64]) -> u8
 pub extern "C" fn sugamdely_matrix2_determinant(a: &[f64], out: &mut [f64]) -> u8
     ensures { λ r. ⌜ _≡_ {A = ℕ × List Float} (r, now (out .exit)) (onOne aMatrix2 toFloat 0 (λ x. realFrom (finiteMatrix2 x) (determinant2 x)) 0 (now (a .entry)) (now (out .entry))) ⌝ }
 {
-    let t = given_one(4, a.len(), 1, out.len());
+    let t = given::one(Shape::Matrix2, 0, a.len(), Shape::Number, 0, out.len());
     if t != 0 {
         return t;
     }
@@ -180,7 +181,7 @@ pub extern "C" fn sugamdely_matrix2_determinant(a: &[f64], out: &mut [f64]) -> u
 pub extern "C" fn sugamdely_matrix2_inverse(a: &[f64], out: &mut [f64]) -> u8
     ensures { λ r. ⌜ _≡_ {A = ℕ × List Float} (r, now (out .exit)) (onOne aMatrix2 toMatrix2 0 inverseAnswer2 0 (now (a .entry)) (now (out .entry))) ⌝ }
 {
-    let t = given_one(4, a.len(), 4, out.len());
+    let t = given::one(Shape::Matrix2, 0, a.len(), Shape::Matrix2, 0, out.len());
     if t != 0 {
         return t;
     }
@@ -193,7 +194,7 @@ pub extern "C" fn sugamdely_matrix2_inverse(a: &[f64], out: &mut [f64]) -> u8
 pub extern "C" fn sugamdely_matrix3_determinant(a: &[f64], out: &mut [f64]) -> u8
     ensures { λ r. ⌜ _≡_ {A = ℕ × List Float} (r, now (out .exit)) (onOne aMatrix3 toFloat 0 (λ x. realFrom (finiteMatrix3 x) (determinant3 x)) 0 (now (a .entry)) (now (out .entry))) ⌝ }
 {
-    let t = given_one(9, a.len(), 1, out.len());
+    let t = given::one(Shape::Matrix3, 0, a.len(), Shape::Number, 0, out.len());
     if t != 0 {
         return t;
     }
@@ -206,7 +207,7 @@ pub extern "C" fn sugamdely_matrix3_determinant(a: &[f64], out: &mut [f64]) -> u
 pub extern "C" fn sugamdely_matrix3_inverse(a: &[f64], out: &mut [f64]) -> u8
     ensures { λ r. ⌜ _≡_ {A = ℕ × List Float} (r, now (out .exit)) (onOne aMatrix3 toMatrix3 0 inverseAnswer3 0 (now (a .entry)) (now (out .entry))) ⌝ }
 {
-    let t = given_one(9, a.len(), 9, out.len());
+    let t = given::one(Shape::Matrix3, 0, a.len(), Shape::Matrix3, 0, out.len());
     if t != 0 {
         return t;
     }
@@ -220,7 +221,16 @@ pub extern "C" fn sugamdely_matrix3_inverse(a: &[f64], out: &mut [f64]) -> u8
 pub extern "C" fn sugamdely_matrix3_image(a: &[f64], b: &[f64], out: &mut [f64]) -> u8
     ensures { λ r. ⌜ _≡_ {A = ℕ × List Float} (r, now (out .exit)) (onTwo aMatrix3 aVector toVector (λ x y. vectorFrom (finiteMatrix3 x && finiteVector y) (image3 x y)) 0 (now (a .entry)) 0 (now (b .entry)) (now (out .entry))) ⌝ }
 {
-    let t = given_two(9, a.len(), 3, b.len(), 3, out.len());
+    let t = given::two(
+        Shape::Matrix3,
+        0,
+        a.len(),
+        Shape::Vector,
+        0,
+        b.len(),
+        Shape::Vector,
+        out.len(),
+    );
     if t != 0 {
         return t;
     }

@@ -14,7 +14,6 @@ ghost use Rattle.derivatives.specs.Real.{real};
 ghost use Rattle.derivatives.specs.Answer.{refusedCurve};
 ghost use Rattle.derivatives.specs.Vector.{vectors};
 ghost use Rattle.derivatives.specs.VectorAnswer.{refusedVectors, onVectors, onWeighted, byVectorFormula, byNumberFormula, byWeights, vectorQuotient, onVectorsAt, onWeightedAt, vectorAbsolute, vectorDerivative};
-ghost use Rattle.given.specs.Given.{first, orderGiven, countGiven, curveGiven, vectorCurveGiven};
 ghost use Rattle.given.specs.Lists.{onTwo, onTwoAt, onOne};
 ghost use Rattle.capi_floats.specs.Lists.{curve as curves, toCurve, toFloat, toVector};
 ghost use Rattle.capi_vectors.specs.Lists.{vectorCurve as vectorCurves, toVectorCurve};
@@ -26,6 +25,7 @@ use derivatives::CurveDerivatives;
 use derivatives::VectorCurveAnswer;
 use derivatives::VectorCurveDerivatives;
 use derivatives::lists;
+use given::Shape;
 
 fn work(
     op: VectorOperation,
@@ -54,39 +54,6 @@ fn work_weighted(
     }
 }
 
-// The test of two curves of vectors and of the list for a third, by the orders and the lengths.
-fn given_two(m: usize, a: usize, n: usize, b: usize, out: usize) -> u8
-    ensures { λ r. ⌜ r ≡ first (vectorCurveGiven m a) (first (vectorCurveGiven n b) (vectorCurveGiven (min m n) out)) ⌝ }
-{
-    let k = calculus::smaller(m, n);
-    let p = given::vector_curve(m, a);
-    let q = given::vector_curve(n, b);
-    let o = given::vector_curve(k, out);
-    given::first(p, given::first(q, o))
-}
-
-// Of one and of a curve of floats, and of the list for one of vectors.
-fn given_weighted(m: usize, a: usize, n: usize, b: usize, out: usize) -> u8
-    ensures { λ r. ⌜ r ≡ first (vectorCurveGiven m a) (first (curveGiven n b) (vectorCurveGiven (min m n) out)) ⌝ }
-{
-    let k = calculus::smaller(m, n);
-    let p = given::vector_curve(m, a);
-    let q = given::curve(n, b);
-    let o = given::vector_curve(k, out);
-    given::first(p, given::first(q, o))
-}
-
-// Of two, and of the list for a curve of floats.
-fn given_dot(m: usize, a: usize, n: usize, b: usize, out: usize) -> u8
-    ensures { λ r. ⌜ r ≡ first (vectorCurveGiven m a) (first (vectorCurveGiven n b) (curveGiven (min m n) out)) ⌝ }
-{
-    let k = calculus::smaller(m, n);
-    let p = given::vector_curve(m, a);
-    let q = given::vector_curve(n, b);
-    let o = given::curve(k, out);
-    given::first(p, given::first(q, o))
-}
-
 fn on_two(
     op: VectorOperation,
     a_order: usize,
@@ -97,7 +64,16 @@ fn on_two(
 ) -> u8
     ensures { λ r. ⌜ _≡_ {A = ℕ × List Float} (r, now (out .exit)) (onTwo vectorCurves vectorCurves toVectorCurve (vectorCurveOperation op) «a_order» (now (a .entry)) «b_order» (now (b .entry)) (now (out .entry))) ⌝ }
 {
-    let t = given_two(a_order, a.len(), b_order, b.len(), out.len());
+    let t = given::two(
+        Shape::VectorCurve,
+        a_order,
+        a.len(),
+        Shape::VectorCurve,
+        b_order,
+        b.len(),
+        Shape::VectorCurve,
+        out.len(),
+    );
     if t != 0 {
         return t;
     }
@@ -117,7 +93,16 @@ fn on_weighted(
 ) -> u8
     ensures { λ r. ⌜ _≡_ {A = ℕ × List Float} (r, now (out .exit)) (onTwo vectorCurves curves toVectorCurve (weightedCurveOperation op) «a_order» (now (a .entry)) «b_order» (now (b .entry)) (now (out .entry))) ⌝ }
 {
-    let t = given_weighted(a_order, a.len(), b_order, b.len(), out.len());
+    let t = given::two(
+        Shape::VectorCurve,
+        a_order,
+        a.len(),
+        Shape::Curve,
+        b_order,
+        b.len(),
+        Shape::VectorCurve,
+        out.len(),
+    );
     if t != 0 {
         return t;
     }
@@ -125,46 +110,6 @@ fn on_weighted(
     let y = lists::curve(b_order, b);
     let r = work_weighted(op, x, y);
     deliver::vector_curve(r, out)
-}
-
-// The test of a curve of vectors and of the list for one of the order k.
-fn given_one(n: usize, a: usize, k: usize, out: usize) -> u8
-    ensures { λ r. ⌜ r ≡ first (vectorCurveGiven n a) (vectorCurveGiven k out) ⌝ }
-{
-    let p = given::vector_curve(n, a);
-    let o = given::vector_curve(k, out);
-    given::first(p, o)
-}
-
-// Of one, and of the list for a curve of floats of its order.
-fn given_norm(n: usize, a: usize, out: usize) -> u8
-    ensures { λ r. ⌜ r ≡ first (vectorCurveGiven n a) (curveGiven n out) ⌝ }
-{
-    let p = given::vector_curve(n, a);
-    let o = given::curve(n, out);
-    given::first(p, o)
-}
-
-// The test of two curves of vectors, of an order asked, and of the list for so many floats as are due.
-fn given_entry(m: usize, a: usize, n: usize, b: usize, k: usize, due: usize, out: usize) -> u8
-    ensures { λ r. ⌜ r ≡ first (vectorCurveGiven m a) (first (vectorCurveGiven n b) (first (orderGiven k) (countGiven due out))) ⌝ }
-{
-    let p = given::vector_curve(m, a);
-    let q = given::vector_curve(n, b);
-    let o = given::order(k);
-    let l = given::count(due, out);
-    given::first(p, given::first(q, given::first(o, l)))
-}
-
-// Of one and of a curve of floats, of an order asked, and of the list for one vector.
-fn given_weighted_entry(m: usize, a: usize, n: usize, b: usize, k: usize, out: usize) -> u8
-    ensures { λ r. ⌜ r ≡ first (vectorCurveGiven m a) (first (curveGiven n b) (first (orderGiven k) (countGiven 3 out))) ⌝ }
-{
-    let p = given::vector_curve(m, a);
-    let q = given::curve(n, b);
-    let o = given::order(k);
-    let l = given::count(3, out);
-    given::first(p, given::first(q, given::first(o, l)))
 }
 
 #[no_mangle]
@@ -202,7 +147,14 @@ pub extern "C" fn sugamdely_vector_curve_derivative(
     ensures { λ r. ⌜ _≡_ {A = ℕ × List Float} (r, now (out .exit)) (onOne vectorCurves toVectorCurve («a_order» - 1) vectorDerivative «a_order» (now (a .entry)) (now (out .entry))) ⌝ }
 {
     let k = given::lower(a_order);
-    let t = given_one(a_order, a.len(), k, out.len());
+    let t = given::one(
+        Shape::VectorCurve,
+        a_order,
+        a.len(),
+        Shape::VectorCurve,
+        k,
+        out.len(),
+    );
     if t != 0 {
         return t;
     }
@@ -237,7 +189,19 @@ pub extern "C" fn sugamdely_curve_combinatorial_derivative_scaled(
 ) -> u8
     ensures { λ r. ⌜ _≡_ {A = ℕ × List Float} (r, now (out .exit)) (onTwoAt vectorCurves curves toVector m (λ x y. onWeightedAt (productBy vectors multiple) x y m) «a_order» (now (a .entry)) «b_order» (now (b .entry)) (now (out .entry))) ⌝ }
 {
-    let t = given_weighted_entry(a_order, a.len(), b_order, b.len(), m, out.len());
+    let asked = given::order(m);
+    let t = given::two_at(
+        Shape::VectorCurve,
+        a_order,
+        a.len(),
+        Shape::Curve,
+        b_order,
+        b.len(),
+        asked,
+        Shape::Vector,
+        0,
+        out.len(),
+    );
     if t != 0 {
         return t;
     }
@@ -259,7 +223,19 @@ pub extern "C" fn sugamdely_curve_combinatorial_derivative_dot(
 ) -> u8
     ensures { λ r. ⌜ _≡_ {A = ℕ × List Float} (r, now (out .exit)) (onTwoAt vectorCurves vectorCurves toFloat m (λ x y. onVectorsAt RealRefused (λ p q k. returned (productBy (regular real) dot p q k)) x y m) «a_order» (now (a .entry)) «b_order» (now (b .entry)) (now (out .entry))) ⌝ }
 {
-    let t = given_entry(a_order, a.len(), b_order, b.len(), m, 1, out.len());
+    let asked = given::order(m);
+    let t = given::two_at(
+        Shape::VectorCurve,
+        a_order,
+        a.len(),
+        Shape::VectorCurve,
+        b_order,
+        b.len(),
+        asked,
+        Shape::Number,
+        0,
+        out.len(),
+    );
     if t != 0 {
         return t;
     }
@@ -281,7 +257,19 @@ pub extern "C" fn sugamdely_curve_combinatorial_derivative_cross(
 ) -> u8
     ensures { λ r. ⌜ _≡_ {A = ℕ × List Float} (r, now (out .exit)) (onTwoAt vectorCurves vectorCurves toVector m (λ x y. onVectorsAt Refused (λ p q k. returnedVector (productBy vectors cross p q k)) x y m) «a_order» (now (a .entry)) «b_order» (now (b .entry)) (now (out .entry))) ⌝ }
 {
-    let t = given_entry(a_order, a.len(), b_order, b.len(), m, 3, out.len());
+    let asked = given::order(m);
+    let t = given::two_at(
+        Shape::VectorCurve,
+        a_order,
+        a.len(),
+        Shape::VectorCurve,
+        b_order,
+        b.len(),
+        asked,
+        Shape::Vector,
+        0,
+        out.len(),
+    );
     if t != 0 {
         return t;
     }
@@ -314,7 +302,16 @@ pub extern "C" fn sugamdely_curve_combinatorial_derivatives_dot(
 ) -> u8
     ensures { λ r. ⌜ _≡_ {A = ℕ × List Float} (r, now (out .exit)) (onTwo vectorCurves vectorCurves toCurve (onVectors refusedCurve (byNumberFormula (productBy (regular real) dot))) «a_order» (now (a .entry)) «b_order» (now (b .entry)) (now (out .entry))) ⌝ }
 {
-    let t = given_dot(a_order, a.len(), b_order, b.len(), out.len());
+    let t = given::two(
+        Shape::VectorCurve,
+        a_order,
+        a.len(),
+        Shape::VectorCurve,
+        b_order,
+        b.len(),
+        Shape::Curve,
+        out.len(),
+    );
     if t != 0 {
         return t;
     }
@@ -346,7 +343,14 @@ pub extern "C" fn sugamdely_curve_absolute_derivatives(
 ) -> u8
     ensures { λ r. ⌜ _≡_ {A = ℕ × List Float} (r, now (out .exit)) (onOne vectorCurves toCurve «a_order» vectorAbsolute «a_order» (now (a .entry)) (now (out .entry))) ⌝ }
 {
-    let t = given_norm(a_order, a.len(), out.len());
+    let t = given::one(
+        Shape::VectorCurve,
+        a_order,
+        a.len(),
+        Shape::Curve,
+        a_order,
+        out.len(),
+    );
     if t != 0 {
         return t;
     }

@@ -15,7 +15,6 @@ ghost use Rattle.derivatives.specs.Vector.{vectors};
 ghost use Rattle.derivatives.specs.VectorSurfaceAnswer.{onVectorSurfaces, onWeightedSurface, bySurfaceVectors, bySurfaceWeights, vectorSurfaceQuotient, vectorSurfaceDot, onVectorSurfacesAt, onWeightedSurfaceAt, vectorSurfaceDerivative};
 ghost use Rattle.derivatives.specs.VectorSurfaceNorm.{vectorSurfaceAbsolute};
 ghost use Rattle.derivatives.specs.VectorComposite.{carriedVector, carriedVectors};
-ghost use Rattle.given.specs.Given.{first, orderGiven, countGiven, surfaceGiven, parameterGiven, vectorCurveGiven, vectorSurfaceGiven};
 ghost use Rattle.given.specs.Lists.{onTwo, onTwoAt, onOne};
 ghost use Rattle.capi_floats.specs.Lists.{surface as surfaces, parameter as parameters, toSurface, toFloat, toVector};
 ghost use Rattle.capi_vectors.specs.Lists.{vectorSurface as vectorSurfaces, toVectorCurve, toVectorSurface};
@@ -29,6 +28,7 @@ use derivatives::SurfaceDerivatives;
 use derivatives::VectorSurfaceAnswer;
 use derivatives::VectorSurfaceDerivatives;
 use derivatives::lists;
+use given::Shape;
 
 fn work(
     op: VectorOperation,
@@ -66,39 +66,6 @@ fn derived(by: By, a: VectorSurfaceDerivatives) -> VectorSurfaceAnswer
     }
 }
 
-// The test of two surfaces of vectors and of the list for a third, by the orders and the lengths.
-fn given_two(m: usize, a: usize, n: usize, b: usize, out: usize) -> u8
-    ensures { λ r. ⌜ r ≡ first (vectorSurfaceGiven m a) (first (vectorSurfaceGiven n b) (vectorSurfaceGiven (min m n) out)) ⌝ }
-{
-    let k = calculus::smaller(m, n);
-    let p = given::vector_surface(m, a);
-    let q = given::vector_surface(n, b);
-    let o = given::vector_surface(k, out);
-    given::first(p, given::first(q, o))
-}
-
-// Of one and of a surface of floats, and of the list for one of vectors.
-fn given_weighted(m: usize, a: usize, n: usize, b: usize, out: usize) -> u8
-    ensures { λ r. ⌜ r ≡ first (vectorSurfaceGiven m a) (first (surfaceGiven n b) (vectorSurfaceGiven (min m n) out)) ⌝ }
-{
-    let k = calculus::smaller(m, n);
-    let p = given::vector_surface(m, a);
-    let q = given::surface(n, b);
-    let o = given::vector_surface(k, out);
-    given::first(p, given::first(q, o))
-}
-
-// Of two, and of the list for a surface of floats.
-fn given_dot(m: usize, a: usize, n: usize, b: usize, out: usize) -> u8
-    ensures { λ r. ⌜ r ≡ first (vectorSurfaceGiven m a) (first (vectorSurfaceGiven n b) (surfaceGiven (min m n) out)) ⌝ }
-{
-    let k = calculus::smaller(m, n);
-    let p = given::vector_surface(m, a);
-    let q = given::vector_surface(n, b);
-    let o = given::surface(k, out);
-    given::first(p, given::first(q, o))
-}
-
 fn on_two(
     op: VectorOperation,
     a_order: usize,
@@ -109,7 +76,16 @@ fn on_two(
 ) -> u8
     ensures { λ r. ⌜ _≡_ {A = ℕ × List Float} (r, now (out .exit)) (onTwo vectorSurfaces vectorSurfaces toVectorSurface (vectorSurfaceOperation op) «a_order» (now (a .entry)) «b_order» (now (b .entry)) (now (out .entry))) ⌝ }
 {
-    let t = given_two(a_order, a.len(), b_order, b.len(), out.len());
+    let t = given::two(
+        Shape::VectorSurface,
+        a_order,
+        a.len(),
+        Shape::VectorSurface,
+        b_order,
+        b.len(),
+        Shape::VectorSurface,
+        out.len(),
+    );
     if t != 0 {
         return t;
     }
@@ -129,7 +105,16 @@ fn on_weighted(
 ) -> u8
     ensures { λ r. ⌜ _≡_ {A = ℕ × List Float} (r, now (out .exit)) (onTwo vectorSurfaces surfaces toVectorSurface (weightedSurfaceOperation op) «a_order» (now (a .entry)) «b_order» (now (b .entry)) (now (out .entry))) ⌝ }
 {
-    let t = given_weighted(a_order, a.len(), b_order, b.len(), out.len());
+    let t = given::two(
+        Shape::VectorSurface,
+        a_order,
+        a.len(),
+        Shape::Surface,
+        b_order,
+        b.len(),
+        Shape::VectorSurface,
+        out.len(),
+    );
     if t != 0 {
         return t;
     }
@@ -139,96 +124,24 @@ fn on_weighted(
     deliver::vector_surface(r, out)
 }
 
-// The test of a surface of vectors and of the list for one of the order k.
-fn given_one(n: usize, a: usize, k: usize, out: usize) -> u8
-    ensures { λ r. ⌜ r ≡ first (vectorSurfaceGiven n a) (vectorSurfaceGiven k out) ⌝ }
-{
-    let p = given::vector_surface(n, a);
-    let o = given::vector_surface(k, out);
-    given::first(p, o)
-}
-
-// Of one, and of the list for a surface of floats of its order.
-fn given_norm(n: usize, a: usize, out: usize) -> u8
-    ensures { λ r. ⌜ r ≡ first (vectorSurfaceGiven n a) (surfaceGiven n out) ⌝ }
-{
-    let p = given::vector_surface(n, a);
-    let o = given::surface(n, out);
-    given::first(p, o)
-}
-
 fn derivative(by: By, a_order: usize, a: &[f64], out: &mut [f64]) -> u8
     ensures { λ r. ⌜ _≡_ {A = ℕ × List Float} (r, now (out .exit)) (onOne vectorSurfaces toVectorSurface («a_order» - 1) (vectorSurfaceDerivative (derivativeBy by)) «a_order» (now (a .entry)) (now (out .entry))) ⌝ }
 {
     let k = given::lower(a_order);
-    let t = given_one(a_order, a.len(), k, out.len());
+    let t = given::one(
+        Shape::VectorSurface,
+        a_order,
+        a.len(),
+        Shape::VectorSurface,
+        k,
+        out.len(),
+    );
     if t != 0 {
         return t;
     }
     let x = lists::vector_surface(a_order, a);
     let r = derived(by, x);
     deliver::vector_surface(r, out)
-}
-
-// The test of two surfaces of vectors, of the orders asked, and of the list for so many floats as are due.
-fn given_entry(
-    m: usize,
-    a: usize,
-    n: usize,
-    b: usize,
-    i: usize,
-    j: usize,
-    due: usize,
-    out: usize,
-) -> u8
-    ensures { λ r. ⌜ r ≡ first (vectorSurfaceGiven m a) (first (vectorSurfaceGiven n b) (first (orderGiven (i + j)) (countGiven due out))) ⌝ }
-{
-    let p = given::vector_surface(m, a);
-    let q = given::vector_surface(n, b);
-    let o = given::order_sum(i, j);
-    let l = given::count(due, out);
-    given::first(p, given::first(q, given::first(o, l)))
-}
-
-// Of one and of a surface of floats, of the orders asked, and of the list for one vector.
-fn given_weighted_entry(
-    m: usize,
-    a: usize,
-    n: usize,
-    b: usize,
-    i: usize,
-    j: usize,
-    out: usize,
-) -> u8
-    ensures { λ r. ⌜ r ≡ first (vectorSurfaceGiven m a) (first (surfaceGiven n b) (first (orderGiven (i + j)) (countGiven 3 out))) ⌝ }
-{
-    let p = given::vector_surface(m, a);
-    let q = given::surface(n, b);
-    let o = given::order_sum(i, j);
-    let l = given::count(3, out);
-    given::first(p, given::first(q, given::first(o, l)))
-}
-
-// The test of a surface of vectors, of a curve in its parameters, of an order asked, and of the list for one vector.
-fn given_carry_entry(m: usize, a: usize, n: usize, c: usize, k: usize, out: usize) -> u8
-    ensures { λ r. ⌜ r ≡ first (vectorSurfaceGiven m a) (first (parameterGiven n c) (first (orderGiven k) (countGiven 3 out))) ⌝ }
-{
-    let p = given::vector_surface(m, a);
-    let q = given::parameter(n, c);
-    let o = given::order(k);
-    let l = given::count(3, out);
-    given::first(p, given::first(q, given::first(o, l)))
-}
-
-// With the list for a curve of vectors of that order.
-fn given_carry(m: usize, a: usize, n: usize, c: usize, k: usize, out: usize) -> u8
-    ensures { λ r. ⌜ r ≡ first (vectorSurfaceGiven m a) (first (parameterGiven n c) (first (orderGiven k) (vectorCurveGiven k out))) ⌝ }
-{
-    let p = given::vector_surface(m, a);
-    let q = given::parameter(n, c);
-    let o = given::order(k);
-    let l = given::vector_curve(k, out);
-    given::first(p, given::first(q, given::first(o, l)))
 }
 
 #[no_mangle]
@@ -306,7 +219,19 @@ pub extern "C" fn sugamdely_surface_combinatorial_derivative_scaled(
 ) -> u8
     ensures { λ r. ⌜ _≡_ {A = ℕ × List Float} (r, now (out .exit)) (onTwoAt vectorSurfaces surfaces toVector (m + n) (λ x y. onWeightedSurfaceAt (productBy vectors multiple) x y m n) «a_order» (now (a .entry)) «b_order» (now (b .entry)) (now (out .entry))) ⌝ }
 {
-    let t = given_weighted_entry(a_order, a.len(), b_order, b.len(), m, n, out.len());
+    let asked = given::order_sum(m, n);
+    let t = given::two_at(
+        Shape::VectorSurface,
+        a_order,
+        a.len(),
+        Shape::Surface,
+        b_order,
+        b.len(),
+        asked,
+        Shape::Vector,
+        0,
+        out.len(),
+    );
     if t != 0 {
         return t;
     }
@@ -329,7 +254,19 @@ pub extern "C" fn sugamdely_surface_combinatorial_derivative_dot(
 ) -> u8
     ensures { λ r. ⌜ _≡_ {A = ℕ × List Float} (r, now (out .exit)) (onTwoAt vectorSurfaces vectorSurfaces toFloat (m + n) (λ x y. onVectorSurfacesAt RealRefused (λ p q i j. returned (productBy (regular real) dot p q i j)) x y m n) «a_order» (now (a .entry)) «b_order» (now (b .entry)) (now (out .entry))) ⌝ }
 {
-    let t = given_entry(a_order, a.len(), b_order, b.len(), m, n, 1, out.len());
+    let asked = given::order_sum(m, n);
+    let t = given::two_at(
+        Shape::VectorSurface,
+        a_order,
+        a.len(),
+        Shape::VectorSurface,
+        b_order,
+        b.len(),
+        asked,
+        Shape::Number,
+        0,
+        out.len(),
+    );
     if t != 0 {
         return t;
     }
@@ -352,7 +289,19 @@ pub extern "C" fn sugamdely_surface_combinatorial_derivative_cross(
 ) -> u8
     ensures { λ r. ⌜ _≡_ {A = ℕ × List Float} (r, now (out .exit)) (onTwoAt vectorSurfaces vectorSurfaces toVector (m + n) (λ x y. onVectorSurfacesAt Refused (λ p q i j. returnedVector (productBy vectors cross p q i j)) x y m n) «a_order» (now (a .entry)) «b_order» (now (b .entry)) (now (out .entry))) ⌝ }
 {
-    let t = given_entry(a_order, a.len(), b_order, b.len(), m, n, 3, out.len());
+    let asked = given::order_sum(m, n);
+    let t = given::two_at(
+        Shape::VectorSurface,
+        a_order,
+        a.len(),
+        Shape::VectorSurface,
+        b_order,
+        b.len(),
+        asked,
+        Shape::Vector,
+        0,
+        out.len(),
+    );
     if t != 0 {
         return t;
     }
@@ -385,7 +334,16 @@ pub extern "C" fn sugamdely_surface_combinatorial_derivatives_dot(
 ) -> u8
     ensures { λ r. ⌜ _≡_ {A = ℕ × List Float} (r, now (out .exit)) (onTwo vectorSurfaces vectorSurfaces toSurface vectorSurfaceDot «a_order» (now (a .entry)) «b_order» (now (b .entry)) (now (out .entry))) ⌝ }
 {
-    let t = given_dot(a_order, a.len(), b_order, b.len(), out.len());
+    let t = given::two(
+        Shape::VectorSurface,
+        a_order,
+        a.len(),
+        Shape::VectorSurface,
+        b_order,
+        b.len(),
+        Shape::Surface,
+        out.len(),
+    );
     if t != 0 {
         return t;
     }
@@ -417,7 +375,14 @@ pub extern "C" fn sugamdely_surface_absolute_derivatives(
 ) -> u8
     ensures { λ r. ⌜ _≡_ {A = ℕ × List Float} (r, now (out .exit)) (onOne vectorSurfaces toSurface «a_order» vectorSurfaceAbsolute «a_order» (now (a .entry)) (now (out .entry))) ⌝ }
 {
-    let t = given_norm(a_order, a.len(), out.len());
+    let t = given::one(
+        Shape::VectorSurface,
+        a_order,
+        a.len(),
+        Shape::Surface,
+        a_order,
+        out.len(),
+    );
     if t != 0 {
         return t;
     }
@@ -438,7 +403,19 @@ pub extern "C" fn sugamdely_vector_composite_derivative(
 ) -> u8
     ensures { λ r. ⌜ _≡_ {A = ℕ × List Float} (r, now (out .exit)) (onTwoAt vectorSurfaces parameters toVector n (λ x y. carriedVector x y n) «a_order» (now (a .entry)) «c_order» (now (c .entry)) (now (out .entry))) ⌝ }
 {
-    let t = given_carry_entry(a_order, a.len(), c_order, c.len(), n, out.len());
+    let asked = given::order(n);
+    let t = given::two_at(
+        Shape::VectorSurface,
+        a_order,
+        a.len(),
+        Shape::Parameter,
+        c_order,
+        c.len(),
+        asked,
+        Shape::Vector,
+        0,
+        out.len(),
+    );
     if t != 0 {
         return t;
     }
@@ -460,7 +437,19 @@ pub extern "C" fn sugamdely_vector_composite_derivatives(
 ) -> u8
     ensures { λ r. ⌜ _≡_ {A = ℕ × List Float} (r, now (out .exit)) (onTwoAt vectorSurfaces parameters toVectorCurve n (λ x y. carriedVectors x y n) «a_order» (now (a .entry)) «c_order» (now (c .entry)) (now (out .entry))) ⌝ }
 {
-    let t = given_carry(a_order, a.len(), c_order, c.len(), n, out.len());
+    let asked = given::order(n);
+    let t = given::two_at(
+        Shape::VectorSurface,
+        a_order,
+        a.len(),
+        Shape::Parameter,
+        c_order,
+        c.len(),
+        asked,
+        Shape::VectorCurve,
+        n,
+        out.len(),
+    );
     if t != 0 {
         return t;
     }

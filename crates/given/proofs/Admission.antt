@@ -45,6 +45,10 @@ module _ {T J K A : Type 0} (X : Input T J) (Y : Input T K) (Z : Output T A) (op
     unfolding onTwoAt
     two-worked-at h p q w v = allowed out e h (v ∙ ap (λ (r : A). Z .deliver r out) (w ∙ ap₂ op p q))
 
+-- the test of an order asked, as a number of its own
+pub asked-at : (p q o : ℕ) {x y t : ℕ} → x ≡ y → t ≡ first p (first q (first x o)) → t ≡ first p (first q (first y o))
+asked-at p q o h e = e ∙ ap (λ (x : ℕ). first p (first q (first x o))) h
+
 module _ {T J A : Type 0} (X : Input T J) (Z : Output T A) (k : ℕ) (op : J → A) (n : ℕ) (a out : List T) where
   module _ {t : ℕ} (e : t ≡ first (X .given n (length a)) (Z .given k (length out))) where
     pub one-refused : ¬ (t ≡ 0) → pair t out ≡ onOne X Z k op n a out

@@ -4,6 +4,8 @@ use mathlib.Core.Bool.{cond}
 use Prim.Native.Nat.{ℕ, suc, _*_, min}
 use lib.Dec.{ltb, eqb}
 use Rattle.calculus.specs.Graded.{triangle}
+use Rattle.given.specs.declared.Shape.{Shape}
+use Rattle.given.specs.declared.Shape.the-variants as shape
 
 -- the first refusal of two, in document 01's order: 1 before 2
 unfoldable pub first : ℕ → ℕ → ℕ
@@ -35,3 +37,15 @@ vectorCurveGiven = listGiven (λ n. 3 * suc n)
 
 abbrev pub vectorSurfaceGiven : ℕ → ℕ → ℕ
 vectorSurfaceGiven = listGiven (λ n. 3 * triangle (suc n))
+
+-- a list of l numbers for what it holds: a single value, whatever the order, or a jet of the order n
+abbrev pub shapeGiven : Shape → ℕ → ℕ → ℕ
+shapeGiven shape.Number n = countGiven 1
+shapeGiven shape.Vector n = countGiven 3
+shapeGiven shape.Matrix2 n = countGiven 4
+shapeGiven shape.Matrix3 n = countGiven 9
+shapeGiven shape.Curve n = curveGiven n
+shapeGiven shape.Surface n = surfaceGiven n
+shapeGiven shape.Parameter n = parameterGiven n
+shapeGiven shape.VectorCurve n = vectorCurveGiven n
+shapeGiven shape.VectorSurface n = vectorSurfaceGiven n

@@ -1,7 +1,7 @@
 // The tests of what a caller hands over, before any work: 0 where it is fit, 1 for an order above 20, 2 for a list of another length.
 ghost use mathlib.Core.Path.{_≡_};
-ghost use Prim.Native.Nat.{_+_, _-_};
-ghost use Rattle.given.specs.Given.{first as firstOf, orderGiven, countGiven, curveGiven, surfaceGiven, parameterGiven, vectorCurveGiven, vectorSurfaceGiven};
+ghost use Prim.Native.Nat.{_+_, _-_, min};
+ghost use Rattle.given.specs.Given.{first as firstOf, orderGiven, countGiven, curveGiven, surfaceGiven, parameterGiven, vectorCurveGiven, vectorSurfaceGiven, shapeGiven};
 
 // The order of a derivative: one less, but not below 0.
 pub fn lower(n: usize) -> usize
@@ -94,4 +94,74 @@ pub fn vector_surface(n: usize, l: usize) -> u8
     }
     let k = calculus::surface_count(n);
     count(3 * k, l)
+}
+
+// What a list holds: a single value, or a jet.
+pub enum Shape {
+    Number,
+    Vector,
+    Matrix2,
+    Matrix3,
+    Curve,
+    Surface,
+    Parameter,
+    VectorCurve,
+    VectorSurface,
+}
+
+// A list of l numbers, as a jet of the order n or as a single value.
+pub fn list(s: Shape, n: usize, l: usize) -> u8
+    ensures { λ r. ⌜ r ≡ shapeGiven s n l ⌝ }
+{
+    match s {
+        Shape::Number => count(1, l),
+        Shape::Vector => count(3, l),
+        Shape::Matrix2 => count(4, l),
+        Shape::Matrix3 => count(9, l),
+        Shape::Curve => curve(n, l),
+        Shape::Surface => surface(n, l),
+        Shape::Parameter => parameter(n, l),
+        Shape::VectorCurve => vector_curve(n, l),
+        Shape::VectorSurface => vector_surface(n, l),
+    }
+}
+
+// A list, and the one lent for an answer of the order k.
+pub fn one(a: Shape, m: usize, x: usize, o: Shape, k: usize, out: usize) -> u8
+    ensures { λ r. ⌜ r ≡ firstOf (shapeGiven a m x) (shapeGiven o k out) ⌝ }
+{
+    let p = list(a, m, x);
+    let r = list(o, k, out);
+    first(p, r)
+}
+
+// Two lists, and the one lent for an answer of the smaller order.
+pub fn two(a: Shape, m: usize, x: usize, b: Shape, n: usize, y: usize, o: Shape, out: usize) -> u8
+    ensures { λ r. ⌜ r ≡ firstOf (shapeGiven a m x) (firstOf (shapeGiven b n y) (shapeGiven o (min m n) out)) ⌝ }
+{
+    let p = list(a, m, x);
+    let k = calculus::smaller(m, n);
+    let rest = one(b, n, y, o, k, out);
+    first(p, rest)
+}
+
+// Two lists, the test of an order asked, and the list lent for an answer of the order k.
+pub fn two_at(
+    a: Shape,
+    m: usize,
+    x: usize,
+    b: Shape,
+    n: usize,
+    y: usize,
+    asked: u8,
+    o: Shape,
+    k: usize,
+    out: usize,
+) -> u8
+    ensures { λ r. ⌜ r ≡ firstOf (shapeGiven a m x) (firstOf (shapeGiven b n y) (firstOf asked (shapeGiven o k out))) ⌝ }
+{
+    let p = list(a, m, x);
+    let q = list(b, n, y);
+    let r = list(o, k, out);
+    first(p, first(q, first(asked, r)))
 }

@@ -2,17 +2,20 @@
 use denote.Ref.{now}
 use Rattle.derivatives.specs.Composite.{alongCurve}
 use Rattle.capi_floats.specs.Lists.{surface, parameter, toCurve}
-use Rattle.given.proofs.Admission.{two-refused-at, two-worked-at}
+use Rattle.given.proofs.Admission.{asked-at, two-refused-at, two-worked-at}
 use borrow.Author.Needs.{needs}
 use Rattle.capi_floats.proofs.surfaces.sugamdely_composite_derivatives.Statement.{statement}
 use Rattle.capi_floats.proofs.surfaces.sugamdely_composite_derivatives.Tie as tie
 
-given-carry-requires : tie.Need-given-carry-requires
-given-carry-requires c κs = search needs
+order-requires : tie.Need-order-requires
+order-requires c κs = search needs
+
+two-at-requires : tie.Need-two-at-requires
+two-at-requires c κs = search needs
 
 returns : tie.Need-returns
-returns c = let s = c .before .before .before .before .before .args in
-    two-refused-at surface parameter toCurve (λ x y. alongCurve x y (s .n)) (s .a-order) (now (s .a)) (s .c-order) (now (s .c)) (now (s .out)) (s .n) (c .before .given-carry .ensures) (c .if1 .taken)
+returns c = let s = c .before .before .before .before .before .before .args in
+    two-refused-at surface parameter toCurve (λ x y. alongCurve x y (s .n)) (s .a-order) (now (s .a)) (s .c-order) (now (s .c)) (now (s .out)) (s .n) (asked-at _ _ _ (c .before .before .order .ensures) (c .before .two-at .ensures)) (c .if1 .taken)
 
 surface-requires : tie.Need-surface-requires
 surface-requires c κs = search needs
@@ -30,8 +33,8 @@ same-length : tie.Need-same-length
 same-length c = search needs
 
 returns-2 : tie.Need-returns-2
-returns-2 c = let s = c .before .before .before .before .before .before .before .before .before .before .before .before .args in
-    two-worked-at surface parameter toCurve (λ x y. alongCurve x y (s .n)) (s .a-order) (now (s .a)) (s .c-order) (now (s .c)) (now (s .out)) (s .n) (c .before .before .before .before .before .before .before .before .given-carry .ensures) (c .before .before .before .before .before .before .before .if1 .left) (c .before .before .before .before .before .before .surface .ensures) (c .before .before .before .before .before .parameter .ensures) (c .before .before .before .before .composite-derivatives .ensures) (c .before .before .curve .ensures)
+returns-2 c = let s = c .before .before .before .before .before .before .before .before .before .before .before .before .before .args in
+    two-worked-at surface parameter toCurve (λ x y. alongCurve x y (s .n)) (s .a-order) (now (s .a)) (s .c-order) (now (s .c)) (now (s .out)) (s .n) (asked-at _ _ _ (c .before .before .before .before .before .before .before .before .before .order .ensures) (c .before .before .before .before .before .before .before .before .two-at .ensures)) (c .before .before .before .before .before .before .before .if1 .left) (c .before .before .before .before .before .before .surface .ensures) (c .before .before .before .before .before .parameter .ensures) (c .before .before .before .before .composite-derivatives .ensures) (c .before .before .curve .ensures)
 
 pub sugamdely-composite-derivatives-spec : {M : Type 1} → statement M
-sugamdely-composite-derivatives-spec = tie.close (tie.spec given-carry-requires returns surface-requires parameter-requires composite-derivatives-requires curve-requires same-length returns-2)
+sugamdely-composite-derivatives-spec = tie.close (tie.spec order-requires two-at-requires returns surface-requires parameter-requires composite-derivatives-requires curve-requires same-length returns-2)

@@ -8,12 +8,12 @@ use borrow.Author.Needs.{needs}
 use Rattle.capi_floats.proofs.values.on_scalar.Statement.{statement}
 use Rattle.capi_floats.proofs.values.on_scalar.Tie as tie
 
-given-one-requires : tie.Need-given-one-requires
-given-one-requires c κs = search needs
+one-requires : tie.Need-one-requires
+one-requires c κs = search needs
 
 returns : tie.Need-returns
 returns c = let s = c .before .before .before .before .args in
-    one-refused aVector toVector 0 (scalarOperation (s .op) (s .s)) 0 (now (s .a)) (now (s .out)) (c .before .given-one .ensures) (c .if1 .taken)
+    one-refused aVector toVector 0 (scalarOperation (s .op) (s .s)) 0 (now (s .a)) (now (s .out)) (c .before .one .ensures) (c .if1 .taken)
 
 vector-requires : tie.Need-vector-requires
 vector-requires c κs = search needs
@@ -29,7 +29,7 @@ same-length c = search needs
 
 returns-2 : tie.Need-returns-2
 returns-2 c = let s = c .before .before .before .before .before .before .before .before .before .before .args in
-    one-worked aVector toVector 0 (scalarOperation (s .op) (s .s)) 0 (now (s .a)) (now (s .out)) (c .before .before .before .before .before .before .before .given-one .ensures) (c .before .before .before .before .before .before .if1 .left) (c .before .before .before .before .before .vector .ensures) (c .before .before .before .before .work-scalar .ensures) (c .before .before .vector2 .ensures)
+    one-worked aVector toVector 0 (scalarOperation (s .op) (s .s)) 0 (now (s .a)) (now (s .out)) (c .before .before .before .before .before .before .before .one .ensures) (c .before .before .before .before .before .before .if1 .left) (c .before .before .before .before .before .vector .ensures) (c .before .before .before .before .work-scalar .ensures) (c .before .before .vector2 .ensures)
 
 pub on-scalar-spec : {M : Type 1} → statement M
-on-scalar-spec = tie.close (tie.spec given-one-requires returns vector-requires work-scalar-requires vector-requires-2 same-length returns-2)
+on-scalar-spec = tie.close (tie.spec one-requires returns vector-requires work-scalar-requires vector-requires-2 same-length returns-2)

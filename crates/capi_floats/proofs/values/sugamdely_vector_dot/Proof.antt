@@ -11,12 +11,12 @@ use borrow.Author.Needs.{needs}
 use Rattle.capi_floats.proofs.values.sugamdely_vector_dot.Statement.{statement}
 use Rattle.capi_floats.proofs.values.sugamdely_vector_dot.Tie as tie
 
-given-two-requires : tie.Need-given-two-requires
-given-two-requires c κs = search needs
+two-requires : tie.Need-two-requires
+two-requires c κs = search needs
 
 returns : tie.Need-returns
 returns c = let s = c .before .before .before .before .before .args in
-    two-refused aVector aVector toFloat (λ x y. realFrom (finiteVector x && finiteVector y) (dot x y)) 0 (now (s .a)) 0 (now (s .b)) (now (s .out)) (c .before .given-two .ensures) (c .if1 .taken)
+    two-refused aVector aVector toFloat (λ x y. realFrom (finiteVector x && finiteVector y) (dot x y)) 0 (now (s .a)) 0 (now (s .b)) (now (s .out)) (c .before .two .ensures) (c .if1 .taken)
 
 vector-requires : tie.Need-vector-requires
 vector-requires c κs = search needs
@@ -35,7 +35,7 @@ same-length c = search needs
 
 returns-2 : tie.Need-returns-2
 returns-2 c = let s = c .before .before .before .before .before .before .before .before .before .before .before .before .args in
-    two-worked aVector aVector toFloat (λ x y. realFrom (finiteVector x && finiteVector y) (dot x y)) 0 (now (s .a)) 0 (now (s .b)) (now (s .out)) (c .before .before .before .before .before .before .before .before .given-two .ensures) (c .before .before .before .before .before .before .before .if1 .left) (c .before .before .before .before .before .before .vector .ensures) (c .before .before .before .before .before .vector2 .ensures) (c .before .before .before .before .vector-dot .ensures) (c .before .before .float .ensures)
+    two-worked aVector aVector toFloat (λ x y. realFrom (finiteVector x && finiteVector y) (dot x y)) 0 (now (s .a)) 0 (now (s .b)) (now (s .out)) (c .before .before .before .before .before .before .before .before .two .ensures) (c .before .before .before .before .before .before .before .if1 .left) (c .before .before .before .before .before .before .vector .ensures) (c .before .before .before .before .before .vector2 .ensures) (c .before .before .before .before .vector-dot .ensures) (c .before .before .float .ensures)
 
 pub sugamdely-vector-dot-spec : {M : Type 1} → statement M
-sugamdely-vector-dot-spec = tie.close (tie.spec given-two-requires returns vector-requires vector-requires-2 vector-dot-requires float-requires same-length returns-2)
+sugamdely-vector-dot-spec = tie.close (tie.spec two-requires returns vector-requires vector-requires-2 vector-dot-requires float-requires same-length returns-2)

@@ -8,8 +8,8 @@ use borrow.Author.Needs.{needs}
 use Rattle.capi_vectors.proofs.vector_curves.sugamdely_curve_absolute_derivatives.Statement.{statement}
 use Rattle.capi_vectors.proofs.vector_curves.sugamdely_curve_absolute_derivatives.Tie as tie
 
-given-norm-requires : tie.Need-given-norm-requires
-given-norm-requires c κs = search needs
+one-requires : tie.Need-one-requires
+one-requires c κs = search needs
 
 returns : tie.Need-returns
 returns c = let s = c .before .before .before .before .args in
@@ -17,7 +17,7 @@ returns c = let s = c .before .before .before .before .args in
     let a = now (s .a) in
     let out = now (s .out) in
     one-refused vectorCurve toCurve n vectorAbsolute n a out
-    (c .before .given-norm .ensures) (c .if1 .taken)
+    (c .before .one .ensures) (c .if1 .taken)
 
 vector-curve-requires : tie.Need-vector-curve-requires
 vector-curve-requires c κs = search needs
@@ -37,7 +37,7 @@ returns-2 c = let s = c .before .before .before .before .before .before .before 
     let a = now (s .a) in
     let out = now (s .out) in
     one-worked vectorCurve toCurve n vectorAbsolute n a out
-    (c .before .before .before .before .before .before .before .given-norm .ensures) (c .before .before .before .before .before .before .if1 .left) (c .before .before .before .before .before .vector-curve .ensures) (c .before .before .before .before .absolute-derivatives .ensures) (c .before .before .curve .ensures)
+    (c .before .before .before .before .before .before .before .one .ensures) (c .before .before .before .before .before .before .if1 .left) (c .before .before .before .before .before .vector-curve .ensures) (c .before .before .before .before .absolute-derivatives .ensures) (c .before .before .curve .ensures)
 
 pub sugamdely-curve-absolute-derivatives-spec : {M : Type 1} → statement M
-sugamdely-curve-absolute-derivatives-spec = tie.close (tie.spec given-norm-requires returns vector-curve-requires absolute-derivatives-requires curve-requires same-length returns-2)
+sugamdely-curve-absolute-derivatives-spec = tie.close (tie.spec one-requires returns vector-curve-requires absolute-derivatives-requires curve-requires same-length returns-2)

@@ -13,12 +13,12 @@ use borrow.Author.Needs.{needs}
 use Rattle.capi_vectors.proofs.vector_curves.sugamdely_curve_combinatorial_derivatives_dot.Statement.{statement}
 use Rattle.capi_vectors.proofs.vector_curves.sugamdely_curve_combinatorial_derivatives_dot.Tie as tie
 
-given-dot-requires : tie.Need-given-dot-requires
-given-dot-requires c κs = search needs
+two-requires : tie.Need-two-requires
+two-requires c κs = search needs
 
 returns : tie.Need-returns
 returns c = let s = c .before .before .before .before .before .args in
-    two-refused vectorCurve vectorCurve toCurve (onVectors refusedCurve (byNumberFormula (productBy (regular real) dot))) (s .a-order) (now (s .a)) (s .b-order) (now (s .b)) (now (s .out)) (c .before .given-dot .ensures) (c .if1 .taken)
+    two-refused vectorCurve vectorCurve toCurve (onVectors refusedCurve (byNumberFormula (productBy (regular real) dot))) (s .a-order) (now (s .a)) (s .b-order) (now (s .b)) (now (s .out)) (c .before .two .ensures) (c .if1 .taken)
 
 vector-curve-requires : tie.Need-vector-curve-requires
 vector-curve-requires c κs = search needs
@@ -37,7 +37,7 @@ same-length c = search needs
 
 returns-2 : tie.Need-returns-2
 returns-2 c = let s = c .before .before .before .before .before .before .before .before .before .before .before .before .args in
-    two-worked vectorCurve vectorCurve toCurve (onVectors refusedCurve (byNumberFormula (productBy (regular real) dot))) (s .a-order) (now (s .a)) (s .b-order) (now (s .b)) (now (s .out)) (c .before .before .before .before .before .before .before .before .given-dot .ensures) (c .before .before .before .before .before .before .before .if1 .left) (c .before .before .before .before .before .before .vector-curve .ensures) (c .before .before .before .before .before .vector-curve2 .ensures) (c .before .before .before .before .combinatorial-derivatives-dot .ensures) (c .before .before .curve .ensures)
+    two-worked vectorCurve vectorCurve toCurve (onVectors refusedCurve (byNumberFormula (productBy (regular real) dot))) (s .a-order) (now (s .a)) (s .b-order) (now (s .b)) (now (s .out)) (c .before .before .before .before .before .before .before .before .two .ensures) (c .before .before .before .before .before .before .before .if1 .left) (c .before .before .before .before .before .before .vector-curve .ensures) (c .before .before .before .before .before .vector-curve2 .ensures) (c .before .before .before .before .combinatorial-derivatives-dot .ensures) (c .before .before .curve .ensures)
 
 pub sugamdely-curve-combinatorial-derivatives-dot-spec : {M : Type 1} → statement M
-sugamdely-curve-combinatorial-derivatives-dot-spec = tie.close (tie.spec given-dot-requires returns vector-curve-requires vector-curve-requires-2 combinatorial-derivatives-dot-requires curve-requires same-length returns-2)
+sugamdely-curve-combinatorial-derivatives-dot-spec = tie.close (tie.spec two-requires returns vector-curve-requires vector-curve-requires-2 combinatorial-derivatives-dot-requires curve-requires same-length returns-2)

@@ -8,12 +8,12 @@ use borrow.Author.Needs.{needs}
 use Rattle.capi_vectors.proofs.vector_surfaces.sugamdely_surface_combinatorial_derivatives_dot.Statement.{statement}
 use Rattle.capi_vectors.proofs.vector_surfaces.sugamdely_surface_combinatorial_derivatives_dot.Tie as tie
 
-given-dot-requires : tie.Need-given-dot-requires
-given-dot-requires c κs = search needs
+two-requires : tie.Need-two-requires
+two-requires c κs = search needs
 
 returns : tie.Need-returns
 returns c = let s = c .before .before .before .before .before .args in
-    two-refused vectorSurface vectorSurface toSurface vectorSurfaceDot (s .a-order) (now (s .a)) (s .b-order) (now (s .b)) (now (s .out)) (c .before .given-dot .ensures) (c .if1 .taken)
+    two-refused vectorSurface vectorSurface toSurface vectorSurfaceDot (s .a-order) (now (s .a)) (s .b-order) (now (s .b)) (now (s .out)) (c .before .two .ensures) (c .if1 .taken)
 
 vector-surface-requires : tie.Need-vector-surface-requires
 vector-surface-requires c κs = search needs
@@ -32,7 +32,7 @@ same-length c = search needs
 
 returns-2 : tie.Need-returns-2
 returns-2 c = let s = c .before .before .before .before .before .before .before .before .before .before .before .before .args in
-    two-worked vectorSurface vectorSurface toSurface vectorSurfaceDot (s .a-order) (now (s .a)) (s .b-order) (now (s .b)) (now (s .out)) (c .before .before .before .before .before .before .before .before .given-dot .ensures) (c .before .before .before .before .before .before .before .if1 .left) (c .before .before .before .before .before .before .vector-surface .ensures) (c .before .before .before .before .before .vector-surface2 .ensures) (c .before .before .before .before .combinatorial-derivatives-dot .ensures) (c .before .before .surface .ensures)
+    two-worked vectorSurface vectorSurface toSurface vectorSurfaceDot (s .a-order) (now (s .a)) (s .b-order) (now (s .b)) (now (s .out)) (c .before .before .before .before .before .before .before .before .two .ensures) (c .before .before .before .before .before .before .before .if1 .left) (c .before .before .before .before .before .before .vector-surface .ensures) (c .before .before .before .before .before .vector-surface2 .ensures) (c .before .before .before .before .combinatorial-derivatives-dot .ensures) (c .before .before .surface .ensures)
 
 pub sugamdely-surface-combinatorial-derivatives-dot-spec : {M : Type 1} → statement M
-sugamdely-surface-combinatorial-derivatives-dot-spec = tie.close (tie.spec given-dot-requires returns vector-surface-requires vector-surface-requires-2 combinatorial-derivatives-dot-requires surface-requires same-length returns-2)
+sugamdely-surface-combinatorial-derivatives-dot-spec = tie.close (tie.spec two-requires returns vector-surface-requires vector-surface-requires-2 combinatorial-derivatives-dot-requires surface-requires same-length returns-2)
