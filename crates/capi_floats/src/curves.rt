@@ -1,7 +1,7 @@
 // Curves of floats.
 ghost use mathlib.Core.Path.{_≡_};
 ghost use mathlib.Core.List.{List};
-ghost use Prim.Native.Nat.{ℕ, _-_, min};
+ghost use Prim.Native.Nat.{ℕ, _-_};
 ghost use lib.Ieee.{Float};
 ghost use Rattle.calculus.specs.Kind.{regular};
 ghost use Rattle.calculus.specs.Curve.{sum, difference, product};
@@ -88,8 +88,7 @@ pub extern "C" fn sugamdely_curve_difference(
 pub extern "C" fn sugamdely_curve_derivative(a_order: usize, a: &[f64], out: &mut [f64]) -> u8
     ensures { λ r. ⌜ _≡_ {A = ℕ × List Float} (r, now (out .exit)) (onOne curves toCurve («a_order» - 1) curveDerivative «a_order» (now (a .entry)) (now (out .entry))) ⌝ }
 {
-    let k = given::lower(a_order);
-    let t = given::one(Shape::Curve, a_order, a.len(), Shape::Curve, k, out.len());
+    let t = given::lowered(Shape::Curve, a_order, a.len(), out.len());
     if t != 0 {
         return t;
     }

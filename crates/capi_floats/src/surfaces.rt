@@ -1,7 +1,7 @@
 // Surfaces of floats.
 ghost use mathlib.Core.Path.{_≡_};
 ghost use mathlib.Core.List.{List};
-ghost use Prim.Native.Nat.{ℕ, _+_, _-_, min};
+ghost use Prim.Native.Nat.{ℕ, _+_, _-_};
 ghost use lib.Ieee.{Float};
 ghost use Rattle.calculus.specs.Kind.{regular};
 ghost use Rattle.calculus.specs.Surface.{sum, difference, product, derivativeU, derivativeV};
@@ -72,15 +72,7 @@ fn on_two(
 fn derivative(by: By, a_order: usize, a: &[f64], out: &mut [f64]) -> u8
     ensures { λ r. ⌜ _≡_ {A = ℕ × List Float} (r, now (out .exit)) (onOne surfaces toSurface («a_order» - 1) (surfaceDerivative (derivativeBy by)) «a_order» (now (a .entry)) (now (out .entry))) ⌝ }
 {
-    let k = given::lower(a_order);
-    let t = given::one(
-        Shape::Surface,
-        a_order,
-        a.len(),
-        Shape::Surface,
-        k,
-        out.len(),
-    );
+    let t = given::lowered(Shape::Surface, a_order, a.len(), out.len());
     if t != 0 {
         return t;
     }

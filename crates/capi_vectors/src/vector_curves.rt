@@ -1,7 +1,7 @@
 // Curves of vectors.
 ghost use mathlib.Core.Path.{_≡_};
 ghost use mathlib.Core.List.{List};
-ghost use Prim.Native.Nat.{ℕ, _-_, min};
+ghost use Prim.Native.Nat.{ℕ, _-_};
 ghost use lib.Ieee.{Float};
 ghost use Rattle.ieee.specs.Answer.{returned};
 ghost use Rattle.ieee.specs.declared.Real.the-variants.{Refused as RealRefused};
@@ -146,15 +146,7 @@ pub extern "C" fn sugamdely_vector_curve_derivative(
 ) -> u8
     ensures { λ r. ⌜ _≡_ {A = ℕ × List Float} (r, now (out .exit)) (onOne vectorCurves toVectorCurve («a_order» - 1) vectorDerivative «a_order» (now (a .entry)) (now (out .entry))) ⌝ }
 {
-    let k = given::lower(a_order);
-    let t = given::one(
-        Shape::VectorCurve,
-        a_order,
-        a.len(),
-        Shape::VectorCurve,
-        k,
-        out.len(),
-    );
+    let t = given::lowered(Shape::VectorCurve, a_order, a.len(), out.len());
     if t != 0 {
         return t;
     }

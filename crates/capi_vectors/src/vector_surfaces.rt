@@ -1,7 +1,7 @@
 // Surfaces of vectors.
 ghost use mathlib.Core.Path.{_≡_};
 ghost use mathlib.Core.List.{List};
-ghost use Prim.Native.Nat.{ℕ, _+_, _-_, min};
+ghost use Prim.Native.Nat.{ℕ, _+_, _-_};
 ghost use lib.Ieee.{Float};
 ghost use Rattle.ieee.specs.Answer.{returned};
 ghost use Rattle.ieee.specs.declared.Real.the-variants.{Refused as RealRefused};
@@ -127,15 +127,7 @@ fn on_weighted(
 fn derivative(by: By, a_order: usize, a: &[f64], out: &mut [f64]) -> u8
     ensures { λ r. ⌜ _≡_ {A = ℕ × List Float} (r, now (out .exit)) (onOne vectorSurfaces toVectorSurface («a_order» - 1) (vectorSurfaceDerivative (derivativeBy by)) «a_order» (now (a .entry)) (now (out .entry))) ⌝ }
 {
-    let k = given::lower(a_order);
-    let t = given::one(
-        Shape::VectorSurface,
-        a_order,
-        a.len(),
-        Shape::VectorSurface,
-        k,
-        out.len(),
-    );
+    let t = given::lowered(Shape::VectorSurface, a_order, a.len(), out.len());
     if t != 0 {
         return t;
     }

@@ -135,6 +135,14 @@ pub fn one(a: Shape, m: usize, x: usize, o: Shape, k: usize, out: usize) -> u8
     first(p, r)
 }
 
+// A list, and the one lent for its derivative.
+pub fn lowered(a: Shape, n: usize, x: usize, out: usize) -> u8
+    ensures { λ r. ⌜ r ≡ firstOf (shapeGiven a n x) (shapeGiven a (n - 1) out) ⌝ }
+{
+    let k = lower(n);
+    one(a, n, x, a, k, out)
+}
+
 // Two lists, and the one lent for an answer of the smaller order.
 pub fn two(a: Shape, m: usize, x: usize, b: Shape, n: usize, y: usize, o: Shape, out: usize) -> u8
     ensures { λ r. ⌜ r ≡ firstOf (shapeGiven a m x) (firstOf (shapeGiven b n y) (shapeGiven o (min m n) out)) ⌝ }

@@ -1,29 +1,23 @@
 -- `capi_floats::curves::sugamdely_curve_derivative` meets its contract. Assumes nothing.
-use mathlib.Core.Path.{ap, _∙_}
 use denote.Ref.{now}
-use lib.ListN.{length}
-use Prim.Native.Nat.{ℕ, _-_}
+use Prim.Native.Nat.{_-_}
 use Rattle.derivatives.specs.Answer.{curveDerivative}
-use Rattle.given.specs.Given.{first, curveGiven}
 use Rattle.capi_floats.specs.Lists.{curve, toCurve}
 use Rattle.given.proofs.Admission.{one-refused, one-worked}
 use borrow.Author.Needs.{needs}
 use Rattle.capi_floats.proofs.curves.sugamdely_curve_derivative.Statement.{statement}
 use Rattle.capi_floats.proofs.curves.sugamdely_curve_derivative.Tie as tie
 
-lower-requires : tie.Need-lower-requires
-lower-requires c κs = search needs
-
-one-requires : tie.Need-one-requires
-one-requires c κs = search needs
+lowered-requires : tie.Need-lowered-requires
+lowered-requires c κs = search needs
 
 returns : tie.Need-returns
-returns c = let s = c .before .before .before .before .before .args in
+returns c = let s = c .before .before .before .before .args in
     let n = s .a-order in
     let a = now (s .a) in
     let out = now (s .out) in
     one-refused curve toCurve (n - 1) curveDerivative n a out
-    (c .before .one .ensures ∙ ap (λ (k : ℕ). first (curveGiven n (length a)) (curveGiven k (length out))) (c .before .before .lower .ensures)) (c .if1 .taken)
+    (c .before .lowered .ensures) (c .if1 .taken)
 
 curve-requires : tie.Need-curve-requires
 curve-requires c κs = search needs
@@ -38,12 +32,12 @@ same-length : tie.Need-same-length
 same-length c = search needs
 
 returns-2 : tie.Need-returns-2
-returns-2 c = let s = c .before .before .before .before .before .before .before .before .before .before .before .args in
+returns-2 c = let s = c .before .before .before .before .before .before .before .before .before .before .args in
     let n = s .a-order in
     let a = now (s .a) in
     let out = now (s .out) in
     one-worked curve toCurve (n - 1) curveDerivative n a out
-    (c .before .before .before .before .before .before .before .one .ensures ∙ ap (λ (k : ℕ). first (curveGiven n (length a)) (curveGiven k (length out))) (c .before .before .before .before .before .before .before .before .lower .ensures)) (c .before .before .before .before .before .before .if1 .left) (c .before .before .before .before .before .curve .ensures) (c .before .before .before .before .derivative .ensures) (c .before .before .curve2 .ensures)
+    (c .before .before .before .before .before .before .before .lowered .ensures) (c .before .before .before .before .before .before .if1 .left) (c .before .before .before .before .before .curve .ensures) (c .before .before .before .before .derivative .ensures) (c .before .before .curve2 .ensures)
 
 pub sugamdely-curve-derivative-spec : {M : Type 1} → statement M
-sugamdely-curve-derivative-spec = tie.close (tie.spec lower-requires one-requires returns curve-requires derivative-requires curve-requires-2 same-length returns-2)
+sugamdely-curve-derivative-spec = tie.close (tie.spec lowered-requires returns curve-requires derivative-requires curve-requires-2 same-length returns-2)

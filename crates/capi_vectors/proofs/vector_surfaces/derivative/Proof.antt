@@ -1,10 +1,7 @@
 -- `capi_vectors::vector_surfaces::derivative` meets its contract. Assumes nothing.
-use mathlib.Core.Path.{ap, _∙_}
 use denote.Ref.{now}
-use lib.ListN.{length}
-use Prim.Native.Nat.{ℕ, _-_}
+use Prim.Native.Nat.{_-_}
 use Rattle.derivatives.specs.VectorSurfaceAnswer.{vectorSurfaceDerivative}
-use Rattle.given.specs.Given.{first, vectorSurfaceGiven}
 use Rattle.capi_vectors.specs.Lists.{vectorSurface, toVectorSurface}
 use Rattle.capi_floats.specs.Operations.{derivativeBy}
 use Rattle.given.proofs.Admission.{one-refused, one-worked}
@@ -12,19 +9,16 @@ use borrow.Author.Needs.{needs}
 use Rattle.capi_vectors.proofs.vector_surfaces.derivative.Statement.{statement}
 use Rattle.capi_vectors.proofs.vector_surfaces.derivative.Tie as tie
 
-lower-requires : tie.Need-lower-requires
-lower-requires c κs = search needs
-
-one-requires : tie.Need-one-requires
-one-requires c κs = search needs
+lowered-requires : tie.Need-lowered-requires
+lowered-requires c κs = search needs
 
 returns : tie.Need-returns
-returns c = let s = c .before .before .before .before .before .args in
+returns c = let s = c .before .before .before .before .args in
     let n = s .a-order in
     let a = now (s .a) in
     let out = now (s .out) in
     one-refused vectorSurface toVectorSurface (n - 1) (vectorSurfaceDerivative (derivativeBy (s .by))) n a out
-    (c .before .one .ensures ∙ ap (λ (k : ℕ). first (vectorSurfaceGiven n (length a)) (vectorSurfaceGiven k (length out))) (c .before .before .lower .ensures)) (c .if1 .taken)
+    (c .before .lowered .ensures) (c .if1 .taken)
 
 vector-surface-requires : tie.Need-vector-surface-requires
 vector-surface-requires c κs = search needs
@@ -39,12 +33,12 @@ same-length : tie.Need-same-length
 same-length c = search needs
 
 returns-2 : tie.Need-returns-2
-returns-2 c = let s = c .before .before .before .before .before .before .before .before .before .before .before .args in
+returns-2 c = let s = c .before .before .before .before .before .before .before .before .before .before .args in
     let n = s .a-order in
     let a = now (s .a) in
     let out = now (s .out) in
     one-worked vectorSurface toVectorSurface (n - 1) (vectorSurfaceDerivative (derivativeBy (s .by))) n a out
-    (c .before .before .before .before .before .before .before .one .ensures ∙ ap (λ (k : ℕ). first (vectorSurfaceGiven n (length a)) (vectorSurfaceGiven k (length out))) (c .before .before .before .before .before .before .before .before .lower .ensures)) (c .before .before .before .before .before .before .if1 .left) (c .before .before .before .before .before .vector-surface .ensures) (c .before .before .before .before .derived .ensures) (c .before .before .vector-surface2 .ensures)
+    (c .before .before .before .before .before .before .before .lowered .ensures) (c .before .before .before .before .before .before .if1 .left) (c .before .before .before .before .before .vector-surface .ensures) (c .before .before .before .before .derived .ensures) (c .before .before .vector-surface2 .ensures)
 
 pub derivative-spec : {M : Type 1} → statement M
-derivative-spec = tie.close (tie.spec lower-requires one-requires returns vector-surface-requires derived-requires vector-surface-requires-2 same-length returns-2)
+derivative-spec = tie.close (tie.spec lowered-requires returns vector-surface-requires derived-requires vector-surface-requires-2 same-length returns-2)
