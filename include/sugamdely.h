@@ -1,8 +1,10 @@
 /* Derivative jets of curves and surfaces, exact and of floats, and the arithmetic of a rolling-ball fillet.
 
-   rt staticlib capi && cc program.c target/staticlib/libcapi.a
+   for name in exact floats vectors fillet; do rt staticlib capi_$name; done
+   cc program.c target/staticlib/libcapi_*.a
 
-   Every function is proved to give what its contract in crates/capi says, for any numbers and any lists, and always returns.
+   Every function is proved to give what its contract in crates/capi_exact, capi_floats, capi_vectors or capi_fillet says, for any numbers and
+   any lists, and always returns.
 
    REFUSALS. A function returns 0 where it has answered, or the number of its refusal:
 

@@ -1,19 +1,28 @@
 use std::env;
 use std::path::{Path, PathBuf};
 
-/// Names libcapi.a to the linker: that in the directory SUGAMDELY_LIB or, where that is not set, in target/staticlib of the repository.
-pub fn link(repository: &Path) -> Result<PathBuf, String> {
+/// The crates of the library's C interface: `rt staticlib` writes an archive for each.
+const CRATES: [&str; 4] = ["capi_exact", "capi_floats", "capi_vectors", "capi_fillet"];
+
+/// Names the archives to the linker: those in the directory SUGAMDELY_LIB or, where that is not set, in target/staticlib of the repository.
+pub fn link(repository: &Path) -> Result<Vec<PathBuf>, String> {
     let directory = env::var("SUGAMDELY_LIB").map(PathBuf::from).unwrap_or_else(|_| repository.join("target/staticlib"));
-    let archive = directory.join("libcapi.a");
+    let archives = CRATES.map(|name| directory.join(format!("lib{name}.a")));
     println!("cargo:rerun-if-env-changed=SUGAMDELY_LIB");
-    println!("cargo:rerun-if-changed={}", archive.display());
-    if !archive.exists() {
-        return Err(format!(
-            "{} is not there.\nRun `rt staticlib capi` in the repository's root, or set SUGAMDELY_LIB to the directory that holds libcapi.a.",
-            archive.display()
-        ));
+    for archive in &archives {
+        println!("cargo:rerun-if-changed={}", archive.display());
+    }
+    for (name, archive) in CRATES.iter().zip(&archives) {
+        if !archive.exists() {
+            return Err(format!(
+                "{} is not there.\nRun `rt staticlib {name}` in the repository's root, or set SUGAMDELY_LIB to the directory that holds the archives.",
+                archive.display()
+            ));
+        }
     }
     println!("cargo:rustc-link-search=native={}", directory.display());
-    println!("cargo:rustc-link-lib=static=capi");
-    Ok(archive)
+    for name in CRATES {
+        println!("cargo:rustc-link-lib=static={name}");
+    }
+    Ok(archives.to_vec())
 }

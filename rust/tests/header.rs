@@ -49,7 +49,8 @@ fn a_program_in_c_meets_the_figures() {
         .current_dir(env!("CARGO_MANIFEST_DIR"))
         .args(["-std=c11", "-Wall", "-Wextra", "-Werror", "-I../include", "-o"])
         .arg(&program)
-        .args(["tests/figures.c", env!("SUGAMDELY_ARCHIVE")])
+        .arg("tests/figures.c")
+        .args(env::split_paths(env!("SUGAMDELY_ARCHIVES")))
         .status()
         .unwrap();
     assert!(built.success());

@@ -1,6 +1,6 @@
 // Curves of floats.
 use crate::UNKNOWN;
-use capi::curves;
+use capi_floats::curves;
 use replay_text::float_list;
 use replay_text::size_at;
 

@@ -1,6 +1,6 @@
 // Exact curves.
 use crate::UNKNOWN;
-use capi::exact_curves;
+use capi_exact::exact_curves;
 use replay_text::size_at;
 use replay_text::whole_list;
 

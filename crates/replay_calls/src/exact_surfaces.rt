@@ -1,7 +1,7 @@
 // Exact surfaces.
 use crate::UNKNOWN;
-use capi::exact_carry;
-use capi::exact_surfaces;
+use capi_exact::exact_carry;
+use capi_exact::exact_surfaces;
 use replay_text::size_at;
 use replay_text::whole_list;
 

@@ -2,7 +2,7 @@
 use crate::FILL;
 use crate::UNKNOWN;
 use crate::both;
-use capi::fillet;
+use capi_fillet::fillet;
 use replay_text::first_floats;
 use replay_text::float_at;
 use replay_text::float_list;

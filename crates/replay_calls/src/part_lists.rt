@@ -1,6 +1,6 @@
 // Part lists.
 use crate::UNKNOWN;
-use capi::part_lists;
+use capi_exact::part_lists;
 use replay_text::size_at;
 
 // A walk is the first list lent, the parts handed out are the second.

@@ -1,7 +1,7 @@
 // Recipes of exact jets, and the two roads.
 use crate::UNKNOWN;
-use capi::curve_recipes;
-use capi::recipes;
+use capi_exact::curve_recipes;
+use capi_exact::recipes;
 use replay_text::size_at;
 use replay_text::size_list;
 use replay_text::whole_list;

@@ -1,6 +1,6 @@
 // Surfaces of floats.
 use crate::UNKNOWN;
-use capi::surfaces;
+use capi_floats::surfaces;
 use replay_text::float_list;
 use replay_text::size_at;
 

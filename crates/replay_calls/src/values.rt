@@ -1,6 +1,6 @@
 // Floats, vectors and matrices.
 use crate::UNKNOWN;
-use capi::values;
+use capi_floats::values;
 use replay_text::float_at;
 use replay_text::float_list;
 

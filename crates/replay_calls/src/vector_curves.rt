@@ -1,6 +1,6 @@
 // Curves of vectors.
 use crate::UNKNOWN;
-use capi::vector_curves;
+use capi_vectors::vector_curves;
 use replay_text::float_list;
 use replay_text::size_at;
 

@@ -1,6 +1,6 @@
 // Surfaces of vectors.
 use crate::UNKNOWN;
-use capi::vector_surfaces;
+use capi_vectors::vector_surfaces;
 use replay_text::float_list;
 use replay_text::size_at;
 

@@ -1,6 +1,6 @@
 // Whole numbers.
 use crate::UNKNOWN;
-use capi::whole_numbers;
+use capi_exact::whole_numbers;
 use replay_text::whole_at;
 
 pub fn numbers(op: u64, l: &[i64], out: &mut [i64]) -> u8 {

@@ -1,0 +1,2 @@
+pub mod Delivered
+pub mod Lengths

@@ -1,0 +1,43 @@
+-- `capi_floats::curves::sugamdely_curve_derivative` meets its contract. Assumes nothing.
+use denote.Ref.{now}
+use Prim.Native.Nat.{_-_}
+use Rattle.derivatives.specs.Answer.{curveDerivative}
+use Rattle.capi_floats.specs.Lists.{curve, toCurve}
+use Rattle.given.proofs.Admission.{one-refused, one-worked}
+use borrow.Author.Needs.{needs}
+use Rattle.capi_floats.proofs.curves.sugamdely_curve_derivative.Statement.{statement}
+use Rattle.capi_floats.proofs.curves.sugamdely_curve_derivative.Tie as tie
+
+lowered-requires : tie.Need-lowered-requires
+lowered-requires c κs = search needs
+
+returns : tie.Need-returns
+returns c = let s = c .before .before .before .before .args in
+    let n = s .a-order in
+    let a = now (s .a) in
+    let out = now (s .out) in
+    one-refused curve toCurve (n - 1) curveDerivative n a out
+    (c .before .lowered .ensures) (c .if1 .taken)
+
+curve-requires : tie.Need-curve-requires
+curve-requires c κs = search needs
+
+derivative-requires : tie.Need-derivative-requires
+derivative-requires c κs = search needs
+
+curve-requires-2 : tie.Need-curve-requires-2
+curve-requires-2 c κs = search needs
+
+same-length : tie.Need-same-length
+same-length c = search needs
+
+returns-2 : tie.Need-returns-2
+returns-2 c = let s = c .before .before .before .before .before .before .before .before .before .before .args in
+    let n = s .a-order in
+    let a = now (s .a) in
+    let out = now (s .out) in
+    one-worked curve toCurve (n - 1) curveDerivative n a out
+    (c .before .before .before .before .before .before .before .lowered .ensures) (c .before .before .before .before .before .before .if1 .left) (c .before .before .before .before .before .curve .ensures) (c .before .before .before .before .derivative .ensures) (c .before .before .curve2 .ensures)
+
+pub sugamdely-curve-derivative-spec : {M : Type 1} → statement M
+sugamdely-curve-derivative-spec = tie.close (tie.spec lowered-requires returns curve-requires derivative-requires curve-requires-2 same-length returns-2)

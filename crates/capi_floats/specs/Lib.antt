@@ -1,0 +1,4 @@
+pub mod Delivery
+pub mod Lists
+pub mod Values
+pub mod Operations

@@ -1,0 +1,159 @@
+// Curves of floats.
+ghost use mathlib.Core.Path.{_≡_};
+ghost use mathlib.Core.List.{List};
+ghost use Prim.Native.Nat.{ℕ, _-_};
+ghost use lib.Ieee.{Float};
+ghost use Rattle.calculus.specs.Kind.{regular};
+ghost use Rattle.calculus.specs.Curve.{sum, difference, product};
+ghost use Rattle.derivatives.specs.Real.{real};
+ghost use Rattle.derivatives.specs.Rational.{rational};
+ghost use Rattle.derivatives.specs.Answer.{onCurves, byFormula, byDivision, onCurvesAt, curveDerivative};
+ghost use Rattle.given.specs.Lists.{onTwo, onTwoAt, onOne};
+ghost use Rattle.capi_floats.specs.Lists.{curve as curves, toCurve, toFloat};
+ghost use Rattle.capi_floats.specs.Operations.{curveOperation};
+use crate::deliver;
+use crate::operations::Operation;
+use derivatives::CurveAnswer;
+use derivatives::CurveDerivatives;
+use derivatives::lists;
+use given::Shape;
+
+fn work(op: Operation, a: CurveDerivatives, b: CurveDerivatives) -> CurveAnswer
+    ensures { λ r. ⌜ r ≡ curveOperation op a b ⌝ }
+{
+    match op {
+        Operation::Sum => a.sum(b),
+        Operation::Difference => a.difference(b),
+        Operation::Product => a.combinatorial_derivatives(b),
+        Operation::Quotient => a.rational_derivatives(b),
+    }
+}
+
+fn on_two(
+    op: Operation,
+    a_order: usize,
+    a: &[f64],
+    b_order: usize,
+    b: &[f64],
+    out: &mut [f64],
+) -> u8
+    ensures { λ r. ⌜ _≡_ {A = ℕ × List Float} (r, now (out .exit)) (onTwo curves curves toCurve (curveOperation op) «a_order» (now (a .entry)) «b_order» (now (b .entry)) (now (out .entry))) ⌝ }
+{
+    let t = given::two(
+        Shape::Curve,
+        a_order,
+        a.len(),
+        Shape::Curve,
+        b_order,
+        b.len(),
+        Shape::Curve,
+        out.len(),
+    );
+    if t != 0 {
+        return t;
+    }
+    let x = lists::curve(a_order, a);
+    let y = lists::curve(b_order, b);
+    let r = work(op, x, y);
+    deliver::curve(r, out)
+}
+
+#[no_mangle]
+pub extern "C" fn sugamdely_curve_sum(
+    a_order: usize,
+    a: &[f64],
+    b_order: usize,
+    b: &[f64],
+    out: &mut [f64],
+) -> u8
+    ensures { λ r. ⌜ _≡_ {A = ℕ × List Float} (r, now (out .exit)) (onTwo curves curves toCurve (onCurves (byFormula (sum (regular real)))) «a_order» (now (a .entry)) «b_order» (now (b .entry)) (now (out .entry))) ⌝ }
+{
+    on_two(Operation::Sum, a_order, a, b_order, b, out)
+}
+
+#[no_mangle]
+pub extern "C" fn sugamdely_curve_difference(
+    a_order: usize,
+    a: &[f64],
+    b_order: usize,
+    b: &[f64],
+    out: &mut [f64],
+) -> u8
+    ensures { λ r. ⌜ _≡_ {A = ℕ × List Float} (r, now (out .exit)) (onTwo curves curves toCurve (onCurves (byFormula (difference (regular real)))) «a_order» (now (a .entry)) «b_order» (now (b .entry)) (now (out .entry))) ⌝ }
+{
+    on_two(Operation::Difference, a_order, a, b_order, b, out)
+}
+
+#[no_mangle]
+pub extern "C" fn sugamdely_curve_derivative(a_order: usize, a: &[f64], out: &mut [f64]) -> u8
+    ensures { λ r. ⌜ _≡_ {A = ℕ × List Float} (r, now (out .exit)) (onOne curves toCurve («a_order» - 1) curveDerivative «a_order» (now (a .entry)) (now (out .entry))) ⌝ }
+{
+    let t = given::lowered(Shape::Curve, a_order, a.len(), out.len());
+    if t != 0 {
+        return t;
+    }
+    let x = lists::curve(a_order, a);
+    let r = x.derivative();
+    deliver::curve(r, out)
+}
+
+// One entry of the product, of the order m.
+#[no_mangle]
+pub extern "C" fn sugamdely_curve_combinatorial_derivative(
+    a_order: usize,
+    a: &[f64],
+    b_order: usize,
+    b: &[f64],
+    m: usize,
+    out: &mut [f64],
+) -> u8
+    ensures { λ r. ⌜ _≡_ {A = ℕ × List Float} (r, now (out .exit)) (onTwoAt curves curves toFloat m (λ x y. onCurvesAt (product real) x y m) «a_order» (now (a .entry)) «b_order» (now (b .entry)) (now (out .entry))) ⌝ }
+{
+    let asked = given::order(m);
+    let t = given::two_at(
+        Shape::Curve,
+        a_order,
+        a.len(),
+        Shape::Curve,
+        b_order,
+        b.len(),
+        asked,
+        Shape::Number,
+        0,
+        out.len(),
+    );
+    if t != 0 {
+        return t;
+    }
+    let x = lists::curve(a_order, a);
+    let y = lists::curve(b_order, b);
+    let r = x.combinatorial_derivative(y, m);
+    deliver::float(r, out)
+}
+
+#[no_mangle]
+pub extern "C" fn sugamdely_curve_combinatorial_derivatives(
+    a_order: usize,
+    a: &[f64],
+    b_order: usize,
+    b: &[f64],
+    out: &mut [f64],
+) -> u8
+    ensures { λ r. ⌜ _≡_ {A = ℕ × List Float} (r, now (out .exit)) (onTwo curves curves toCurve (onCurves (byFormula (product real))) «a_order» (now (a .entry)) «b_order» (now (b .entry)) (now (out .entry))) ⌝ }
+{
+    on_two(Operation::Product, a_order, a, b_order, b, out)
+}
+
+// The quotient of the curve a by the weights b.
+#[no_mangle]
+pub extern "C" fn sugamdely_curve_rational_derivatives(
+    a_order: usize,
+    a: &[f64],
+    b_order: usize,
+    b: &[f64],
+    out: &mut [f64],
+) -> u8
+    ensures { λ r. ⌜ _≡_ {A = ℕ × List Float} (r, now (out .exit)) (onTwo curves curves toCurve (onCurves (byDivision (rational (regular real) (real .over)))) «a_order» (now (a .entry)) «b_order» (now (b .entry)) (now (out .entry))) ⌝ }
+{
+    on_two(Operation::Quotient, a_order, a, b_order, b, out)
+}

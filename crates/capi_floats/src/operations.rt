@@ -1,0 +1,22 @@
+// Which operation a function over lists works: each of these serves curves and surfaces.
+
+// Of two jets of floats.
+pub enum Operation {
+    Sum,
+    Difference,
+    Product,
+    Quotient,
+}
+
+// Of two vectors, or of two jets of them.
+pub enum VectorOperation {
+    Sum,
+    Difference,
+    Cross,
+}
+
+// Of a vector and a float, or of a jet of each.
+pub enum ScalarOperation {
+    Multiple,
+    Quotient,
+}

@@ -1,0 +1,352 @@
+// Curves of vectors.
+ghost use mathlib.Core.Path.{_≡_};
+ghost use mathlib.Core.List.{List};
+ghost use Prim.Native.Nat.{ℕ, _-_};
+ghost use lib.Ieee.{Float};
+ghost use Rattle.ieee.specs.Answer.{returned};
+ghost use Rattle.ieee.specs.declared.Real.the-variants.{Refused as RealRefused};
+ghost use Rattle.vectors.specs.declared.VectorAnswer.the-variants.{Refused};
+ghost use Rattle.vectors.specs.Vectors.{multiple, dot, cross};
+ghost use Rattle.vectors.specs.Answers.{returnedVector};
+ghost use Rattle.calculus.specs.Kind.{regular};
+ghost use Rattle.calculus.specs.Curve.{sum, difference, productBy};
+ghost use Rattle.derivatives.specs.Real.{real};
+ghost use Rattle.derivatives.specs.Answer.{refusedCurve};
+ghost use Rattle.derivatives.specs.Vector.{vectors};
+ghost use Rattle.derivatives.specs.VectorAnswer.{refusedVectors, onVectors, onWeighted, byVectorFormula, byNumberFormula, byWeights, vectorQuotient, onVectorsAt, onWeightedAt, vectorAbsolute, vectorDerivative};
+ghost use Rattle.given.specs.Lists.{onTwo, onTwoAt, onOne};
+ghost use Rattle.capi_floats.specs.Lists.{curve as curves, toCurve, toFloat, toVector};
+ghost use Rattle.capi_vectors.specs.Lists.{vectorCurve as vectorCurves, toVectorCurve};
+ghost use Rattle.capi_vectors.specs.VectorOperations.{vectorCurveOperation, weightedCurveOperation};
+use capi_floats::deliver;
+use capi_floats::operations::ScalarOperation;
+use capi_floats::operations::VectorOperation;
+use derivatives::CurveDerivatives;
+use derivatives::VectorCurveAnswer;
+use derivatives::VectorCurveDerivatives;
+use derivatives::lists;
+use given::Shape;
+
+fn work(
+    op: VectorOperation,
+    a: VectorCurveDerivatives,
+    b: VectorCurveDerivatives,
+) -> VectorCurveAnswer
+    ensures { λ r. ⌜ r ≡ vectorCurveOperation op a b ⌝ }
+{
+    match op {
+        VectorOperation::Sum => a.sum(b),
+        VectorOperation::Difference => a.difference(b),
+        VectorOperation::Cross => a.combinatorial_derivatives_cross(b),
+    }
+}
+
+fn work_weighted(
+    op: ScalarOperation,
+    a: VectorCurveDerivatives,
+    b: CurveDerivatives,
+) -> VectorCurveAnswer
+    ensures { λ r. ⌜ r ≡ weightedCurveOperation op a b ⌝ }
+{
+    match op {
+        ScalarOperation::Multiple => a.combinatorial_derivatives_scaled(b),
+        ScalarOperation::Quotient => a.rational_derivatives(b),
+    }
+}
+
+fn on_two(
+    op: VectorOperation,
+    a_order: usize,
+    a: &[f64],
+    b_order: usize,
+    b: &[f64],
+    out: &mut [f64],
+) -> u8
+    ensures { λ r. ⌜ _≡_ {A = ℕ × List Float} (r, now (out .exit)) (onTwo vectorCurves vectorCurves toVectorCurve (vectorCurveOperation op) «a_order» (now (a .entry)) «b_order» (now (b .entry)) (now (out .entry))) ⌝ }
+{
+    let t = given::two(
+        Shape::VectorCurve,
+        a_order,
+        a.len(),
+        Shape::VectorCurve,
+        b_order,
+        b.len(),
+        Shape::VectorCurve,
+        out.len(),
+    );
+    if t != 0 {
+        return t;
+    }
+    let x = lists::vector_curve(a_order, a);
+    let y = lists::vector_curve(b_order, b);
+    let r = work(op, x, y);
+    deliver::vector_curve(r, out)
+}
+
+fn on_weighted(
+    op: ScalarOperation,
+    a_order: usize,
+    a: &[f64],
+    b_order: usize,
+    b: &[f64],
+    out: &mut [f64],
+) -> u8
+    ensures { λ r. ⌜ _≡_ {A = ℕ × List Float} (r, now (out .exit)) (onTwo vectorCurves curves toVectorCurve (weightedCurveOperation op) «a_order» (now (a .entry)) «b_order» (now (b .entry)) (now (out .entry))) ⌝ }
+{
+    let t = given::two(
+        Shape::VectorCurve,
+        a_order,
+        a.len(),
+        Shape::Curve,
+        b_order,
+        b.len(),
+        Shape::VectorCurve,
+        out.len(),
+    );
+    if t != 0 {
+        return t;
+    }
+    let x = lists::vector_curve(a_order, a);
+    let y = lists::curve(b_order, b);
+    let r = work_weighted(op, x, y);
+    deliver::vector_curve(r, out)
+}
+
+#[no_mangle]
+pub extern "C" fn sugamdely_vector_curve_sum(
+    a_order: usize,
+    a: &[f64],
+    b_order: usize,
+    b: &[f64],
+    out: &mut [f64],
+) -> u8
+    ensures { λ r. ⌜ _≡_ {A = ℕ × List Float} (r, now (out .exit)) (onTwo vectorCurves vectorCurves toVectorCurve (onVectors refusedVectors (byVectorFormula (sum vectors))) «a_order» (now (a .entry)) «b_order» (now (b .entry)) (now (out .entry))) ⌝ }
+{
+    on_two(VectorOperation::Sum, a_order, a, b_order, b, out)
+}
+
+#[no_mangle]
+pub extern "C" fn sugamdely_vector_curve_difference(
+    a_order: usize,
+    a: &[f64],
+    b_order: usize,
+    b: &[f64],
+    out: &mut [f64],
+) -> u8
+    ensures { λ r. ⌜ _≡_ {A = ℕ × List Float} (r, now (out .exit)) (onTwo vectorCurves vectorCurves toVectorCurve (onVectors refusedVectors (byVectorFormula (difference vectors))) «a_order» (now (a .entry)) «b_order» (now (b .entry)) (now (out .entry))) ⌝ }
+{
+    on_two(VectorOperation::Difference, a_order, a, b_order, b, out)
+}
+
+#[no_mangle]
+pub extern "C" fn sugamdely_vector_curve_derivative(
+    a_order: usize,
+    a: &[f64],
+    out: &mut [f64],
+) -> u8
+    ensures { λ r. ⌜ _≡_ {A = ℕ × List Float} (r, now (out .exit)) (onOne vectorCurves toVectorCurve («a_order» - 1) vectorDerivative «a_order» (now (a .entry)) (now (out .entry))) ⌝ }
+{
+    let t = given::lowered(Shape::VectorCurve, a_order, a.len(), out.len());
+    if t != 0 {
+        return t;
+    }
+    let x = lists::vector_curve(a_order, a);
+    let r = x.derivative();
+    deliver::vector_curve(r, out)
+}
+
+// The quotient of the vectors a by the weights b.
+#[no_mangle]
+pub extern "C" fn sugamdely_vector_curve_rational_derivatives(
+    a_order: usize,
+    a: &[f64],
+    b_order: usize,
+    b: &[f64],
+    out: &mut [f64],
+) -> u8
+    ensures { λ r. ⌜ _≡_ {A = ℕ × List Float} (r, now (out .exit)) (onTwo vectorCurves curves toVectorCurve (onWeighted vectorQuotient) «a_order» (now (a .entry)) «b_order» (now (b .entry)) (now (out .entry))) ⌝ }
+{
+    on_weighted(ScalarOperation::Quotient, a_order, a, b_order, b, out)
+}
+
+// One entry of the product of the vectors a by the floats b, of the order m.
+#[no_mangle]
+pub extern "C" fn sugamdely_curve_combinatorial_derivative_scaled(
+    a_order: usize,
+    a: &[f64],
+    b_order: usize,
+    b: &[f64],
+    m: usize,
+    out: &mut [f64],
+) -> u8
+    ensures { λ r. ⌜ _≡_ {A = ℕ × List Float} (r, now (out .exit)) (onTwoAt vectorCurves curves toVector m (λ x y. onWeightedAt (productBy vectors multiple) x y m) «a_order» (now (a .entry)) «b_order» (now (b .entry)) (now (out .entry))) ⌝ }
+{
+    let asked = given::order(m);
+    let t = given::two_at(
+        Shape::VectorCurve,
+        a_order,
+        a.len(),
+        Shape::Curve,
+        b_order,
+        b.len(),
+        asked,
+        Shape::Vector,
+        0,
+        out.len(),
+    );
+    if t != 0 {
+        return t;
+    }
+    let x = lists::vector_curve(a_order, a);
+    let y = lists::curve(b_order, b);
+    let r = x.combinatorial_derivative_scaled(y, m);
+    deliver::vector(r, out)
+}
+
+// Of the dot product.
+#[no_mangle]
+pub extern "C" fn sugamdely_curve_combinatorial_derivative_dot(
+    a_order: usize,
+    a: &[f64],
+    b_order: usize,
+    b: &[f64],
+    m: usize,
+    out: &mut [f64],
+) -> u8
+    ensures { λ r. ⌜ _≡_ {A = ℕ × List Float} (r, now (out .exit)) (onTwoAt vectorCurves vectorCurves toFloat m (λ x y. onVectorsAt RealRefused (λ p q k. returned (productBy (regular real) dot p q k)) x y m) «a_order» (now (a .entry)) «b_order» (now (b .entry)) (now (out .entry))) ⌝ }
+{
+    let asked = given::order(m);
+    let t = given::two_at(
+        Shape::VectorCurve,
+        a_order,
+        a.len(),
+        Shape::VectorCurve,
+        b_order,
+        b.len(),
+        asked,
+        Shape::Number,
+        0,
+        out.len(),
+    );
+    if t != 0 {
+        return t;
+    }
+    let x = lists::vector_curve(a_order, a);
+    let y = lists::vector_curve(b_order, b);
+    let r = x.combinatorial_derivative_dot(y, m);
+    deliver::float(r, out)
+}
+
+// Of the cross product.
+#[no_mangle]
+pub extern "C" fn sugamdely_curve_combinatorial_derivative_cross(
+    a_order: usize,
+    a: &[f64],
+    b_order: usize,
+    b: &[f64],
+    m: usize,
+    out: &mut [f64],
+) -> u8
+    ensures { λ r. ⌜ _≡_ {A = ℕ × List Float} (r, now (out .exit)) (onTwoAt vectorCurves vectorCurves toVector m (λ x y. onVectorsAt Refused (λ p q k. returnedVector (productBy vectors cross p q k)) x y m) «a_order» (now (a .entry)) «b_order» (now (b .entry)) (now (out .entry))) ⌝ }
+{
+    let asked = given::order(m);
+    let t = given::two_at(
+        Shape::VectorCurve,
+        a_order,
+        a.len(),
+        Shape::VectorCurve,
+        b_order,
+        b.len(),
+        asked,
+        Shape::Vector,
+        0,
+        out.len(),
+    );
+    if t != 0 {
+        return t;
+    }
+    let x = lists::vector_curve(a_order, a);
+    let y = lists::vector_curve(b_order, b);
+    let r = x.combinatorial_derivative_cross(y, m);
+    deliver::vector(r, out)
+}
+
+#[no_mangle]
+pub extern "C" fn sugamdely_curve_combinatorial_derivatives_scaled(
+    a_order: usize,
+    a: &[f64],
+    b_order: usize,
+    b: &[f64],
+    out: &mut [f64],
+) -> u8
+    ensures { λ r. ⌜ _≡_ {A = ℕ × List Float} (r, now (out .exit)) (onTwo vectorCurves curves toVectorCurve (onWeighted (byWeights (productBy vectors multiple))) «a_order» (now (a .entry)) «b_order» (now (b .entry)) (now (out .entry))) ⌝ }
+{
+    on_weighted(ScalarOperation::Multiple, a_order, a, b_order, b, out)
+}
+
+#[no_mangle]
+pub extern "C" fn sugamdely_curve_combinatorial_derivatives_dot(
+    a_order: usize,
+    a: &[f64],
+    b_order: usize,
+    b: &[f64],
+    out: &mut [f64],
+) -> u8
+    ensures { λ r. ⌜ _≡_ {A = ℕ × List Float} (r, now (out .exit)) (onTwo vectorCurves vectorCurves toCurve (onVectors refusedCurve (byNumberFormula (productBy (regular real) dot))) «a_order» (now (a .entry)) «b_order» (now (b .entry)) (now (out .entry))) ⌝ }
+{
+    let t = given::two(
+        Shape::VectorCurve,
+        a_order,
+        a.len(),
+        Shape::VectorCurve,
+        b_order,
+        b.len(),
+        Shape::Curve,
+        out.len(),
+    );
+    if t != 0 {
+        return t;
+    }
+    let x = lists::vector_curve(a_order, a);
+    let y = lists::vector_curve(b_order, b);
+    let r = x.combinatorial_derivatives_dot(y);
+    deliver::curve(r, out)
+}
+
+#[no_mangle]
+pub extern "C" fn sugamdely_curve_combinatorial_derivatives_cross(
+    a_order: usize,
+    a: &[f64],
+    b_order: usize,
+    b: &[f64],
+    out: &mut [f64],
+) -> u8
+    ensures { λ r. ⌜ _≡_ {A = ℕ × List Float} (r, now (out .exit)) (onTwo vectorCurves vectorCurves toVectorCurve (onVectors refusedVectors (byVectorFormula (productBy vectors cross))) «a_order» (now (a .entry)) «b_order» (now (b .entry)) (now (out .entry))) ⌝ }
+{
+    on_two(VectorOperation::Cross, a_order, a, b_order, b, out)
+}
+
+// The norm.
+#[no_mangle]
+pub extern "C" fn sugamdely_curve_absolute_derivatives(
+    a_order: usize,
+    a: &[f64],
+    out: &mut [f64],
+) -> u8
+    ensures { λ r. ⌜ _≡_ {A = ℕ × List Float} (r, now (out .exit)) (onOne vectorCurves toCurve «a_order» vectorAbsolute «a_order» (now (a .entry)) (now (out .entry))) ⌝ }
+{
+    let t = given::one(
+        Shape::VectorCurve,
+        a_order,
+        a.len(),
+        Shape::Curve,
+        a_order,
+        out.len(),
+    );
+    if t != 0 {
+        return t;
+    }
+    let x = lists::vector_curve(a_order, a);
+    let r = x.absolute_derivatives();
+    deliver::curve(r, out)
+}

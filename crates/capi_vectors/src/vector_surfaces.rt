@@ -1,0 +1,451 @@
+// Surfaces of vectors.
+ghost use mathlib.Core.Path.{_≡_};
+ghost use mathlib.Core.List.{List};
+ghost use Prim.Native.Nat.{ℕ, _+_, _-_};
+ghost use lib.Ieee.{Float};
+ghost use Rattle.ieee.specs.Answer.{returned};
+ghost use Rattle.ieee.specs.declared.Real.the-variants.{Refused as RealRefused};
+ghost use Rattle.vectors.specs.declared.VectorAnswer.the-variants.{Refused};
+ghost use Rattle.vectors.specs.Vectors.{multiple, dot, cross};
+ghost use Rattle.vectors.specs.Answers.{returnedVector};
+ghost use Rattle.calculus.specs.Kind.{regular};
+ghost use Rattle.calculus.specs.Surface.{sum, difference, productBy, derivativeU, derivativeV, derivativeBy};
+ghost use Rattle.derivatives.specs.Real.{real};
+ghost use Rattle.derivatives.specs.Vector.{vectors};
+ghost use Rattle.derivatives.specs.VectorSurfaceAnswer.{onVectorSurfaces, onWeightedSurface, bySurfaceVectors, bySurfaceWeights, vectorSurfaceQuotient, vectorSurfaceDot, onVectorSurfacesAt, onWeightedSurfaceAt, vectorSurfaceDerivative};
+ghost use Rattle.derivatives.specs.VectorSurfaceNorm.{vectorSurfaceAbsolute};
+ghost use Rattle.derivatives.specs.VectorComposite.{carriedVector, carriedVectors};
+ghost use Rattle.given.specs.Lists.{onTwo, onTwoAt, onOne};
+ghost use Rattle.capi_floats.specs.Lists.{surface as surfaces, parameter as parameters, toSurface, toFloat, toVector};
+ghost use Rattle.capi_vectors.specs.Lists.{vectorSurface as vectorSurfaces, toVectorCurve, toVectorSurface};
+ghost use Rattle.capi_vectors.specs.VectorOperations.{vectorSurfaceOperation, weightedSurfaceOperation};
+use calculus::By;
+use capi_floats::deliver;
+use capi_floats::operations::ScalarOperation;
+use capi_floats::operations::VectorOperation;
+use derivatives::SurfaceDerivatives;
+use derivatives::VectorSurfaceAnswer;
+use derivatives::VectorSurfaceDerivatives;
+use derivatives::lists;
+use given::Shape;
+
+fn work(
+    op: VectorOperation,
+    a: VectorSurfaceDerivatives,
+    b: VectorSurfaceDerivatives,
+) -> VectorSurfaceAnswer
+    ensures { λ r. ⌜ r ≡ vectorSurfaceOperation op a b ⌝ }
+{
+    match op {
+        VectorOperation::Sum => a.sum(b),
+        VectorOperation::Difference => a.difference(b),
+        VectorOperation::Cross => a.combinatorial_derivatives_cross(b),
+    }
+}
+
+fn work_weighted(
+    op: ScalarOperation,
+    a: VectorSurfaceDerivatives,
+    b: SurfaceDerivatives,
+) -> VectorSurfaceAnswer
+    ensures { λ r. ⌜ r ≡ weightedSurfaceOperation op a b ⌝ }
+{
+    match op {
+        ScalarOperation::Multiple => a.combinatorial_derivatives_scaled(b),
+        ScalarOperation::Quotient => a.rational_derivatives(b),
+    }
+}
+
+fn derived(by: By, a: VectorSurfaceDerivatives) -> VectorSurfaceAnswer
+    ensures { λ r. ⌜ r ≡ vectorSurfaceDerivative (derivativeBy by) a ⌝ }
+{
+    match by {
+        By::U => a.derivative_u(),
+        By::V => a.derivative_v(),
+    }
+}
+
+fn on_two(
+    op: VectorOperation,
+    a_order: usize,
+    a: &[f64],
+    b_order: usize,
+    b: &[f64],
+    out: &mut [f64],
+) -> u8
+    ensures { λ r. ⌜ _≡_ {A = ℕ × List Float} (r, now (out .exit)) (onTwo vectorSurfaces vectorSurfaces toVectorSurface (vectorSurfaceOperation op) «a_order» (now (a .entry)) «b_order» (now (b .entry)) (now (out .entry))) ⌝ }
+{
+    let t = given::two(
+        Shape::VectorSurface,
+        a_order,
+        a.len(),
+        Shape::VectorSurface,
+        b_order,
+        b.len(),
+        Shape::VectorSurface,
+        out.len(),
+    );
+    if t != 0 {
+        return t;
+    }
+    let x = lists::vector_surface(a_order, a);
+    let y = lists::vector_surface(b_order, b);
+    let r = work(op, x, y);
+    deliver::vector_surface(r, out)
+}
+
+fn on_weighted(
+    op: ScalarOperation,
+    a_order: usize,
+    a: &[f64],
+    b_order: usize,
+    b: &[f64],
+    out: &mut [f64],
+) -> u8
+    ensures { λ r. ⌜ _≡_ {A = ℕ × List Float} (r, now (out .exit)) (onTwo vectorSurfaces surfaces toVectorSurface (weightedSurfaceOperation op) «a_order» (now (a .entry)) «b_order» (now (b .entry)) (now (out .entry))) ⌝ }
+{
+    let t = given::two(
+        Shape::VectorSurface,
+        a_order,
+        a.len(),
+        Shape::Surface,
+        b_order,
+        b.len(),
+        Shape::VectorSurface,
+        out.len(),
+    );
+    if t != 0 {
+        return t;
+    }
+    let x = lists::vector_surface(a_order, a);
+    let y = lists::surface(b_order, b);
+    let r = work_weighted(op, x, y);
+    deliver::vector_surface(r, out)
+}
+
+fn derivative(by: By, a_order: usize, a: &[f64], out: &mut [f64]) -> u8
+    ensures { λ r. ⌜ _≡_ {A = ℕ × List Float} (r, now (out .exit)) (onOne vectorSurfaces toVectorSurface («a_order» - 1) (vectorSurfaceDerivative (derivativeBy by)) «a_order» (now (a .entry)) (now (out .entry))) ⌝ }
+{
+    let t = given::lowered(Shape::VectorSurface, a_order, a.len(), out.len());
+    if t != 0 {
+        return t;
+    }
+    let x = lists::vector_surface(a_order, a);
+    let r = derived(by, x);
+    deliver::vector_surface(r, out)
+}
+
+#[no_mangle]
+pub extern "C" fn sugamdely_vector_surface_sum(
+    a_order: usize,
+    a: &[f64],
+    b_order: usize,
+    b: &[f64],
+    out: &mut [f64],
+) -> u8
+    ensures { λ r. ⌜ _≡_ {A = ℕ × List Float} (r, now (out .exit)) (onTwo vectorSurfaces vectorSurfaces toVectorSurface (onVectorSurfaces (bySurfaceVectors (sum vectors))) «a_order» (now (a .entry)) «b_order» (now (b .entry)) (now (out .entry))) ⌝ }
+{
+    on_two(VectorOperation::Sum, a_order, a, b_order, b, out)
+}
+
+#[no_mangle]
+pub extern "C" fn sugamdely_vector_surface_difference(
+    a_order: usize,
+    a: &[f64],
+    b_order: usize,
+    b: &[f64],
+    out: &mut [f64],
+) -> u8
+    ensures { λ r. ⌜ _≡_ {A = ℕ × List Float} (r, now (out .exit)) (onTwo vectorSurfaces vectorSurfaces toVectorSurface (onVectorSurfaces (bySurfaceVectors (difference vectors))) «a_order» (now (a .entry)) «b_order» (now (b .entry)) (now (out .entry))) ⌝ }
+{
+    on_two(VectorOperation::Difference, a_order, a, b_order, b, out)
+}
+
+#[no_mangle]
+pub extern "C" fn sugamdely_vector_surface_derivative_u(
+    a_order: usize,
+    a: &[f64],
+    out: &mut [f64],
+) -> u8
+    ensures { λ r. ⌜ _≡_ {A = ℕ × List Float} (r, now (out .exit)) (onOne vectorSurfaces toVectorSurface («a_order» - 1) (vectorSurfaceDerivative derivativeU) «a_order» (now (a .entry)) (now (out .entry))) ⌝ }
+{
+    derivative(By::U, a_order, a, out)
+}
+
+#[no_mangle]
+pub extern "C" fn sugamdely_vector_surface_derivative_v(
+    a_order: usize,
+    a: &[f64],
+    out: &mut [f64],
+) -> u8
+    ensures { λ r. ⌜ _≡_ {A = ℕ × List Float} (r, now (out .exit)) (onOne vectorSurfaces toVectorSurface («a_order» - 1) (vectorSurfaceDerivative derivativeV) «a_order» (now (a .entry)) (now (out .entry))) ⌝ }
+{
+    derivative(By::V, a_order, a, out)
+}
+
+// The quotient of the vectors a by the weights b.
+#[no_mangle]
+pub extern "C" fn sugamdely_vector_surface_rational_derivatives(
+    a_order: usize,
+    a: &[f64],
+    b_order: usize,
+    b: &[f64],
+    out: &mut [f64],
+) -> u8
+    ensures { λ r. ⌜ _≡_ {A = ℕ × List Float} (r, now (out .exit)) (onTwo vectorSurfaces surfaces toVectorSurface (onWeightedSurface vectorSurfaceQuotient) «a_order» (now (a .entry)) «b_order» (now (b .entry)) (now (out .entry))) ⌝ }
+{
+    on_weighted(ScalarOperation::Quotient, a_order, a, b_order, b, out)
+}
+
+// One entry of the product of the vectors a by the floats b: [m][n].
+#[no_mangle]
+pub extern "C" fn sugamdely_surface_combinatorial_derivative_scaled(
+    a_order: usize,
+    a: &[f64],
+    b_order: usize,
+    b: &[f64],
+    m: usize,
+    n: usize,
+    out: &mut [f64],
+) -> u8
+    ensures { λ r. ⌜ _≡_ {A = ℕ × List Float} (r, now (out .exit)) (onTwoAt vectorSurfaces surfaces toVector (m + n) (λ x y. onWeightedSurfaceAt (productBy vectors multiple) x y m n) «a_order» (now (a .entry)) «b_order» (now (b .entry)) (now (out .entry))) ⌝ }
+{
+    let asked = given::order_sum(m, n);
+    let t = given::two_at(
+        Shape::VectorSurface,
+        a_order,
+        a.len(),
+        Shape::Surface,
+        b_order,
+        b.len(),
+        asked,
+        Shape::Vector,
+        0,
+        out.len(),
+    );
+    if t != 0 {
+        return t;
+    }
+    let x = lists::vector_surface(a_order, a);
+    let y = lists::surface(b_order, b);
+    let r = x.combinatorial_derivative_scaled(y, m, n);
+    deliver::vector(r, out)
+}
+
+// Of the dot product.
+#[no_mangle]
+pub extern "C" fn sugamdely_surface_combinatorial_derivative_dot(
+    a_order: usize,
+    a: &[f64],
+    b_order: usize,
+    b: &[f64],
+    m: usize,
+    n: usize,
+    out: &mut [f64],
+) -> u8
+    ensures { λ r. ⌜ _≡_ {A = ℕ × List Float} (r, now (out .exit)) (onTwoAt vectorSurfaces vectorSurfaces toFloat (m + n) (λ x y. onVectorSurfacesAt RealRefused (λ p q i j. returned (productBy (regular real) dot p q i j)) x y m n) «a_order» (now (a .entry)) «b_order» (now (b .entry)) (now (out .entry))) ⌝ }
+{
+    let asked = given::order_sum(m, n);
+    let t = given::two_at(
+        Shape::VectorSurface,
+        a_order,
+        a.len(),
+        Shape::VectorSurface,
+        b_order,
+        b.len(),
+        asked,
+        Shape::Number,
+        0,
+        out.len(),
+    );
+    if t != 0 {
+        return t;
+    }
+    let x = lists::vector_surface(a_order, a);
+    let y = lists::vector_surface(b_order, b);
+    let r = x.combinatorial_derivative_dot(y, m, n);
+    deliver::float(r, out)
+}
+
+// Of the cross product.
+#[no_mangle]
+pub extern "C" fn sugamdely_surface_combinatorial_derivative_cross(
+    a_order: usize,
+    a: &[f64],
+    b_order: usize,
+    b: &[f64],
+    m: usize,
+    n: usize,
+    out: &mut [f64],
+) -> u8
+    ensures { λ r. ⌜ _≡_ {A = ℕ × List Float} (r, now (out .exit)) (onTwoAt vectorSurfaces vectorSurfaces toVector (m + n) (λ x y. onVectorSurfacesAt Refused (λ p q i j. returnedVector (productBy vectors cross p q i j)) x y m n) «a_order» (now (a .entry)) «b_order» (now (b .entry)) (now (out .entry))) ⌝ }
+{
+    let asked = given::order_sum(m, n);
+    let t = given::two_at(
+        Shape::VectorSurface,
+        a_order,
+        a.len(),
+        Shape::VectorSurface,
+        b_order,
+        b.len(),
+        asked,
+        Shape::Vector,
+        0,
+        out.len(),
+    );
+    if t != 0 {
+        return t;
+    }
+    let x = lists::vector_surface(a_order, a);
+    let y = lists::vector_surface(b_order, b);
+    let r = x.combinatorial_derivative_cross(y, m, n);
+    deliver::vector(r, out)
+}
+
+#[no_mangle]
+pub extern "C" fn sugamdely_surface_combinatorial_derivatives_scaled(
+    a_order: usize,
+    a: &[f64],
+    b_order: usize,
+    b: &[f64],
+    out: &mut [f64],
+) -> u8
+    ensures { λ r. ⌜ _≡_ {A = ℕ × List Float} (r, now (out .exit)) (onTwo vectorSurfaces surfaces toVectorSurface (onWeightedSurface (bySurfaceWeights (productBy vectors multiple))) «a_order» (now (a .entry)) «b_order» (now (b .entry)) (now (out .entry))) ⌝ }
+{
+    on_weighted(ScalarOperation::Multiple, a_order, a, b_order, b, out)
+}
+
+#[no_mangle]
+pub extern "C" fn sugamdely_surface_combinatorial_derivatives_dot(
+    a_order: usize,
+    a: &[f64],
+    b_order: usize,
+    b: &[f64],
+    out: &mut [f64],
+) -> u8
+    ensures { λ r. ⌜ _≡_ {A = ℕ × List Float} (r, now (out .exit)) (onTwo vectorSurfaces vectorSurfaces toSurface vectorSurfaceDot «a_order» (now (a .entry)) «b_order» (now (b .entry)) (now (out .entry))) ⌝ }
+{
+    let t = given::two(
+        Shape::VectorSurface,
+        a_order,
+        a.len(),
+        Shape::VectorSurface,
+        b_order,
+        b.len(),
+        Shape::Surface,
+        out.len(),
+    );
+    if t != 0 {
+        return t;
+    }
+    let x = lists::vector_surface(a_order, a);
+    let y = lists::vector_surface(b_order, b);
+    let r = x.combinatorial_derivatives_dot(y);
+    deliver::surface(r, out)
+}
+
+#[no_mangle]
+pub extern "C" fn sugamdely_surface_combinatorial_derivatives_cross(
+    a_order: usize,
+    a: &[f64],
+    b_order: usize,
+    b: &[f64],
+    out: &mut [f64],
+) -> u8
+    ensures { λ r. ⌜ _≡_ {A = ℕ × List Float} (r, now (out .exit)) (onTwo vectorSurfaces vectorSurfaces toVectorSurface (onVectorSurfaces (bySurfaceVectors (productBy vectors cross))) «a_order» (now (a .entry)) «b_order» (now (b .entry)) (now (out .entry))) ⌝ }
+{
+    on_two(VectorOperation::Cross, a_order, a, b_order, b, out)
+}
+
+// The norm.
+#[no_mangle]
+pub extern "C" fn sugamdely_surface_absolute_derivatives(
+    a_order: usize,
+    a: &[f64],
+    out: &mut [f64],
+) -> u8
+    ensures { λ r. ⌜ _≡_ {A = ℕ × List Float} (r, now (out .exit)) (onOne vectorSurfaces toSurface «a_order» vectorSurfaceAbsolute «a_order» (now (a .entry)) (now (out .entry))) ⌝ }
+{
+    let t = given::one(
+        Shape::VectorSurface,
+        a_order,
+        a.len(),
+        Shape::Surface,
+        a_order,
+        out.len(),
+    );
+    if t != 0 {
+        return t;
+    }
+    let x = lists::vector_surface(a_order, a);
+    let r = x.absolute_derivatives();
+    deliver::surface(r, out)
+}
+
+// The derivative of order n of the surface a along the curve c in its parameters, which is zero at order 0.
+#[no_mangle]
+pub extern "C" fn sugamdely_vector_composite_derivative(
+    a_order: usize,
+    a: &[f64],
+    c_order: usize,
+    c: &[f64],
+    n: usize,
+    out: &mut [f64],
+) -> u8
+    ensures { λ r. ⌜ _≡_ {A = ℕ × List Float} (r, now (out .exit)) (onTwoAt vectorSurfaces parameters toVector n (λ x y. carriedVector x y n) «a_order» (now (a .entry)) «c_order» (now (c .entry)) (now (out .entry))) ⌝ }
+{
+    let asked = given::order(n);
+    let t = given::two_at(
+        Shape::VectorSurface,
+        a_order,
+        a.len(),
+        Shape::Parameter,
+        c_order,
+        c.len(),
+        asked,
+        Shape::Vector,
+        0,
+        out.len(),
+    );
+    if t != 0 {
+        return t;
+    }
+    let x = lists::vector_surface(a_order, a);
+    let y = lists::parameter(c_order, c);
+    let r = x.composite_derivative(y, n);
+    deliver::vector(r, out)
+}
+
+// The derivatives of all orders up to n, with the entry [0][0] of the surface at order 0.
+#[no_mangle]
+pub extern "C" fn sugamdely_vector_composite_derivatives(
+    a_order: usize,
+    a: &[f64],
+    c_order: usize,
+    c: &[f64],
+    n: usize,
+    out: &mut [f64],
+) -> u8
+    ensures { λ r. ⌜ _≡_ {A = ℕ × List Float} (r, now (out .exit)) (onTwoAt vectorSurfaces parameters toVectorCurve n (λ x y. carriedVectors x y n) «a_order» (now (a .entry)) «c_order» (now (c .entry)) (now (out .entry))) ⌝ }
+{
+    let asked = given::order(n);
+    let t = given::two_at(
+        Shape::VectorSurface,
+        a_order,
+        a.len(),
+        Shape::Parameter,
+        c_order,
+        c.len(),
+        asked,
+        Shape::VectorCurve,
+        n,
+        out.len(),
+    );
+    if t != 0 {
+        return t;
+    }
+    let x = lists::vector_surface(a_order, a);
+    let y = lists::parameter(c_order, c);
+    let r = x.composite_derivatives(y, n);
+    deliver::vector_curve(r, out)
+}
