@@ -1,14 +1,17 @@
 -- A loop that asks of each float whether it is finite, and stops at the first that is not. Assumes nothing.
 use mathlib.Core.Path.{_≡_, refl, sym, ap, ap₂, _∙_}
-use mathlib.Core.Bool.{Bool, true, false, _&&_}
+use mathlib.Core.Bool.{Bool, true, false, cond, _&&_}
 use mathlib.Core.List.{List}
-use Prim.Native.Nat.{ℕ, zero, suc, _+_, _*_, _/_, _≤_, _<_}
-use native.Mathlib.Nat.{le-refl, not-suc-le-zero, mul-le-mul}
+use Prim.Native.Nat.{ℕ, zero, suc, _+_, _≤_, _<_}
+use native.Mathlib.Nat.{le-refl, not-suc-le-zero}
 use native.Mathlib.Numerals.{add-one}
 use native.Mathlib.Decide.{ℕ-discrete}
 use native.Mathlib.Omega.{arith}
+use lib.Dec.{ltb}
 use lib.Ieee.{Float}
 use lib.Ieee.Scale.{finite}
+use borrow.Author.Tests.{le-ltb}
+use Rattle.ieee.proofs.Tests.{second}
 use Rattle.calculus.specs.Graded.{triangle, graded}
 use Rattle.calculus.proofs.Graded.{index-place}
 use Rattle.derivatives.specs.Answer.{curveNumbers, surfaceNumbers, allFinite, finiteSurface}
@@ -41,21 +44,10 @@ unfolding allFinite
 same a b zero h = refl
 same a b (suc n) h = ap₂ _&&_ (same a b n (λ k l. h k (omega arith))) (ap finite (h n (le-refl (suc n))))
 
--- a surface's entries up to the order n are the first (n + 1)(n + 2)/2 of its array
-pub count-is : (n : ℕ) → (n + 1) * (n + 2) / 2 ≡ triangle (suc n)
-unfolding triangle
-count-is n =
-    let a : n + 1 ≡ suc n = omega arith in
-    let b : n + 2 ≡ suc n + 1 = omega arith in
-    ap₂ (λ (x y : ℕ). x * y / 2) a b
+-- a surface's entries up to the order n are the first of its array
+pub surface-finite : (l : List Float) (n : ℕ) → allFinite (curveNumbers l) (triangle (suc n)) ≡ finiteSurface (surfaceNumbers l) n
+surface-finite l n = same (curveNumbers l) (graded (surfaceNumbers l)) (triangle (suc n)) (λ k h. ap (curveNumbers l) (sym (index-place k)))
 
-pub count-fits : (n : ℕ) → n ≤ 20 → (n + 1) * (n + 2) ≤ 462
-count-fits n h =
-    let a : n + 1 ≤ 21 = omega arith in
-    let b : n + 2 ≤ 22 = omega arith in
-    mul-le-mul a b
-
-pub surface-finite : (l : List Float) (n : ℕ) → allFinite (curveNumbers l) ((n + 1) * (n + 2) / 2) ≡ finiteSurface (surfaceNumbers l) n
-surface-finite l n =
-    ap (allFinite (curveNumbers l)) (count-is n)
-    ∙ same (curveNumbers l) (graded (surfaceNumbers l)) (triangle (suc n)) (λ k h. ap (curveNumbers l) (sym (index-place k)))
+-- the count of those entries, as `surface_count` gives it
+pub counted : (n : ℕ) → n ≤ 20 → {k : ℕ} → k ≡ cond (ltb 20 n) 0 (triangle (suc n)) → k ≡ triangle (suc n)
+counted n h e = e ∙ second 0 (triangle (suc n)) (le-ltb 20 n h)

@@ -2,7 +2,7 @@
 use mathlib.Core.Path.{_≡_, refl, sym, ap, ap₂, _∙_}
 use mathlib.Core.Bool.{Bool, true, false, cond, _&&_}
 use mathlib.Core.List.{List, [], _∷_}
-use Prim.Native.Nat.{ℕ, zero, suc, _+_, _*_, _/_, _≤_, _<_}
+use Prim.Native.Nat.{ℕ, zero, suc, _+_, _*_, _≤_, _<_}
 use native.Mathlib.Nat.{le-refl, not-suc-le-zero}
 use native.Mathlib.Numerals.{add-one}
 use native.Mathlib.Decide.{ℕ-discrete}
@@ -20,7 +20,6 @@ use Rattle.calculus.specs.Graded.{triangle, graded}
 use Rattle.calculus.proofs.Graded.{index-place}
 use Rattle.derivatives.specs.Real.{nil}
 use Rattle.derivatives.specs.Vector.{origin, vectorNumbers, flat, vectorSurfaceNumbers, vectorArray, allVectorsFinite, finiteVectorSurface}
-use Rattle.derivatives.proofs.Finite.{count-is}
 
 -- what the logic reads past the end
 abbrev pub nowhere : Vector3
@@ -153,8 +152,7 @@ filled-finite w f n l =
     (λ k h. flat-at (filled w origin f n) k ∙ filled-at w nowhere origin f n k (omega arith)
     ∙ ap (λ (b : Bool). cond b (f k) origin) (lt-ltb k n h))
 
--- a surface's entries up to the order n are the first (n + 1)(n + 2)/2 of its array
-pub surface-finite : (l : List Float) (n : ℕ) → allVectorsFinite (vectorNumbers l) ((n + 1) * (n + 2) / 2) ≡ finiteVectorSurface (vectorSurfaceNumbers l) n
+-- a surface's entries up to the order n are the first of its array
+pub surface-finite : (l : List Float) (n : ℕ) → allVectorsFinite (vectorNumbers l) (triangle (suc n)) ≡ finiteVectorSurface (vectorSurfaceNumbers l) n
 surface-finite l n =
-    ap (allVectorsFinite (vectorNumbers l)) (count-is n)
-    ∙ same (vectorNumbers l) (graded (vectorSurfaceNumbers l)) (triangle (suc n)) (λ k h. ap (vectorNumbers l) (sym (index-place k)))
+    same (vectorNumbers l) (graded (vectorSurfaceNumbers l)) (triangle (suc n)) (λ k h. ap (vectorNumbers l) (sym (index-place k)))

@@ -2,19 +2,14 @@
 use Rattle.derivatives.proofs.Finite.{none, more, stop}
 use Rattle.derivatives.specs.Answer.{curveNumbers, allFinite}
 use borrow.Author.Tests.{not-true, not-false}
-use lib.ListN.{length, getD}
-use lib.Ieee.{nan}
-use mathlib.Core.Bool.{true, false}
+use mathlib.Core.Bool.{true}
 use denote.Ref.{now}
-use mathlib.Core.Path.{_≡_, refl, sym, ap, ap₂, _∙_}
-use Prim.Native.Nat.{ℕ, suc, _+_, _-_, _≤_, _<_}
+use mathlib.Core.Path.{_≡_, sym, ap, _∙_}
+use Prim.Native.Nat.{suc, _-_, _≤_}
 use native.Mathlib.Omega.{arith}
 use borrow.Author.Needs.{needs}
 use Rattle.derivatives.proofs.finite_curve.Statement.{statement}
 use Rattle.derivatives.proofs.finite_curve.Tie as tie
-use Rattle.derivatives.proofs.finite_curve.Reads as reads
-use Rattle.derivatives.proofs.finite_curve.Lts as lts
-use Rattle.ieee.proofs.is_finite.Reads as is-finite-reads
 
 abbrev Inv-loop : tie.InvT-loop
 Inv-loop a n i₀ i = (allFinite (curveNumbers a) i ≡ true) × (i ≤ suc n)

@@ -1,20 +1,17 @@
 -- `derivatives::finite_list` meets its contract. The invariant: those passed are finite. Assumes nothing.
 use Rattle.derivatives.proofs.Finite.{none, more, stop}
-use Rattle.derivatives.specs.Answer.{curveNumbers, allFinite}
+use Rattle.derivatives.specs.Answer.{allFinite}
 use borrow.Author.Tests.{not-true, not-false}
 use lib.ListN.{length, getD}
 use lib.Ieee.{nan}
-use mathlib.Core.Bool.{true, false}
+use mathlib.Core.Bool.{true}
 use denote.Ref.{now}
-use mathlib.Core.Path.{_≡_, refl, sym, ap, ap₂, _∙_}
-use Prim.Native.Nat.{ℕ, suc, _+_, _-_, _≤_, _<_}
+use mathlib.Core.Path.{_≡_, sym, ap, _∙_}
+use Prim.Native.Nat.{_-_, _≤_}
 use native.Mathlib.Omega.{arith}
 use borrow.Author.Needs.{needs}
 use Rattle.derivatives.proofs.finite_list.Statement.{statement}
 use Rattle.derivatives.proofs.finite_list.Tie as tie
-use Rattle.derivatives.proofs.finite_list.Reads as reads
-use Rattle.derivatives.proofs.finite_list.Lts as lts
-use Rattle.ieee.proofs.is_finite.Reads as is-finite-reads
 
 abbrev Inv-loop : tie.InvT-loop
 Inv-loop a i₀ i = (allFinite (λ k. getD a k nan) i ≡ true) × (i ≤ length a)

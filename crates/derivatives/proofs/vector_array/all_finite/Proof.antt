@@ -11,10 +11,6 @@ use native.Mathlib.Omega.{arith}
 use mathlib.Core.Path.{_≡_, sym, ap, _∙_}
 use Rattle.derivatives.proofs.vector_array.all_finite.Statement.{statement}
 use Rattle.derivatives.proofs.vector_array.all_finite.Tie as tie
-use Rattle.derivatives.proofs.vector_array.all_finite.Reads as reads
-use Rattle.derivatives.proofs.vector_array.all_finite.Lts as lts
-use Rattle.derivatives.proofs.vector_array.vector_at.Reads as vector-at-reads
-use Rattle.vectors.proofs.Vector3.is_finite.Reads as is-finite-reads
 
 abbrev Inv-loop : tie.InvT-loop
 Inv-loop a n i₀ i = (allVectorsFinite (vectorNumbers a) i ≡ true) × (i ≤ n)

@@ -12,10 +12,6 @@ use native.Mathlib.Omega.{arith}
 use mathlib.Core.Path.{_≡_, refl, ap, _∙_}
 use Rattle.derivatives.proofs.vector_entries.cross_entry.Statement.{statement}
 use Rattle.derivatives.proofs.vector_entries.cross_entry.Tie as tie
-use Rattle.derivatives.proofs.vector_entries.cross_entry.Reads as reads
-use Rattle.derivatives.proofs.vector_entries.cross_entry.Lts as lts
-use Rattle.derivatives.proofs.vector_entries.cross_term.Reads as cross-term-reads
-use Rattle.vectors.proofs.Vector3.add.Reads as add-reads
 
 abbrev Inv-loop : tie.InvT-loop
 Inv-loop a b c m sum₀ i₀ sum i = (sum ≡ inTurn (vectors .plus) origin (leibniz vectors cross (vectorNumbers a) (vectorNumbers b) m) i) × (i ≤ suc m)

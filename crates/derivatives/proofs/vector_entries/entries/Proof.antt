@@ -10,10 +10,6 @@ use native.Mathlib.Omega.{arith}
 use mathlib.Core.Path.{sym, _∙_}
 use Rattle.derivatives.proofs.vector_entries.entries.Statement.{statement}
 use Rattle.derivatives.proofs.vector_entries.entries.Tie as tie
-use Rattle.derivatives.proofs.vector_entries.entries.Reads as reads
-use Rattle.derivatives.proofs.vector_entries.entries.Lts as lts
-use Rattle.calculus.proofs.binomials.Reads as binomials-reads
-use Rattle.derivatives.proofs.vector_entries.entry.Reads as entry-reads
 
 abbrev Inv-loop : tie.InvT-loop
 Inv-loop f a b w n c r₀ m₀ r m = VectorsFilled (vectorsOf f (vectorNumbers a) (vectorNumbers b) (curveNumbers w)) m r × (m ≤ suc n)

@@ -13,10 +13,6 @@ use native.Mathlib.Omega.{arith}
 use mathlib.Core.Path.{_≡_, refl, ap, _∙_}
 use Rattle.derivatives.proofs.vector_entries.scaled_entry.Statement.{statement}
 use Rattle.derivatives.proofs.vector_entries.scaled_entry.Tie as tie
-use Rattle.derivatives.proofs.vector_entries.scaled_entry.Reads as reads
-use Rattle.derivatives.proofs.vector_entries.scaled_entry.Lts as lts
-use Rattle.derivatives.proofs.vector_entries.scaled_term.Reads as scaled-term-reads
-use Rattle.vectors.proofs.Vector3.add.Reads as add-reads
 
 abbrev Inv-loop : tie.InvT-loop
 Inv-loop a b c m sum₀ i₀ sum i = (sum ≡ inTurn (vectors .plus) origin (leibniz vectors multiple (vectorNumbers a) (curveNumbers b) m) i) × (i ≤ suc m)

@@ -8,9 +8,6 @@ use native.Mathlib.Omega.{arith}
 use mathlib.Core.Path.{sym}
 use Rattle.derivatives.proofs.vector_entries.taken.Statement.{statement}
 use Rattle.derivatives.proofs.vector_entries.taken.Tie as tie
-use Rattle.derivatives.proofs.vector_entries.taken.Reads as reads
-use Rattle.derivatives.proofs.vector_entries.taken.Lts as lts
-use Rattle.derivatives.proofs.vector_array.vector_at.Reads as vector-at-reads
 
 abbrev Inv-loop : tie.InvT-loop
 Inv-loop a s n r₀ m₀ r m = VectorsFilled (λ k. vectorNumbers a (s + k)) m r × (m ≤ suc n)

@@ -10,11 +10,6 @@ use Prim.Native.Nat.{suc, _+_, _-_, _*_, _≤_}
 use native.Mathlib.Omega.{arith}
 use Rattle.derivatives.proofs.vector_surface_entries.entries.Statement.{statement}
 use Rattle.derivatives.proofs.vector_surface_entries.entries.Tie as tie
-use Rattle.derivatives.proofs.vector_surface_entries.entries.Reads as reads
-use Rattle.derivatives.proofs.vector_surface_entries.entries.Lts as lts
-use Rattle.calculus.proofs.binomials.Reads as binomials-reads
-use Rattle.derivatives.proofs.vector_surface_entries.entry.Reads as entry-reads
-use Rattle.derivatives.proofs.index.Reads as index-reads
 
 abbrev Inv-loop : tie.InvT-loop
 Inv-loop f a b w n c r₀ i₀ j₀ r i j = (l : n ≤ 20) × SurfaceProgress (surfaceOf f (vectorSurfaceNumbers a) (vectorSurfaceNumbers b) (surfaceNumbers w)) l i j r

@@ -5,13 +5,10 @@ use lib.Ieee.{nan}
 use borrow.Author.Needs.{needs}
 use denote.Ref.{now}
 use mathlib.Core.Path.{ap}
-use Prim.Native.Nat.{ℕ, _-_}
+use Prim.Native.Nat.{ℕ}
 use native.Mathlib.Omega.{arith}
 use Rattle.derivatives.proofs.vector_surface_entries.number_at.Statement.{statement}
 use Rattle.derivatives.proofs.vector_surface_entries.number_at.Tie as tie
-use Rattle.derivatives.proofs.vector_surface_entries.number_at.Reads as reads
-use Rattle.derivatives.proofs.vector_surface_entries.number_at.Lts as lts
-use Rattle.derivatives.proofs.index.Reads as index-reads
 
 index-requires : tie.Need-index-requires
 index-requires c κs = search needs

@@ -13,13 +13,6 @@ use Prim.Native.Nat.{ℕ, suc, _-_, _≤_}
 use native.Mathlib.Omega.{arith}
 use Rattle.derivatives.proofs.vector_surface_entries.rational_entry.Statement.{statement}
 use Rattle.derivatives.proofs.vector_surface_entries.rational_entry.Tie as tie
-use Rattle.derivatives.proofs.vector_surface_entries.rational_entry.Reads as reads
-use Rattle.derivatives.proofs.vector_surface_entries.rational_entry.Lts as lts
-use Rattle.derivatives.proofs.vector_surface_entries.rational_row.Reads as rational-row-reads
-use Rattle.derivatives.proofs.vector_surface_entries.surface_at.Reads as surface-at-reads
-use Rattle.derivatives.proofs.vector_surface_entries.number_at.Reads as number-at-reads
-use Rattle.vectors.proofs.Vector3.sub.Reads as sub-reads
-use Rattle.vectors.proofs.Vector3.div.Reads as div-reads
 
 abbrev Inv-loop : tie.InvT-loop
 Inv-loop x w q c m n sum₀ i₀ sum i = (sum ≡ inRows (vectors .plus) origin (surfaceRationalTerm vectors quotient (surfaceNumbers w) (vectorSurfaceNumbers q) m n) i (suc n)) × (i ≤ suc m)

@@ -11,10 +11,6 @@ use Prim.Native.Nat.{suc, _+_, _-_, _*_, _≤_}
 use native.Mathlib.Omega.{arith}
 use Rattle.derivatives.proofs.vector_surface_entries.read.Statement.{statement}
 use Rattle.derivatives.proofs.vector_surface_entries.read.Tie as tie
-use Rattle.derivatives.proofs.vector_surface_entries.read.Reads as reads
-use Rattle.derivatives.proofs.vector_surface_entries.read.Lts as lts
-use Rattle.derivatives.proofs.vector_array.vector_at.Reads as vector-at-reads
-use Rattle.derivatives.proofs.index.Reads as index-reads
 
 abbrev Inv-loop : tie.InvT-loop
 Inv-loop list n r₀ i₀ j₀ l₀ r i j l = ((b : n ≤ 20) × SurfaceProgress (λ x y. vectorNumbers list (listPlace n x y)) b i j r) × (l ≡ listPlace n i j)

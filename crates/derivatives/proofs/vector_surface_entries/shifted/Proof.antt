@@ -9,10 +9,6 @@ use Prim.Native.Nat.{suc, _+_, _-_, _*_, _≤_}
 use native.Mathlib.Omega.{arith}
 use Rattle.derivatives.proofs.vector_surface_entries.shifted.Statement.{statement}
 use Rattle.derivatives.proofs.vector_surface_entries.shifted.Tie as tie
-use Rattle.derivatives.proofs.vector_surface_entries.shifted.Reads as reads
-use Rattle.derivatives.proofs.vector_surface_entries.shifted.Lts as lts
-use Rattle.derivatives.proofs.vector_surface_entries.surface_at.Reads as surface-at-reads
-use Rattle.derivatives.proofs.index.Reads as index-reads
 
 abbrev Inv-loop : tie.InvT-loop
 Inv-loop a n p q r₀ i₀ j₀ r i j = (l : n ≤ 20) × SurfaceProgress (λ x y. vectorSurfaceNumbers a (x + p) (y + q)) l i j r

@@ -12,13 +12,10 @@ use denote.Ref.{now}
 use lib.ListN.{length, length-set}
 use mathlib.Core.List.{_∷_}
 use mathlib.Core.Path.{_≡_, sym, ap, _∙_}
-use Prim.Native.Nat.{ℕ, suc, _+_, _-_, _*_, _≤_, _<_}
+use Prim.Native.Nat.{ℕ, suc, _+_, _-_, _*_, _<_}
 use native.Mathlib.Omega.{arith}
 use Rattle.derivatives.proofs.vector_surface_entries.write.Statement.{statement}
 use Rattle.derivatives.proofs.vector_surface_entries.write.Tie as tie
-use Rattle.derivatives.proofs.vector_surface_entries.write.Reads as reads
-use Rattle.derivatives.proofs.vector_surface_entries.write.Lts as lts
-use Rattle.derivatives.proofs.vector_surface_entries.surface_at.Reads as surface-at-reads
 
 listed-length : (s : ℕ → ℕ → Vector3) (n : ℕ) → length (flat (surfaceEntries s n)) ≡ 3 * triangle (suc n)
 listed-length s n = flat-length (surfaceEntries s n) ∙ ap (_*_ 3) (rows-length s 0 (suc n))
