@@ -7,7 +7,7 @@ use native.Mathlib.Nat.{le-refl, not-suc-le-zero}
 use native.Mathlib.Numerals.{add-one}
 use native.Mathlib.Decide.{ℕ-discrete}
 use native.Mathlib.Omega.{arith}
-use lib.ListN.{getD, set, replicate}
+use lib.ListN.{length, getD, set, replicate}
 use lib.Ieee.{Float, nan}
 use borrow.Author.Tests.{lt-ltb}
 use Rattle.vectors.specs.declared.Vector3.{Vector3}
@@ -19,7 +19,7 @@ use Rattle.calculus.proofs.Filling.{CurveStored, curve-none, curve-more, curve-
 use Rattle.calculus.specs.Graded.{triangle, graded}
 use Rattle.calculus.proofs.Graded.{index-place}
 use Rattle.derivatives.specs.Real.{nil}
-use Rattle.derivatives.specs.Vector.{origin, vectorNumbers, flat, vectorSurfaceNumbers, vectorArray, allVectorsFinite, finiteVectorSurface}
+use Rattle.derivatives.specs.Vector.{origin, put, vectorNumbers, flat, vectorSurfaceNumbers, vectorArray, allVectorsFinite, finiteVectorSurface}
 
 -- what the logic reads past the end
 abbrev pub nowhere : Vector3
@@ -31,9 +31,6 @@ three k = omega arith
 -- ---- reading and writing at i, i + 1 and i + 2
 abbrev at : List Float → ℕ → Vector3
 at l i = vector (getD l i nan) (getD l (i + 1) nan) (getD l (i + 2) nan)
-
-abbrev pub put : List Float → ℕ → Vector3 → List Float
-put l i v = set (set (set l i (v .x)) (i + 1) (v .y)) (i + 2) (v .z)
 
 module _ (a b c : Float) (l : List Float) (i : ℕ) where
   one-on : suc (suc (suc i)) + 1 ≡ suc (suc (suc (i + 1)))
@@ -67,6 +64,11 @@ unfolding flat
 flat-zeros zero = refl
 flat-zeros (suc w) = ap (λ (k : ℕ). replicate k nil) (three w) ∙ ap (λ (r : List Float). nil ∷ nil ∷ nil ∷ r) (flat-zeros w)
 
+pub flat-length : (l : List Vector3) → length (flat l) ≡ 3 * length l
+unfolding flat
+flat-length [] = refl
+flat-length (a ∷ l) = let e = flat-length l in omega arith
+
 -- the first 3 k floats are the first k vectors
 pub flat-listed : (f : ℕ → Float) (i k : ℕ) → listed f (3 * i) (3 * k) ≡ flat (listed (λ j. vector (f (3 * j)) (f (3 * j + 1)) (f (3 * j + 2))) i k)
 unfolding flat listed
@@ -89,6 +91,9 @@ pub record Held (P : List Vector3 → Type 0) (r : List Float) : Type 0 where
   pub is : r ≡ flat list
   pub holds : P list
 
+pub held-long : (w : ℕ) {P : List Vector3 → Type 0} {r : List Float} (h : Held P r) → length (h .list) ≡ w → 3 * w ≡ length r
+held-long w h e = sym (ap length (h .is) ∙ flat-length (h .list) ∙ ap (_*_ 3) e)
+
 module _ (f : ℕ → Vector3) where
   abbrev pub VectorsStored : ℕ → List Vector3 → Type 0
   VectorsStored = CurveStored 21 nowhere origin (λ k v. f k ≡ v)
@@ -105,6 +110,12 @@ module _ (f : ℕ → Vector3) where
     is = ap (λ (x : List Float). put x (3 * m) v) (h .is) ∙ flat-put (h .list) m v;
     holds = curve-more 21 nowhere origin (λ k v. f k ≡ v) v (h .holds) l e;
   }
+
+  pub vectors-long : {r : List Float} {m : ℕ} → VectorsFilled m r → 63 ≡ length r
+  vectors-long h = held-long 21 h (h .holds .long)
+
+  pub vectors-stored : {r q : List Float} {m : ℕ} (v : Vector3) → VectorsFilled m r → m < 21 → f m ≡ v → q ≡ put r (3 * m) v → VectorsFilled (m + 1) q
+  vectors-stored v h l e g = rw g (vectors-more v h l e)
 
   pub vectors-all : {r : List Float} (n : ℕ) {m : ℕ} → VectorsFilled m r → m ≡ suc n → r ≡ vectorArray f n
   vectors-all n h e = h .is ∙ ap flat (curve-all 21 nowhere origin (λ k v. f k ≡ v) f (λ k v q. sym q) (suc n) (h .holds) e)

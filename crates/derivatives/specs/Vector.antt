@@ -2,7 +2,7 @@
 use mathlib.Core.Bool.{Bool, true, _&&_}
 use mathlib.Core.List.{List, [], _∷_}
 use Prim.Native.Nat.{ℕ, zero, suc, _+_, _*_}
-use lib.ListN.{getD}
+use lib.ListN.{getD, set}
 use lib.Ieee.{Float, nan}
 use Rattle.vectors.specs.declared.Vector3.{Vector3}
 use Rattle.vectors.specs.Vectors.{vector, sum, difference, multiple}
@@ -25,6 +25,10 @@ vectorNumbers l k = vector (getD l (3 * k) nan) (getD l (3 * k + 1) nan) (getD l
 
 abbrev pub vectorSurfaceNumbers : List Float → ℕ → ℕ → Vector3
 vectorSurfaceNumbers l i j = vectorNumbers l (index i j)
+
+-- a vector stored at i, i + 1 and i + 2
+abbrev pub put : List Float → ℕ → Vector3 → List Float
+put l i v = set (set (set l i (v .x)) (i + 1) (v .y)) (i + 2) (v .z)
 
 -- ---- the array of vectors: x, y and z of each in turn
 unfoldable pub flat : List Vector3 → List Float

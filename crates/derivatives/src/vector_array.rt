@@ -6,7 +6,7 @@ ghost use lib.Dec.{ltb};
 ghost use lib.ListN.{length};
 ghost use Rattle.derivatives.specs.Real.{isZero};
 ghost use Rattle.derivatives.specs.Answer.{curveNumbers, finiteCurve};
-ghost use Rattle.derivatives.specs.Vector.{vectorNumbers, vectorSurfaceNumbers, allVectorsFinite, finiteVectors, finiteVectorSurface};
+ghost use Rattle.derivatives.specs.Vector.{put, vectorNumbers, vectorSurfaceNumbers, allVectorsFinite, finiteVectors, finiteVectorSurface};
 ghost use Rattle.derivatives.specs.VectorAnswer.{refusedVectors, madeVectors};
 use crate::VectorCurveAnswer;
 use crate::VectorCurveDerivatives;
@@ -24,6 +24,17 @@ pub fn vector_at(a: &[f64], k: usize) -> Vector3
         y: a[i + 1],
         z: a[i + 2],
     }
+}
+
+// A vector is stored as the entry k.
+pub fn store(a: &mut [f64], k: usize, v: Vector3)
+    requires { ⌜ 3 * k + 2 < length (now a) ⌝ }
+    ensures { λ _. ⌜ now (a .exit) ≡ put (now (a .entry)) (3 * k) v ⌝ }
+{
+    let i = 3 * k;
+    a[i] = v.x;
+    a[i + 1] = v.y;
+    a[i + 2] = v.z;
 }
 
 // Whether the first n vectors are finite.

@@ -10,6 +10,7 @@ ghost use Rattle.partitions.specs.Count.{isList};
 ghost use Rattle.derivatives.specs.Answer.{curveNumbers};
 ghost use Rattle.derivatives.specs.Vector.{vectors, vectorSurfaceNumbers, vectorArray};
 use crate::carry;
+use crate::vector_array::store;
 use crate::vector_array::vector_at;
 use partitions::CompositionIter;
 use partitions::Count;
@@ -118,10 +119,7 @@ pub fn derivatives(entries: &[f64; 693], u: &[f64; 21], v: &[f64; 21], order: us
     let mut m = 0;
     while m <= order {
         let e = entry(entries, u, v, m);
-        let i = 3 * m;
-        r[i] = e.x;
-        r[i + 1] = e.y;
-        r[i + 2] = e.z;
+        store(&mut r, m, e);
         m += 1;
     }
     r

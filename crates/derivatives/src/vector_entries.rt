@@ -16,6 +16,7 @@ ghost use Rattle.derivatives.specs.Norm.{normTerm, normEntry};
 ghost use Rattle.derivatives.specs.Answer.{curveNumbers};
 ghost use Rattle.derivatives.specs.Vector.{origin, vectors, vectorNumbers, vectorArray, flat};
 ghost use Rattle.derivatives.specs.VectorFormula.{vectorFormula, numberFormula};
+use crate::vector_array::store;
 use crate::vector_array::vector_at;
 use vectors::Vector3;
 
@@ -240,10 +241,7 @@ pub fn entries(f: VectorFormula, a: &[f64; 63], b: &[f64; 63], w: &[f64; 21], n:
     let mut m = 0;
     while m <= n {
         let e = entry(f, a, b, w, &r, &c, m);
-        let i = 3 * m;
-        r[i] = e.x;
-        r[i + 1] = e.y;
-        r[i + 2] = e.z;
+        store(&mut r, m, e);
         m += 1;
     }
     r
@@ -273,10 +271,7 @@ pub fn taken(a: &[f64], s: usize, n: usize) -> [f64; 63]
     let mut m = 0;
     while m <= n {
         let e = vector_at(a, s + m);
-        let i = 3 * m;
-        r[i] = e.x;
-        r[i + 1] = e.y;
-        r[i + 2] = e.z;
+        store(&mut r, m, e);
         m += 1;
     }
     r

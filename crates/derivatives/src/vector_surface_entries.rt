@@ -16,6 +16,7 @@ ghost use Rattle.derivatives.specs.Rational.{surfaceRationalTerm, surfac
 ghost use Rattle.derivatives.specs.Answer.{surfaceNumbers};
 ghost use Rattle.derivatives.specs.Vector.{origin, vectors, vectorNumbers, flat, vectorSurfaceNumbers, vectorSurfaceArray};
 ghost use Rattle.derivatives.specs.VectorSurfaceAnswer.{vectorSurfaceFormula};
+use crate::vector_array::store;
 use crate::vector_array::vector_at;
 use crate::vector_entries::VectorFormula;
 use vectors::Vector3;
@@ -302,10 +303,7 @@ pub fn entries(
     while i <= n {
         let e = entry(f, a, b, w, &r, &c, i, j);
         let k = crate::index(i, j);
-        let p = 3 * k;
-        r[p] = e.x;
-        r[p + 1] = e.y;
-        r[p + 2] = e.z;
+        store(&mut r, k, e);
         j += 1;
         if n < i + j {
             i += 1;
@@ -384,10 +382,7 @@ pub fn shifted(a: &[f64; 693], n: usize, p: usize, q: usize) -> [f64; 693]
     while i <= n {
         let e = surface_at(a, i + p, j + q);
         let k = crate::index(i, j);
-        let o = 3 * k;
-        r[o] = e.x;
-        r[o + 1] = e.y;
-        r[o + 2] = e.z;
+        store(&mut r, k, e);
         j += 1;
         if n < i + j {
             i += 1;
@@ -409,10 +404,7 @@ pub fn read(list: &[f64], n: usize) -> [f64; 693]
     while i <= n {
         let e = vector_at(list, l);
         let k = crate::index(i, j);
-        let o = 3 * k;
-        r[o] = e.x;
-        r[o + 1] = e.y;
-        r[o + 2] = e.z;
+        store(&mut r, k, e);
         l += 1;
         j += 1;
         if n < i + j {

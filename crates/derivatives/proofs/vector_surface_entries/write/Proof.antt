@@ -1,5 +1,6 @@
 -- `derivatives::vector_surface_entries::write` meets its contract. The invariant: the entries passed are written. Assumes nothing.
-use Rattle.derivatives.proofs.VectorSurfaces.{flat-length, three-in-list, three-more}
+use Rattle.derivatives.proofs.VectorSurfaces.{three-in-list, three-more}
+use Rattle.derivatives.proofs.Vectors.{flat-length}
 use Rattle.derivatives.specs.Vector.{flat, vectorSurfaceNumbers}
 use Rattle.calculus.proofs.Writing.{Writing, writing-begins, writing-turns, writing-ends, rows-length}
 use Rattle.calculus.proofs.Left.{Inside, surfaceLeft, surface-start, surface-next, surface-row, surface-end}
