@@ -6,9 +6,9 @@ use Prim.Native.Nat.{ℕ, suc, _+_, _≤_}
 use native.Mathlib.Nat.{add-zero}
 use native.Mathlib.Numerals.{add-one}
 use native.Mathlib.Omega.{arith}
-use lib.Dec.{ltb}
 use lib.ListN.{length}
 use lib.Ieee.{Float, nan}
+use lib.Ieee.Scale.{finite}
 use borrow.Author.Tests.{lt-ltb}
 use Rattle.ieee.proofs.Tests.{first}
 use Rattle.calculus.specs.Graded.{triangle, graded}
@@ -28,7 +28,7 @@ use Rattle.derivatives.proofs.Tested.{returned-as, pair, into-worked}
 module _ (w : ℕ) (f : ℕ → Float) (n : ℕ) where
   pub filled-finite : n ≤ w → allFinite (curveNumbers (filled w nil f n)) n ≡ allFinite f n
   filled-finite l =
-      same (curveNumbers (filled w nil f n)) f n
+      same finite (curveNumbers (filled w nil f n)) f n
       (λ k h. filled-at w nan nil f n k (omega arith) ∙ first (f k) nil (lt-ltb k n h))
 
 -- a surface's array

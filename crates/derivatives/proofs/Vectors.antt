@@ -1,11 +1,8 @@
 -- Arrays of vectors: what they hold, what a loop stores in them, and when they are finite. Assumes nothing.
 use mathlib.Core.Path.{_≡_, refl, sym, ap, ap₂, _∙_}
-use mathlib.Core.Bool.{Bool, true, false, cond, _&&_}
+use mathlib.Core.Bool.{Bool, cond}
 use mathlib.Core.List.{List, [], _∷_}
 use Prim.Native.Nat.{ℕ, zero, suc, _+_, _*_, _≤_, _<_}
-use native.Mathlib.Nat.{le-refl, not-suc-le-zero}
-use native.Mathlib.Numerals.{add-one}
-use native.Mathlib.Decide.{ℕ-discrete}
 use native.Mathlib.Omega.{arith}
 use lib.ListN.{length, getD, set, replicate}
 use lib.Ieee.{Float, nan}
@@ -20,6 +17,7 @@ use Rattle.calculus.specs.Graded.{triangle, graded}
 use Rattle.calculus.proofs.Graded.{index-place}
 use Rattle.derivatives.specs.Real.{nil}
 use Rattle.derivatives.specs.Vector.{origin, put, vectorNumbers, flat, vectorSurfaceNumbers, vectorArray, allVectorsFinite, finiteVectorSurface}
+use Rattle.derivatives.proofs.Finite.{same}
 
 -- what the logic reads past the end
 abbrev pub nowhere : Vector3
@@ -127,43 +125,14 @@ vectors-earlier step {r} {m} h k l =
     curve-earlier 21 nowhere origin (λ (v : Vector3). v) step (h .holds) k l
     ∙ sym (ap (λ (x : List Float). vectorNumbers x k) (h .is) ∙ flat-at (h .list) k)
 
--- ---- a loop that asks of each vector whether it is finite, and stops at the first that is not
-and-false : (b : Bool) → (b && false) ≡ false
-and-false true = refl
-and-false false = refl
-
-module _ (a : ℕ → Vector3) where
-  pub none : allVectorsFinite a 0 ≡ true
-  unfolding allVectorsFinite
-  none = refl
-
-  pub more : (i : ℕ) → allVectorsFinite a i ≡ true → finiteVector (a i) ≡ true → allVectorsFinite a (i + 1) ≡ true
-  unfolding allVectorsFinite
-  more i e h = ap (allVectorsFinite a) (add-one i) ∙ ap₂ _&&_ e h
-
-  pub stop : {i : ℕ} (n : ℕ) → i < n → finiteVector (a i) ≡ false → false ≡ allVectorsFinite a n
-  unfolding allVectorsFinite
-  stop zero l e = absurd (not-suc-le-zero l)
-  stop {i} (suc n) l e = go (ℕ-discrete i n) (λ h. stop n h e)
-    where
-      go : Dec (i ≡ n) → (i < n → false ≡ allVectorsFinite a n) → false ≡ (allVectorsFinite a n && finiteVector (a n))
-      go (yes q) f =
-          sym (ap (λ (x : Bool). allVectorsFinite a n && x) (ap (λ (k : ℕ). finiteVector (a k)) (sym q) ∙ e) ∙ and-false (allVectorsFinite a n))
-      go (no q) f = ap (λ (x : Bool). x && finiteVector (a n)) (f (omega arith))
-
-pub same : (a b : ℕ → Vector3) (n : ℕ) → ((k : ℕ) → k < n → a k ≡ b k) → allVectorsFinite a n ≡ allVectorsFinite b n
-unfolding allVectorsFinite
-same a b zero h = refl
-same a b (suc n) h = ap₂ _&&_ (same a b n (λ k l. h k (omega arith))) (ap finiteVector (h n (le-refl (suc n))))
-
--- the array is finite as far as it is filled where its entries are
+-- ---- the array is finite as far as it is filled where its entries are
 pub filled-finite : (w : ℕ) (f : ℕ → Vector3) (n : ℕ) → n ≤ w → allVectorsFinite (vectorNumbers (flat (filled w origin f n))) n ≡ allVectorsFinite f n
 filled-finite w f n l =
-    same (vectorNumbers (flat (filled w origin f n))) f n
+    same finiteVector (vectorNumbers (flat (filled w origin f n))) f n
     (λ k h. flat-at (filled w origin f n) k ∙ filled-at w nowhere origin f n k (omega arith)
     ∙ ap (λ (b : Bool). cond b (f k) origin) (lt-ltb k n h))
 
 -- a surface's entries up to the order n are the first of its array
 pub surface-finite : (l : List Float) (n : ℕ) → allVectorsFinite (vectorNumbers l) (triangle (suc n)) ≡ finiteVectorSurface (vectorSurfaceNumbers l) n
 surface-finite l n =
-    same (vectorNumbers l) (graded (vectorSurfaceNumbers l)) (triangle (suc n)) (λ k h. ap (vectorNumbers l) (sym (index-place k)))
+    same finiteVector (vectorNumbers l) (graded (vectorSurfaceNumbers l)) (triangle (suc n)) (λ k h. ap (vectorNumbers l) (sym (index-place k)))

@@ -29,10 +29,14 @@ curveNumbers l m = getD l m nan
 abbrev pub surfaceNumbers : List Float → ℕ → ℕ → Float
 surfaceNumbers l i j = getD l (index i j) nan
 
--- ---- whether the first n numbers are finite, and the entries up to the order n
-unfoldable pub allFinite : (ℕ → Float) → ℕ → Bool
-allFinite a zero = true
-allFinite a (suc n) = allFinite a n && finite (a n)
+-- ---- whether the first n pass a test
+unfoldable pub allPass : {A : Type 0} → (A → Bool) → (ℕ → A) → ℕ → Bool
+allPass test a zero = true
+allPass test a (suc n) = allPass test a n && test (a n)
+
+-- whether the first n numbers are finite, and the entries up to the order n
+abbrev pub allFinite : (ℕ → Float) → ℕ → Bool
+allFinite = allPass finite
 
 abbrev pub finiteList : List Float → Bool
 finiteList l = allFinite (λ k. getD l k nan) (length l)

@@ -1,4 +1,5 @@
 -- `derivatives::finite_surface` meets its contract. The invariant: those passed are finite. Assumes nothing.
+use lib.Ieee.Scale.{finite}
 use Rattle.derivatives.proofs.Finite.{none, more, stop, surface-finite, counted}
 use Rattle.derivatives.specs.Answer.{curveNumbers, allFinite}
 use Rattle.calculus.specs.Graded.{triangle}
@@ -25,7 +26,7 @@ surface-count-requires c κs = search needs
 loop-holds : tie.Need-loop-holds Inv-loop μ-loop
 loop-holds c = let n = c .before .args .n in
     let e = counted n (c .before .pre) (c .surface-count .ensures) in
-    (none _, omega arith, omega (arith, e, room-231 n (c .before .pre)), e)
+    (none finite _, omega arith, omega (arith, e, room-231 n (c .before .pre)), e)
 
 mul-x : tie.Need-mul-x Inv-loop μ-loop
 mul-x c = search needs
@@ -38,7 +39,7 @@ is-finite-requires c κs = search needs
 
 returns : tie.Need-returns Inv-loop μ-loop
 returns c = let s = c .before .before .before .before .before .before .args in
-    stop (curveNumbers (now (s .a))) (triangle (suc (s .n))) (omega (arith, c .before .before .before .before .loop .inv)) (sym (c .before .is-finite .ensures) ∙ not-true _ (c .if1 .taken)) ∙ surface-finite (now (s .a)) (s .n)
+    stop finite (curveNumbers (now (s .a))) (triangle (suc (s .n))) (omega (arith, c .before .before .before .before .loop .inv)) (sym (c .before .is-finite .ensures) ∙ not-true _ (c .if1 .taken)) ∙ surface-finite (now (s .a)) (s .n)
 
 add-i : tie.Need-add-i Inv-loop μ-loop
 add-i c = search needs
@@ -49,7 +50,7 @@ loop-less c = search needs
 loop-again : tie.Need-loop-again Inv-loop μ-loop
 loop-again c = let l = c .before .before .before .before .loop in
     let s = c .before .before .before .before .before .before .args in
-    (more (curveNumbers (now (s .a))) (l .i) (l .inv .0) (sym (c .before .is-finite .ensures) ∙ not-false _ (c .if1 .left)), omega arith, omega arith, l .inv .3)
+    (more finite (curveNumbers (now (s .a))) (l .i) (l .inv .0) (sym (c .before .is-finite .ensures) ∙ not-false _ (c .if1 .left)), omega arith, omega arith, l .inv .3)
 
 returns-2 : tie.Need-returns-2 Inv-loop μ-loop
 returns-2 c = let s = c .before .before .before .args in
