@@ -96,18 +96,19 @@ surface-formed f a b w {N} l {r} {m} {n} s h =
     ∙ sym (ap (λ (x : List Float). vectorSurfaceNumbers x i j) (s .is) ∙ flat-at (s .list) (index i j)))
 
 -- ---- a loop that writes vectors in turn, x, y and z of each
-module _ (all : List Float) {out : List Float} {v : Vector3} {left more : List Vector3} {l : ℕ} (w : Writing all out (flat left) l) (e : left ≡ v ∷ more) where
-  pub three-in-list : l + 2 < length out
+module _ (all : List Float) {out : List Float} {v : Vector3} {left more : List Vector3} (l : ℕ) (w : Writing all out (flat left) (3 * l)) (e : left ≡ v ∷ more) where
+  pub three-in-list : 3 * l + 2 < length out
   three-in-list =
       let n : length left ≡ suc (length more) = ap length e in
       omega (arith, w .room, flat-length left)
 
-  pub three-more : Writing all (put out l v) (flat more) (l + 3)
+  pub three-more : {q : List Float} → q ≡ put out (3 * l) v → Writing all q (flat more) (3 * (l + 1))
   unfolding flat
-  three-more =
-      let p : l + 1 + 1 ≡ l + 2 = omega arith in
-      let q : l + 2 + 1 ≡ l + 3 = omega arith in
-      subst (λ (x : ℕ). Writing all (put out l v) (flat more) x) q
+  three-more g =
+      let p : 3 * l + 1 + 1 ≡ 3 * l + 2 = omega arith in
+      let q : 3 * l + 2 + 1 ≡ 3 * (l + 1) = omega arith in
+      rw g
+      (subst (λ (x : ℕ). Writing all (put out (3 * l) v) (flat more) x) q
       (writing-goes-on all
-      (subst (λ (x : ℕ). Writing all (set (set out l (v .x)) (l + 1) (v .y)) (v .z ∷ flat more) x) p
-      (writing-goes-on all (writing-goes-on all w (ap flat e)) refl)) refl)
+      (subst (λ (x : ℕ). Writing all (set (set out (3 * l) (v .x)) (3 * l + 1) (v .y)) (v .z ∷ flat more) x) p
+      (writing-goes-on all (writing-goes-on all w (ap flat e)) refl)) refl))

@@ -424,10 +424,8 @@ pub fn write(a: &[f64; 693], n: usize, out: &mut [f64])
     let mut l = 0;
     while i <= n {
         let e = surface_at(a, i, j);
-        out[l] = e.x;
-        out[l + 1] = e.y;
-        out[l + 2] = e.z;
-        l += 3;
+        store(out, l, e);
+        l += 1;
         j += 1;
         if n < i + j {
             i += 1;
