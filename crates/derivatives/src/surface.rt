@@ -1,14 +1,14 @@
 // Jets of surfaces.
 ghost use mathlib.Core.Path.{_≡_};
 ghost use mathlib.Core.List.{List};
-ghost use Prim.Native.Nat.{ℕ, suc, _+_, _-_, _≤_};
+ghost use Prim.Native.Nat.{ℕ, suc, _+_, _-_, _*_, _≤_};
 ghost use lib.Ieee.{Float, nan};
 ghost use lib.ListN.{length, getD};
 ghost use Rattle.calculus.specs.Kind.{regular};
 ghost use Rattle.calculus.specs.InTurn.{inTurn};
 ghost use Rattle.calculus.specs.Rising.{risingRows};
 ghost use Rattle.calculus.specs.Array.{surfaceArray};
-ghost use Rattle.calculus.specs.Choose.{binomialTable};
+ghost use Rattle.calculus.specs.Choose.{choose, binomialTable};
 ghost use Rattle.calculus.specs.Graded.{triangle};
 ghost use Rattle.calculus.specs.Order.{surfaceEntries, listPlace};
 ghost use Rattle.calculus.specs.Surface.{derivativeU, derivativeV, sum as sums, difference as differences, product, leibniz};
@@ -23,6 +23,25 @@ use crate::formula::Formula;
 use crate::orders;
 use ieee::Real;
 
+// The entry [i][j].
+pub fn number_at(a: &[f64; 231], i: usize, j: usize) -> f64
+    requires { ⌜ i + j ≤ 20 ⌝ }
+    ensures { λ r. ⌜ r ≡ surfaceNumbers (now (a .entry)) i j ⌝ }
+{
+    let k = crate::index(i, j);
+    a[k]
+}
+
+// The coefficient of the term [i][j] of Leibniz's rule at [m][n].
+pub fn coefficient(c: &[u32; 231], m: usize, n: usize, i: usize, j: usize) -> f64
+    requires { ⌜ (i ≤ m) × (j ≤ n) × (m + n ≤ 20) × (now c ≡ binomialTable) ⌝ }
+    ensures { λ r. ⌜ r ≡ real .ofNat (choose m i * choose n j) ⌝ }
+{
+    let x = crate::binomial(c, m, i);
+    let y = crate::binomial(c, n, j);
+    crate::float(x * y)
+}
+
 pub fn leibniz_term(
     a: &[f64; 231],
     b: &[f64; 231],
@@ -35,12 +54,10 @@ pub fn leibniz_term(
     requires { ⌜ (i ≤ m) × (j ≤ n) × (m + n ≤ 20) × (now c ≡ binomialTable) ⌝ }
     ensures { λ r. ⌜ r ≡ leibniz (regular real) (real .times) (surfaceNumbers (now (a .entry))) (surfaceNumbers (now (b .entry))) m n i j ⌝ }
 {
-    let p = crate::index(i, j);
-    let q = crate::index(m - i, n - j);
-    let x = crate::binomial(c, m, i);
-    let y = crate::binomial(c, n, j);
-    let k = crate::float(x * y);
-    a[p] * b[q] * k
+    let k = coefficient(c, m, n, i, j);
+    let x = number_at(a, i, j);
+    let y = number_at(b, m - i, n - j);
+    x * y * k
 }
 
 // The terms of one i, j rising, added to a sum.
@@ -91,11 +108,11 @@ fn rational_term(
     requires { ⌜ (i ≤ m) × (j ≤ n) × (m + n ≤ 20) × (now c ≡ binomialTable) ⌝ }
     ensures { λ r. ⌜ r ≡ surfaceRationalTerm (regular real) (real .over) (surfaceNumbers (now (w .entry))) (surfaceNumbers (now (q .entry))) m n i j ⌝ }
 {
-    let p = crate::index(i, j);
-    let o = crate::index(m - i, n - j);
     let x = crate::float(crate::binomial(c, m, i));
     let y = crate::float(crate::binomial(c, n, j));
-    q[p] * (w[o] * x * y)
+    let e = number_at(q, i, j);
+    let d = number_at(w, m - i, n - j);
+    e * (d * x * y)
 }
 
 // The terms of one i, j rising, added to a sum.

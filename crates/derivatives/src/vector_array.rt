@@ -6,12 +6,23 @@ ghost use lib.Dec.{ltb};
 ghost use lib.ListN.{length};
 ghost use Rattle.derivatives.specs.Real.{isZero};
 ghost use Rattle.derivatives.specs.Answer.{curveNumbers, finiteCurve};
-ghost use Rattle.derivatives.specs.Vector.{put, vectorNumbers, vectorSurfaceNumbers, allVectorsFinite, finiteVectors, finiteVectorSurface};
+ghost use Rattle.derivatives.specs.Vector.{origin, put, vectorNumbers, vectorSurfaceNumbers, allVectorsFinite, finiteVectors, finiteVectorSurface};
 ghost use Rattle.derivatives.specs.VectorAnswer.{refusedVectors, madeVectors};
 use crate::VectorCurveAnswer;
 use crate::VectorCurveDerivatives;
 use ieee::both;
 use vectors::Vector3;
+
+// The vector that a sum starts from.
+pub fn zero() -> Vector3
+    ensures { λ r. ⌜ r ≡ origin ⌝ }
+{
+    Vector3 {
+        x: 0.0,
+        y: 0.0,
+        z: 0.0,
+    }
+}
 
 // The entry k of an array.
 pub fn vector_at(a: &[f64], k: usize) -> Vector3

@@ -18,6 +18,7 @@ ghost use Rattle.derivatives.specs.Vector.{origin, vectors, vectorNumber
 ghost use Rattle.derivatives.specs.VectorFormula.{vectorFormula, numberFormula};
 use crate::vector_array::store;
 use crate::vector_array::vector_at;
+use crate::vector_array::zero;
 use vectors::Vector3;
 
 fn scaled_term(a: &[f64; 63], b: &[f64; 21], c: &[u32; 231], m: usize, i: usize) -> Vector3
@@ -35,11 +36,7 @@ pub fn scaled_entry(a: &[f64; 63], b: &[f64; 21], c: &[u32; 231], m: usize) -> V
     requires { ⌜ (m ≤ 20) × (now c ≡ binomialTable) ⌝ }
     ensures { λ r. ⌜ r ≡ productBy vectors multiple (vectorNumbers (now (a .entry))) (curveNumbers (now (b .entry))) m ⌝ }
 {
-    let mut sum = Vector3 {
-        x: 0.0,
-        y: 0.0,
-        z: 0.0,
-    };
+    let mut sum = zero();
     let mut i = 0;
     while i <= m {
         let t = scaled_term(a, b, c, m, i);
@@ -64,11 +61,7 @@ pub fn cross_entry(a: &[f64; 63], b: &[f64; 63], c: &[u32; 231], m: usize) -> Ve
     requires { ⌜ (m ≤ 20) × (now c ≡ binomialTable) ⌝ }
     ensures { λ r. ⌜ r ≡ productBy vectors cross (vectorNumbers (now (a .entry))) (vectorNumbers (now (b .entry))) m ⌝ }
 {
-    let mut sum = Vector3 {
-        x: 0.0,
-        y: 0.0,
-        z: 0.0,
-    };
+    let mut sum = zero();
     let mut i = 0;
     while i <= m {
         let t = cross_term(a, b, c, m, i);
