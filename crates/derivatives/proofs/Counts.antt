@@ -1,5 +1,5 @@
 -- Multiplicities to order 20 are below 2^53, so a float holds each: none is above the Stirling number of its order and len. Assumes nothing.
-use mathlib.Core.Path.{_≡_, refl, sym, ap, _∙_, subst}
+use mathlib.Core.Path.{_≡_, refl, sym, _∙_, subst}
 use mathlib.Core.Bool.{Bool, true, false, cond, true≢false}
 use mathlib.Core.List.{List, [], _∷_, List·Memᴰ, List·Memᴰ·head, List·Memᴰ·tail}
 use Prim.Native.Nat.{ℕ, zero, suc, _+_, _*_, _/_, _^_, _≤_, _<_}
@@ -10,10 +10,10 @@ use lib.IntN.{pos}
 use lib.ListN.{length, getD}
 use lib.Ieee.{binary64, inFloat}
 use borrow.Author.Tests.{ltb-true, le-leb}
-use Rattle.partitions.specs.Parts.{total, lists, multiplicity}
-use Rattle.partitions.specs.Count.{isList, stirling, totalCount}
+use Rattle.partitions.specs.Parts.{total, multiplicity}
+use Rattle.partitions.specs.Count.{isList, totalCount}
 use Rattle.partitions.proofs.Down.{long}
-use Rattle.partitions.proofs.Lists.{Is, complete}
+use Rattle.partitions.proofs.Lists.{complete}
 use Rattle.partitions.proofs.Member.{list-down}
 use Rattle.partitions.proofs.Stirling.{count-is}
 use Rattle.partitions.proofs.Triangle.{triangle, triangle-at}

@@ -1,5 +1,6 @@
 pub mod Terms
 pub mod Finite
+pub mod Tested
 pub mod Quotients
 pub mod Curves
 pub mod Surfaces

@@ -1,15 +1,13 @@
 -- Quotients keep a relation that the operations of two kinds of scalar and of entry keep: as far as the jets are related. Assumes nothing.
-use mathlib.Core.Path.{_≡_, refl, sym, ap, ap₂, _∙_, subst}
+use mathlib.Core.Path.{subst}
 use mathlib.Core.Bool.{Bool, true, false, cond}
-use Prim.Native.Nat.{ℕ, zero, suc, _+_, _-_, _<_, _≤_, zero-le}
-use native.Mathlib.Nat.{le-refl}
+use Prim.Native.Nat.{ℕ, zero, suc, _+_, _-_, _≤_, zero-le}
 use native.Mathlib.Omega.{arith}
-use lib.Dec.{eqb}
 use Rattle.calculus.specs.Kind.{Module}
 use Rattle.calculus.specs.Choose.{choose}
 use Rattle.calculus.specs.Rising.{before, rising, withRow, risingRow, beforeEntry, risingRows}
 use Rattle.partitions.proofs.Tests.{by-eqb}
-use Rattle.calculus.proofs.Related.{RelatedModules, sameModule, CurvesAlike, SurfacesAlike, inTurn-alike, inRows-alike}
+use Rattle.calculus.proofs.Related.{RelatedModules, CurvesAlike, SurfacesAlike, inTurn-alike, inRows-alike}
 use Rattle.derivatives.specs.Rational.{rationalTerm, rationalEntry, rational, surfaceRationalTerm, surfaceRationalEntry, surfaceRational}
 
 -- ---- entries that rise, where a step may read the entry that it forms, which is blank until then

@@ -1,8 +1,7 @@
 -- A loop that forms the entries of a surface's jet, i rising, then j, and stores each; and what a formula reads of them. Assumes nothing.
-use mathlib.Core.Path.{_≡_, refl, sym, ap, ap₂, _∙_, subst}
+use mathlib.Core.Path.{_≡_, refl, sym, ap₂, subst}
 use mathlib.Core.List.{List}
-use Prim.Native.Nat.{ℕ, suc, _+_, _≤_, _<_}
-use native.Mathlib.Nat.{le-refl}
+use Prim.Native.Nat.{ℕ, _+_, _≤_, _<_}
 use native.Mathlib.Omega.{arith}
 use lib.ListN.{set, replicate}
 use lib.Ieee.{Float, nan}
@@ -14,17 +13,13 @@ use Rattle.calculus.proofs.Related.{sameModule}
 use Rattle.calculus.proofs.Graded.{room-231}
 use Rattle.calculus.proofs.SurfaceFilling.{SurfaceStored, surface-none, surface-more, surface-next, surface-all, surface-earlier}
 use Rattle.calculus.proofs.Left.{Inside}
-use Rattle.derivatives.specs.declared.SurfaceAnswer.{SurfaceAnswer}
-use Rattle.derivatives.specs.declared.surface.SurfaceFormula.{SurfaceFormula}
-use Rattle.derivatives.specs.declared.surface.SurfaceFormula.the-variants
+use Rattle.derivatives.specs.declared.formula.Formula.{Formula}
+use Rattle.derivatives.specs.declared.formula.Formula.the-variants
 use Rattle.derivatives.specs.Real.{nil, real}
 use Rattle.derivatives.specs.Answer.{surfaceNumbers}
 use Rattle.derivatives.specs.Formula.{surfaceFormula}
 use Rattle.derivatives.proofs.Curves.{Eq}
 use Rattle.derivatives.proofs.Quotients.{surfaceRationalEntry-alike}
-
-abbrev pub made : ℕ → List Float → SurfaceAnswer
-made n l = record { refusal = 0; jet = record { order = n; entries = l } }
 
 module _ (f : ℕ → ℕ → Float) {n : ℕ} (b : n ≤ 20) where
   abbrev pub SurfaceFilled : ℕ → ℕ → List Float → Type 0
@@ -54,7 +49,7 @@ module _ (f : ℕ → ℕ → Float) {n : ℕ} (b : n ≤ 20) where
         surface-all 231 nan nil n (room-231 n b) (λ i j v. f i j ≡ v) f (λ i j v q. sym q) {m = i} (subst (λ (x : ℕ). SurfaceFilled i x r) e (p .stored)) l
 
 -- ---- a formula reads only entries that are formed, or that it forms
-surface-reads : (f : SurfaceFormula) (a b p q : ℕ → ℕ → Float) (N m n : ℕ) → m + n ≤ N → ((i j : ℕ) → i + j ≤ N → p i j ≡ q i j) →
+surface-reads : (f : Formula) (a b p q : ℕ → ℕ → Float) (N m n : ℕ) → m + n ≤ N → ((i j : ℕ) → i + j ≤ N → p i j ≡ q i j) →
     surfaceFormula f a b p m n ≡ surfaceFormula f a b q m n
 surface-reads the-variants.Sum a b p q N m n l h = refl
 surface-reads the-variants.Difference a b p q N m n l h = refl
@@ -63,10 +58,10 @@ surface-reads the-variants.Quotient a b p q N m n l h =
     surfaceRationalEntry-alike Eq Eq (regular real) (regular real) (sameModule (regular real)) (real .over) (real .over) (λ a s b t e g. ap₂ (real .over) e g) N
     a a b b (λ i j l. refl) (λ i j l. refl) m n l p q (λ i j c d. h i j (omega arith))
 
-abbrev pub surfaceOf : SurfaceFormula → (ℕ → ℕ → Float) → (ℕ → ℕ → Float) → ℕ → ℕ → Float
+abbrev pub surfaceOf : Formula → (ℕ → ℕ → Float) → (ℕ → ℕ → Float) → ℕ → ℕ → Float
 surfaceOf f a b = risingRows nil (surfaceFormula f a b)
 
-pub surface-formed : (f : SurfaceFormula) (a b : ℕ → ℕ → Float) {N : ℕ} (l : N ≤ 20) {r : List Float} {m n : ℕ} → SurfaceFilled (surfaceOf f a b) l m n r → m + n ≤ N →
+pub surface-formed : (f : Formula) (a b : ℕ → ℕ → Float) {N : ℕ} (l : N ≤ 20) {r : List Float} {m n : ℕ} → SurfaceFilled (surfaceOf f a b) l m n r → m + n ≤ N →
     surfaceOf f a b m n ≡ surfaceFormula f a b (surfaceNumbers r) m n
 surface-formed f a b {N} l {r} {m} {n} s h =
     surface-reads f a b (beforeEntry nil (surfaceFormula f a b) m n) (surfaceNumbers r) N m n h

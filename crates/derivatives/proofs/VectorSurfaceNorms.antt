@@ -1,13 +1,10 @@
--- The norm of a surface of vectors: what an entry reads of those before it, and the answer by the tests. Assumes nothing.
+-- The norm of a surface of vectors: what an entry reads of those before it. Assumes nothing.
 use mathlib.Core.Path.{_≡_, refl, ap, ap₂, _∙_}
-use mathlib.Core.Bool.{true, false, _&&_}
 use mathlib.Core.List.{List}
-use Prim.Native.Nat.{ℕ, _+_, _≤_, _<_}
+use Prim.Native.Nat.{ℕ, _+_, _≤_}
 use native.Mathlib.Omega.{arith}
-use lib.Dec.{ltb}
 use lib.ListN.{getD}
 use lib.Ieee.{Float, nan}
-use borrow.Author.Tests.{lt-ltb, le-ltb}
 use Rattle.ieee.specs.SquareRoot.{squareRoot}
 use Rattle.vectors.specs.declared.Vector3.{Vector3}
 use Rattle.vectors.specs.Vectors.{dot}
@@ -17,12 +14,10 @@ use Rattle.calculus.specs.Array.{surfaceArray}
 use Rattle.calculus.proofs.Related.{same}
 use Rattle.calculus.proofs.Graded.{room-231}
 use Rattle.calculus.proofs.SurfaceFilling.{surface-earlier, array-at}
-use Rattle.derivatives.specs.declared.VectorSurfaceDerivatives.{VectorSurfaceDerivatives}
-use Rattle.derivatives.specs.Real.{nil, real, isZero}
+use Rattle.derivatives.specs.Real.{nil, real}
 use Rattle.derivatives.specs.Norm.{surfaceNormEntry}
-use Rattle.derivatives.specs.Answer.{surfaceNumbers, refusedSurface, returnedSurface}
-use Rattle.derivatives.specs.Vector.{vectorSurfaceNumbers, finiteVectorSurface}
-use Rattle.derivatives.specs.VectorSurfaceNorm.{vectorSurfaceNorm, vectorSurfaceAbsolute}
+use Rattle.derivatives.specs.Answer.{surfaceNumbers}
+use Rattle.derivatives.specs.VectorSurfaceNorm.{vectorSurfaceNorm}
 use Rattle.derivatives.proofs.Curves.{Eq}
 use Rattle.derivatives.proofs.Norms.{surfaceNormEntry-alike}
 use Rattle.derivatives.proofs.Surfaces.{SurfaceFilled}
@@ -40,20 +35,3 @@ norm-formed s {N} l {r} {m} {n} p h =
 pub first-entry : (f : ℕ → ℕ → Float) (n : ℕ) → n ≤ 20 → {r : List Float} → r ≡ surfaceArray nil f n → getD r 0 nan ≡ f 0 0
 unfolding index
 first-entry f n l e = ap (λ (x : List Float). getD x 0 nan) e ∙ array-at nan nil f n 0 0 l (omega arith)
-
-module _ (a : VectorSurfaceDerivatives) where
-  pub absolute-order : 20 < a .order → refusedSurface 1 ≡ vectorSurfaceAbsolute a
-  absolute-order h = rw (lt-ltb 20 (a .order) h)
-
-  module _ (h : a .order ≤ 20) where
-    pub absolute-finite : finiteVectorSurface (vectorSurfaceNumbers (a .entries)) (a .order) ≡ false → refusedSurface 5 ≡ vectorSurfaceAbsolute a
-    absolute-finite p = rw (le-ltb 20 (a .order) h, p)
-
-    module _ (p : finiteVectorSurface (vectorSurfaceNumbers (a .entries)) (a .order) ≡ true) where
-      pub absolute-zero : (ltb 0 (a .order) && isZero (vectorSurfaceNorm (vectorSurfaceNumbers (a .entries)) 0 0)) ≡ true →
-          refusedSurface 7 ≡ vectorSurfaceAbsolute a
-      absolute-zero q = rw (le-ltb 20 (a .order) h, p, q)
-
-      pub absolute-is : (ltb 0 (a .order) && isZero (vectorSurfaceNorm (vectorSurfaceNumbers (a .entries)) 0 0)) ≡ false →
-          returnedSurface (a .order) (vectorSurfaceNorm (vectorSurfaceNumbers (a .entries))) ≡ vectorSurfaceAbsolute a
-      absolute-is q = rw (le-ltb 20 (a .order) h, p, q)

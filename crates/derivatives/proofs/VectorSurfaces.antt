@@ -1,7 +1,7 @@
 -- A loop that forms the entries of a surface of vectors, i rising, then j, and stores each; and what a formula reads of them.
 -- Assumes nothing.
 use mathlib.Core.Path.{_≡_, refl, sym, ap, ap₂, _∙_, subst}
-use mathlib.Core.List.{List, [], _∷_}
+use mathlib.Core.List.{List, _∷_}
 use Prim.Native.Nat.{ℕ, suc, _+_, _*_, _≤_, _<_}
 use native.Mathlib.Omega.{arith}
 use lib.ListN.{length, set, replicate}
@@ -18,11 +18,11 @@ use Rattle.calculus.proofs.Writing.{Writing, writing-goes-on}
 use Rattle.derivatives.specs.declared.vector_entries.VectorFormula.{VectorFormula}
 use Rattle.derivatives.specs.declared.vector_entries.VectorFormula.the-variants as vector
 use Rattle.derivatives.specs.Real.{nil}
-use Rattle.derivatives.specs.Vector.{origin, vectors, vectorSurfaceNumbers, flat, vectorSurfaceArray}
+use Rattle.derivatives.specs.Vector.{put, origin, vectors, vectorSurfaceNumbers, flat, vectorSurfaceArray}
 use Rattle.derivatives.specs.VectorSurfaceAnswer.{vectorSurfaceFormula}
 use Rattle.derivatives.proofs.Curves.{Eq}
 use Rattle.derivatives.proofs.Quotients.{surfaceRationalEntry-alike}
-use Rattle.derivatives.proofs.Vectors.{nowhere, put, Held, flat-at, flat-put, flat-zeros}
+use Rattle.derivatives.proofs.Vectors.{nowhere, Held, held-long, flat-length, flat-at, flat-put, flat-zeros}
 
 module _ (f : ℕ → ℕ → Vector3) {n : ℕ} (b : n ≤ 20) where
   abbrev pub Stored : ℕ → ℕ → List Vector3 → Type 0
@@ -39,17 +39,22 @@ module _ (f : ℕ → ℕ → Vector3) {n : ℕ} (b : n ≤ 20) where
   }
 
   module _ {i j : ℕ} {r : List Float} (p : SurfaceProgress i j r) where
-    module _ {v : Vector3} (h : i ≤ n) (e : f i j ≡ v) where
+    pub surface-long : 693 ≡ length r
+    surface-long = held-long 231 (p .stored) (p .stored .holds .long)
+
+    -- an entry more is stored at k
+    module _ {v : Vector3} {k : ℕ} {q : List Float} (h : i ≤ n) (e : f i j ≡ v) (w : k ≡ index i j) (g : q ≡ put r (3 * k) v) where
       kept : Stored i (j + 1) (set (p .stored .list) (index i j) v)
       kept = surface-more 231 nowhere origin n (room-231 n b) (λ i j v. f i j ≡ v) v (p .stored .holds) (p .inside .1 h) e
 
-      is-put : put r (3 * index i j) v ≡ flat (set (p .stored .list) (index i j) v)
-      is-put = ap (λ (x : List Float). put x (3 * index i j) v) (p .stored .is) ∙ flat-put (p .stored .list) (index i j) v
+      is-put : q ≡ flat (set (p .stored .list) (index i j) v)
+      is-put =
+          g ∙ ap₂ (λ (x : List Float) (y : ℕ). put x (3 * y) v) (p .stored .is) w ∙ flat-put (p .stored .list) (index i j) v
 
-      pub surface-goes-on : i + (j + 1) ≤ n → SurfaceProgress i (j + 1) (put r (3 * index i j) v)
+      pub surface-goes-on : i + (j + 1) ≤ n → SurfaceProgress i (j + 1) q
       surface-goes-on l = record { stored = record { list = set (p .stored .list) (index i j) v; is = is-put; holds = kept }; inside = (omega arith, λ k. l) }
 
-      pub surface-turns : n < i + (j + 1) → SurfaceProgress (i + 1) 0 (put r (3 * index i j) v)
+      pub surface-turns : n < i + (j + 1) → SurfaceProgress (i + 1) 0 q
       surface-turns l = record {
         stored = record {
           list = set (p .stored .list) (index i j) v;
@@ -91,23 +96,19 @@ surface-formed f a b w {N} l {r} {m} {n} s h =
     ∙ sym (ap (λ (x : List Float). vectorSurfaceNumbers x i j) (s .is) ∙ flat-at (s .list) (index i j)))
 
 -- ---- a loop that writes vectors in turn, x, y and z of each
-pub flat-length : (l : List Vector3) → length (flat l) ≡ 3 * length l
-unfolding flat
-flat-length [] = refl
-flat-length (a ∷ l) = let e = flat-length l in omega arith
-
-module _ (all : List Float) {out : List Float} {v : Vector3} {left more : List Vector3} {l : ℕ} (w : Writing all out (flat left) l) (e : left ≡ v ∷ more) where
-  pub three-in-list : l + 2 < length out
+module _ (all : List Float) {out : List Float} {v : Vector3} {left more : List Vector3} (l : ℕ) (w : Writing all out (flat left) (3 * l)) (e : left ≡ v ∷ more) where
+  pub three-in-list : 3 * l + 2 < length out
   three-in-list =
       let n : length left ≡ suc (length more) = ap length e in
       omega (arith, w .room, flat-length left)
 
-  pub three-more : Writing all (put out l v) (flat more) (l + 3)
+  pub three-more : {q : List Float} → q ≡ put out (3 * l) v → Writing all q (flat more) (3 * (l + 1))
   unfolding flat
-  three-more =
-      let p : l + 1 + 1 ≡ l + 2 = omega arith in
-      let q : l + 2 + 1 ≡ l + 3 = omega arith in
-      subst (λ (x : ℕ). Writing all (put out l v) (flat more) x) q
+  three-more g =
+      let p : 3 * l + 1 + 1 ≡ 3 * l + 2 = omega arith in
+      let q : 3 * l + 2 + 1 ≡ 3 * (l + 1) = omega arith in
+      rw g
+      (subst (λ (x : ℕ). Writing all (put out (3 * l) v) (flat more) x) q
       (writing-goes-on all
-      (subst (λ (x : ℕ). Writing all (set (set out l (v .x)) (l + 1) (v .y)) (v .z ∷ flat more) x) p
-      (writing-goes-on all (writing-goes-on all w (ap flat e)) refl)) refl)
+      (subst (λ (x : ℕ). Writing all (set (set out (3 * l) (v .x)) (3 * l + 1) (v .y)) (v .z ∷ flat more) x) p
+      (writing-goes-on all (writing-goes-on all w (ap flat e)) refl)) refl))

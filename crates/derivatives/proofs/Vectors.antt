@@ -1,13 +1,10 @@
 -- Arrays of vectors: what they hold, what a loop stores in them, and when they are finite. Assumes nothing.
 use mathlib.Core.Path.{_≡_, refl, sym, ap, ap₂, _∙_}
-use mathlib.Core.Bool.{Bool, true, false, cond, _&&_}
+use mathlib.Core.Bool.{Bool, cond}
 use mathlib.Core.List.{List, [], _∷_}
-use Prim.Native.Nat.{ℕ, zero, suc, _+_, _*_, _/_, _≤_, _<_}
-use native.Mathlib.Nat.{le-refl, not-suc-le-zero}
-use native.Mathlib.Numerals.{add-one}
-use native.Mathlib.Decide.{ℕ-discrete}
+use Prim.Native.Nat.{ℕ, zero, suc, _+_, _*_, _≤_, _<_}
 use native.Mathlib.Omega.{arith}
-use lib.ListN.{getD, set, replicate}
+use lib.ListN.{length, getD, set, replicate}
 use lib.Ieee.{Float, nan}
 use borrow.Author.Tests.{lt-ltb}
 use Rattle.vectors.specs.declared.Vector3.{Vector3}
@@ -19,8 +16,8 @@ use Rattle.calculus.proofs.Filling.{CurveStored, curve-none, curve-more, curve-
 use Rattle.calculus.specs.Graded.{triangle, graded}
 use Rattle.calculus.proofs.Graded.{index-place}
 use Rattle.derivatives.specs.Real.{nil}
-use Rattle.derivatives.specs.Vector.{origin, vectorNumbers, flat, vectorSurfaceNumbers, vectorArray, allVectorsFinite, finiteVectorSurface}
-use Rattle.derivatives.proofs.Finite.{count-is}
+use Rattle.derivatives.specs.Vector.{origin, put, vectorNumbers, flat, vectorSurfaceNumbers, vectorArray, allVectorsFinite, finiteVectorSurface}
+use Rattle.derivatives.proofs.Finite.{same}
 
 -- what the logic reads past the end
 abbrev pub nowhere : Vector3
@@ -32,9 +29,6 @@ three k = omega arith
 -- ---- reading and writing at i, i + 1 and i + 2
 abbrev at : List Float → ℕ → Vector3
 at l i = vector (getD l i nan) (getD l (i + 1) nan) (getD l (i + 2) nan)
-
-abbrev pub put : List Float → ℕ → Vector3 → List Float
-put l i v = set (set (set l i (v .x)) (i + 1) (v .y)) (i + 2) (v .z)
 
 module _ (a b c : Float) (l : List Float) (i : ℕ) where
   one-on : suc (suc (suc i)) + 1 ≡ suc (suc (suc (i + 1)))
@@ -68,6 +62,11 @@ unfolding flat
 flat-zeros zero = refl
 flat-zeros (suc w) = ap (λ (k : ℕ). replicate k nil) (three w) ∙ ap (λ (r : List Float). nil ∷ nil ∷ nil ∷ r) (flat-zeros w)
 
+pub flat-length : (l : List Vector3) → length (flat l) ≡ 3 * length l
+unfolding flat
+flat-length [] = refl
+flat-length (a ∷ l) = let e = flat-length l in omega arith
+
 -- the first 3 k floats are the first k vectors
 pub flat-listed : (f : ℕ → Float) (i k : ℕ) → listed f (3 * i) (3 * k) ≡ flat (listed (λ j. vector (f (3 * j)) (f (3 * j + 1)) (f (3 * j + 2))) i k)
 unfolding flat listed
@@ -90,6 +89,9 @@ pub record Held (P : List Vector3 → Type 0) (r : List Float) : Type 0 where
   pub is : r ≡ flat list
   pub holds : P list
 
+pub held-long : (w : ℕ) {P : List Vector3 → Type 0} {r : List Float} (h : Held P r) → length (h .list) ≡ w → 3 * w ≡ length r
+held-long w h e = sym (ap length (h .is) ∙ flat-length (h .list) ∙ ap (_*_ 3) e)
+
 module _ (f : ℕ → Vector3) where
   abbrev pub VectorsStored : ℕ → List Vector3 → Type 0
   VectorsStored = CurveStored 21 nowhere origin (λ k v. f k ≡ v)
@@ -107,6 +109,12 @@ module _ (f : ℕ → Vector3) where
     holds = curve-more 21 nowhere origin (λ k v. f k ≡ v) v (h .holds) l e;
   }
 
+  pub vectors-long : {r : List Float} {m : ℕ} → VectorsFilled m r → 63 ≡ length r
+  vectors-long h = held-long 21 h (h .holds .long)
+
+  pub vectors-stored : {r q : List Float} {m : ℕ} (v : Vector3) → VectorsFilled m r → m < 21 → f m ≡ v → q ≡ put r (3 * m) v → VectorsFilled (m + 1) q
+  vectors-stored v h l e g = rw g (vectors-more v h l e)
+
   pub vectors-all : {r : List Float} (n : ℕ) {m : ℕ} → VectorsFilled m r → m ≡ suc n → r ≡ vectorArray f n
   vectors-all n h e = h .is ∙ ap flat (curve-all 21 nowhere origin (λ k v. f k ≡ v) f (λ k v q. sym q) (suc n) (h .holds) e)
 
@@ -117,44 +125,14 @@ vectors-earlier step {r} {m} h k l =
     curve-earlier 21 nowhere origin (λ (v : Vector3). v) step (h .holds) k l
     ∙ sym (ap (λ (x : List Float). vectorNumbers x k) (h .is) ∙ flat-at (h .list) k)
 
--- ---- a loop that asks of each vector whether it is finite, and stops at the first that is not
-and-false : (b : Bool) → (b && false) ≡ false
-and-false true = refl
-and-false false = refl
-
-module _ (a : ℕ → Vector3) where
-  pub none : allVectorsFinite a 0 ≡ true
-  unfolding allVectorsFinite
-  none = refl
-
-  pub more : (i : ℕ) → allVectorsFinite a i ≡ true → finiteVector (a i) ≡ true → allVectorsFinite a (i + 1) ≡ true
-  unfolding allVectorsFinite
-  more i e h = ap (allVectorsFinite a) (add-one i) ∙ ap₂ _&&_ e h
-
-  pub stop : {i : ℕ} (n : ℕ) → i < n → finiteVector (a i) ≡ false → false ≡ allVectorsFinite a n
-  unfolding allVectorsFinite
-  stop zero l e = absurd (not-suc-le-zero l)
-  stop {i} (suc n) l e = go (ℕ-discrete i n) (λ h. stop n h e)
-    where
-      go : Dec (i ≡ n) → (i < n → false ≡ allVectorsFinite a n) → false ≡ (allVectorsFinite a n && finiteVector (a n))
-      go (yes q) f =
-          sym (ap (λ (x : Bool). allVectorsFinite a n && x) (ap (λ (k : ℕ). finiteVector (a k)) (sym q) ∙ e) ∙ and-false (allVectorsFinite a n))
-      go (no q) f = ap (λ (x : Bool). x && finiteVector (a n)) (f (omega arith))
-
-pub same : (a b : ℕ → Vector3) (n : ℕ) → ((k : ℕ) → k < n → a k ≡ b k) → allVectorsFinite a n ≡ allVectorsFinite b n
-unfolding allVectorsFinite
-same a b zero h = refl
-same a b (suc n) h = ap₂ _&&_ (same a b n (λ k l. h k (omega arith))) (ap finiteVector (h n (le-refl (suc n))))
-
--- the array is finite as far as it is filled where its entries are
+-- ---- the array is finite as far as it is filled where its entries are
 pub filled-finite : (w : ℕ) (f : ℕ → Vector3) (n : ℕ) → n ≤ w → allVectorsFinite (vectorNumbers (flat (filled w origin f n))) n ≡ allVectorsFinite f n
 filled-finite w f n l =
-    same (vectorNumbers (flat (filled w origin f n))) f n
+    same finiteVector (vectorNumbers (flat (filled w origin f n))) f n
     (λ k h. flat-at (filled w origin f n) k ∙ filled-at w nowhere origin f n k (omega arith)
     ∙ ap (λ (b : Bool). cond b (f k) origin) (lt-ltb k n h))
 
--- a surface's entries up to the order n are the first (n + 1)(n + 2)/2 of its array
-pub surface-finite : (l : List Float) (n : ℕ) → allVectorsFinite (vectorNumbers l) ((n + 1) * (n + 2) / 2) ≡ finiteVectorSurface (vectorSurfaceNumbers l) n
+-- a surface's entries up to the order n are the first of its array
+pub surface-finite : (l : List Float) (n : ℕ) → allVectorsFinite (vectorNumbers l) (triangle (suc n)) ≡ finiteVectorSurface (vectorSurfaceNumbers l) n
 surface-finite l n =
-    ap (allVectorsFinite (vectorNumbers l)) (count-is n)
-    ∙ same (vectorNumbers l) (graded (vectorSurfaceNumbers l)) (triangle (suc n)) (λ k h. ap (vectorNumbers l) (sym (index-place k)))
+    same finiteVector (vectorNumbers l) (graded (vectorSurfaceNumbers l)) (triangle (suc n)) (λ k h. ap (vectorNumbers l) (sym (index-place k)))

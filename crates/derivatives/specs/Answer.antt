@@ -1,6 +1,6 @@
 -- What a function on jets of floats answers: the jet, with zeros past its order, beside 0; or the number of the first refusal, beside the
 -- zero jet of order 0. Checked as 1, 2, 5; then 7; 10 last. Assumes nothing.
-use mathlib.Core.Bool.{Bool, true, cond, _&&_}
+use mathlib.Core.Bool.{Bool, true, false, cond, not, _&&_, _||_}
 use mathlib.Core.List.{List, [], _∷_}
 use Prim.Native.Nat.{ℕ, zero, suc, _+_, _*_, _-_, min}
 use lib.Dec.{ltb, eqb}
@@ -29,10 +29,14 @@ curveNumbers l m = getD l m nan
 abbrev pub surfaceNumbers : List Float → ℕ → ℕ → Float
 surfaceNumbers l i j = getD l (index i j) nan
 
--- ---- whether the first n numbers are finite, and the entries up to the order n
-unfoldable pub allFinite : (ℕ → Float) → ℕ → Bool
-allFinite a zero = true
-allFinite a (suc n) = allFinite a n && finite (a n)
+-- ---- whether the first n pass a test
+unfoldable pub allPass : {A : Type 0} → (A → Bool) → (ℕ → A) → ℕ → Bool
+allPass test a zero = true
+allPass test a (suc n) = allPass test a n && test (a n)
+
+-- whether the first n numbers are finite, and the entries up to the order n
+abbrev pub allFinite : (ℕ → Float) → ℕ → Bool
+allFinite = allPass finite
 
 abbrev pub finiteList : List Float → Bool
 finiteList l = allFinite (λ k. getD l k nan) (length l)
@@ -44,6 +48,15 @@ abbrev pub finiteSurface : (ℕ → ℕ → Float) → ℕ → Bool
 finiteSurface s n = allFinite (graded s) (triangle (suc n))
 
 -- ---- a refusal's number beside the zero jet of order 0, and a jet beside 0
+abbrev pub madeCurve : ℕ → List Float → CurveAnswer
+madeCurve n l = record { refusal = 0; jet = record { order = n; entries = l } }
+
+abbrev pub madeSurface : ℕ → List Float → SurfaceAnswer
+madeSurface n l = record { refusal = 0; jet = record { order = n; entries = l } }
+
+abbrev pub madeParameter : ℕ → List Float → List Float → ParameterAnswer
+madeParameter n u v = record { refusal = 0; jet = record { order = n; u = u; v = v } }
+
 abbrev pub refusedCurve : ℕ → CurveAnswer
 refusedCurve c = record { refusal = c; jet = record { order = 0; entries = replicate 21 nil } }
 
@@ -54,13 +67,13 @@ abbrev pub refusedParameter : ℕ → ParameterAnswer
 refusedParameter c = record { refusal = c; jet = record { order = 0; u = replicate 21 nil; v = replicate 21 nil } }
 
 abbrev pub answeredCurve : ℕ → (ℕ → Float) → CurveAnswer
-answeredCurve n a = record { refusal = 0; jet = record { order = n; entries = curveArray nil a n } }
+answeredCurve n a = madeCurve n (curveArray nil a n)
 
 abbrev pub answeredSurface : ℕ → (ℕ → ℕ → Float) → SurfaceAnswer
-answeredSurface n s = record { refusal = 0; jet = record { order = n; entries = surfaceArray nil s n } }
+answeredSurface n s = madeSurface n (surfaceArray nil s n)
 
 abbrev pub answeredParameter : ℕ → (ℕ → Float) → (ℕ → Float) → ParameterAnswer
-answeredParameter n u v = record { refusal = 0; jet = record { order = n; u = curveArray nil u n; v = curveArray nil v n } }
+answeredParameter n u v = madeParameter n (curveArray nil u n) (curveArray nil v n)
 
 -- ---- what has been computed: 10 where an entry is not finite
 abbrev pub returnedCurve : ℕ → (ℕ → Float) → CurveAnswer
@@ -68,6 +81,13 @@ returnedCurve n a = cond (finiteCurve a n) (answeredCurve n a) (refusedCurve 10)
 
 abbrev pub returnedSurface : ℕ → (ℕ → ℕ → Float) → SurfaceAnswer
 returnedSurface n s = cond (finiteSurface s n) (answeredSurface n s) (refusedSurface 10)
+
+-- ---- the tests before the work: an order is above 20, an order or a length does not fit, what is read is finite
+abbrev pub tested : {R : Type 0} → (ℕ → R) → Bool → Bool → Bool → R → R
+tested refused far unfit finite r = cond far (refused 1) (cond unfit (refused 2) (cond finite r (refused 5)))
+
+abbrev pub far : ℕ → ℕ → Bool
+far m n = ltb 20 m || ltb 20 n
 
 -- ---- how a jet is read: its order, its entries, and whether those up to an order are finite
 pub record Reading (J N : Type 0) : Type 0 where
@@ -81,6 +101,29 @@ curves = record { order = λ a. a .order; numbers = λ a. curveNumbers (a .entri
 abbrev pub surfaces : Reading SurfaceDerivatives (ℕ → ℕ → Float)
 surfaces = record { order = λ a. a .order; numbers = λ a. surfaceNumbers (a .entries); finite = finiteSurface }
 
+-- u and v
+abbrev pub parameters : Reading ParameterCurve ((ℕ → Float) × (ℕ → Float))
+parameters = record {
+  order = λ c. c .order;
+  numbers = λ c. (curveNumbers (c .u), curveNumbers (c .v));
+  finite = λ c n. finiteCurve (c .0) n && finiteCurve (c .1) n;
+}
+
+module _ {J M A : Type 0} (R : Reading J M) (refused : ℕ → A) where
+  -- work on one jet, at its order
+  abbrev pub onOne : (M → ℕ → A) → J → A
+  onOne op a =
+      let n = R .order a in
+      let x = R .numbers a in
+      tested refused (ltb 20 n) false (R .finite x n) (op x n)
+
+  -- a derivative has one order less
+  abbrev pub onOneLess : (M → ℕ → A) → J → A
+  onOneLess op a =
+      let n = R .order a in
+      let x = R .numbers a in
+      tested refused (ltb 20 n) (eqb n 0) (R .finite x n) (op x (n - 1))
+
 module _ {J K M N A : Type 0} (R : Reading J M) (S : Reading K N) (refused : ℕ → A) where
   -- work on two jets, at the smaller order
   abbrev pub onTwo : (M → N → ℕ → A) → J → K → A
@@ -88,17 +131,25 @@ module _ {J K M N A : Type 0} (R : Reading J M) (S : Reading K N) (refused : ℕ
       let n = min (R .order a) (S .order b) in
       let x = R .numbers a in
       let y = S .numbers b in
-      cond (ltb 20 (R .order a)) (refused 1) (cond (ltb 20 (S .order b)) (refused 1)
-      (cond (R .finite x n && S .finite y n) (op x y n) (refused 5)))
+      tested refused (far (R .order a) (S .order b)) false (R .finite x n && S .finite y n) (op x y n)
 
   -- work on two jets, at an order that is asked
   abbrev pub onTwoAt : (M → N → A) → J → K → ℕ → A
   onTwoAt op a b n =
       let x = R .numbers a in
       let y = S .numbers b in
-      cond (ltb 20 (R .order a)) (refused 1) (cond (ltb 20 (S .order b)) (refused 1) (cond (ltb 20 n) (refused 1)
-      (cond (ltb (min (R .order a) (S .order b)) n) (refused 2)
-      (cond (R .finite x n && S .finite y n) (op x y) (refused 5)))))
+      tested refused (far (R .order a) (S .order b) || ltb 20 n) (ltb (min (R .order a) (S .order b)) n) (R .finite x n && S .finite y n) (op x y)
+
+-- from a list, which has `count` floats where it is one of the order n
+abbrev pub fromList : {A : Type 0} → (ℕ → A) → ℕ → ℕ → List Float → A → A
+fromList refused n count l r = tested refused (ltb 20 n) (not (eqb (length l) count)) (finiteList l) r
+
+-- into a list: the refusal's number, and what the list holds then
+abbrev pub intoList : {J M : Type 0} → Reading J M → (ℕ → ℕ) → (M → ℕ → List Float) → J → List Float → ℕ × List Float
+intoList R count entries a out =
+    let n = R .order a in
+    let x = R .numbers a in
+    tested (λ (c : ℕ). (c, out)) (ltb 20 n) (not (eqb (length out) (count n))) (R .finite x n) (0, entries x n)
 
 -- ---- a formula on two jets
 abbrev pub onCurves : ((ℕ → Float) → (ℕ → Float) → ℕ → CurveAnswer) → CurveDerivatives → CurveDerivatives → CurveAnswer
@@ -127,48 +178,30 @@ onCurvesAt f a b m = onTwoAt curves curves Refused (λ x y. returned (f x y m)) 
 abbrev pub onSurfacesAt : ((ℕ → ℕ → Float) → (ℕ → ℕ → Float) → ℕ → ℕ → Float) → SurfaceDerivatives → SurfaceDerivatives → ℕ → ℕ → Real
 onSurfacesAt f a b m n = onTwoAt surfaces surfaces Refused (λ x y. returned (f x y m n)) a b (m + n)
 
--- ---- a derivative has one order less
+-- ---- derivatives
 abbrev pub curveDerivative : CurveDerivatives → CurveAnswer
-curveDerivative a =
-    let x = curveNumbers (a .entries) in
-    cond (ltb 20 (a .order)) (refusedCurve 1) (cond (eqb (a .order) 0) (refusedCurve 2)
-    (cond (finiteCurve x (a .order)) (answeredCurve (a .order - 1) (derivative x)) (refusedCurve 5)))
+curveDerivative = onOneLess curves refusedCurve (λ x n. answeredCurve n (derivative x))
 
 abbrev pub surfaceDerivative : ((ℕ → ℕ → Float) → ℕ → ℕ → Float) → SurfaceDerivatives → SurfaceAnswer
-surfaceDerivative op a =
-    let x = surfaceNumbers (a .entries) in
-    cond (ltb 20 (a .order)) (refusedSurface 1) (cond (eqb (a .order) 0) (refusedSurface 2)
-    (cond (finiteSurface x (a .order)) (answeredSurface (a .order - 1) (op x)) (refusedSurface 5)))
+surfaceDerivative op = onOneLess surfaces refusedSurface (λ x n. answeredSurface n (op x))
 
 -- ---- from a list, whose entries stand in the order of work; those of a parameter curve as u0 v0 u1 v1 ..
 abbrev pub curveFromList : ℕ → List Float → CurveAnswer
-curveFromList n l =
-    cond (ltb 20 n) (refusedCurve 1) (cond (eqb (length l) (suc n))
-    (cond (finiteList l) (answeredCurve n (curveNumbers l)) (refusedCurve 5)) (refusedCurve 2))
+curveFromList n l = fromList refusedCurve n (suc n) l (answeredCurve n (curveNumbers l))
 
 abbrev pub surfaceFromList : ℕ → List Float → SurfaceAnswer
-surfaceFromList n l =
-    cond (ltb 20 n) (refusedSurface 1) (cond (eqb (length l) (triangle (suc n)))
-    (cond (finiteList l) (answeredSurface n (λ i j. getD l (listPlace n i j) nan)) (refusedSurface 5)) (refusedSurface 2))
+surfaceFromList n l = fromList refusedSurface n (triangle (suc n)) l (answeredSurface n (λ i j. getD l (listPlace n i j) nan))
 
 abbrev pub parameterFromList : ℕ → List Float → ParameterAnswer
 parameterFromList n l =
-    cond (ltb 20 n) (refusedParameter 1) (cond (eqb (length l) (2 * suc n))
-    (cond (finiteList l)
-    (answeredParameter n (λ m. getD l (2 * m) nan) (λ m. getD l (2 * m + 1) nan)) (refusedParameter 5)) (refusedParameter 2))
+    fromList refusedParameter n (2 * suc n) l (answeredParameter n (λ m. getD l (2 * m) nan) (λ m. getD l (2 * m + 1) nan))
 
--- ---- into a list: the refusal's number, and what the list holds then
+-- ---- into a list
 abbrev pub curveIntoList : CurveDerivatives → List Float → ℕ × List Float
-curveIntoList a out =
-    let x = curveNumbers (a .entries) in
-    cond (ltb 20 (a .order)) (1, out) (cond (eqb (length out) (suc (a .order)))
-    (cond (finiteCurve x (a .order)) (0, curveEntries x (a .order)) (5, out)) (2, out))
+curveIntoList = intoList curves suc curveEntries
 
 abbrev pub surfaceIntoList : SurfaceDerivatives → List Float → ℕ × List Float
-surfaceIntoList a out =
-    let x = surfaceNumbers (a .entries) in
-    cond (ltb 20 (a .order)) (1, out) (cond (eqb (length out) (triangle (suc (a .order))))
-    (cond (finiteSurface x (a .order)) (0, surfaceEntries x (a .order)) (5, out)) (2, out))
+surfaceIntoList = intoList surfaces (λ n. triangle (suc n)) surfaceEntries
 
 -- u and v side by side
 unfoldable pub pairs : (ℕ → Float) → (ℕ → Float) → ℕ → ℕ → List Float
@@ -176,8 +209,4 @@ pairs u v i zero = []
 pairs u v i (suc k) = u i ∷ v i ∷ pairs u v (suc i) k
 
 abbrev pub parameterIntoList : ParameterCurve → List Float → ℕ × List Float
-parameterIntoList a out =
-    let u = curveNumbers (a .u) in
-    let v = curveNumbers (a .v) in
-    cond (ltb 20 (a .order)) (1, out) (cond (eqb (length out) (2 * suc (a .order)))
-    (cond (finiteCurve u (a .order) && finiteCurve v (a .order)) (0, pairs u v 0 (suc (a .order))) (5, out)) (2, out))
+parameterIntoList = intoList parameters (λ n. 2 * suc n) (λ w n. pairs (w .0) (w .1) 0 (suc n))

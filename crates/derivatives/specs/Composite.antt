@@ -1,7 +1,5 @@
 -- What carrying a surface of floats along a curve answers, at the order asked: 1, 2, 5, and 10 last. Assumes nothing.
-use mathlib.Core.Bool.{_&&_}
 use Prim.Native.Nat.{ℕ}
-use lib.Ieee.{Float}
 use Rattle.ieee.specs.declared.Real.{Real}
 use Rattle.ieee.specs.declared.Real.the-variants.{Refused}
 use Rattle.ieee.specs.Answer.{returned}
@@ -11,15 +9,7 @@ use Rattle.derivatives.specs.declared.SurfaceDerivatives.{SurfaceDerivat
 use Rattle.derivatives.specs.declared.ParameterCurve.{ParameterCurve}
 use Rattle.derivatives.specs.declared.CurveAnswer.{CurveAnswer}
 use Rattle.derivatives.specs.Real.{real}
-use Rattle.derivatives.specs.Answer.{Reading, curveNumbers, finiteCurve, refusedCurve, returnedCurve, surfaces, onTwoAt}
-
--- u and v
-abbrev pub parameters : Reading ParameterCurve ((ℕ → Float) × (ℕ → Float))
-parameters = record {
-  order = λ c. c .order;
-  numbers = λ c. (curveNumbers (c .u), curveNumbers (c .v));
-  finite = λ c n. finiteCurve (c .0) n && finiteCurve (c .1) n;
-}
+use Rattle.derivatives.specs.Answer.{refusedCurve, returnedCurve, surfaces, parameters, onTwoAt}
 
 abbrev pub alongCurveAt : SurfaceDerivatives → ParameterCurve → ℕ → Real
 alongCurveAt a c n = onTwoAt surfaces parameters Refused (λ s w. returned (compositeDerivative (regular real) (w .0) (w .1) s n)) a c n

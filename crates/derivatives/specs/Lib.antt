@@ -7,7 +7,7 @@ pub mod Composite
 pub mod Vector
 pub mod VectorAnswer
 pub mod VectorFormula
-pub mod VectorComposite
 pub mod VectorSurfaceAnswer
+pub mod VectorComposite
 pub mod VectorSurfaceNorm
 pub mod Lists

@@ -1,8 +1,8 @@
 -- Vectors of three floats as the entries of a jet, and the arrays that hold them: three floats an entry, side by side. Assumes nothing.
-use mathlib.Core.Bool.{Bool, true, _&&_}
+use mathlib.Core.Bool.{Bool}
 use mathlib.Core.List.{List, [], _∷_}
-use Prim.Native.Nat.{ℕ, zero, suc, _+_, _*_}
-use lib.ListN.{getD}
+use Prim.Native.Nat.{ℕ, suc, _+_, _*_}
+use lib.ListN.{getD, set}
 use lib.Ieee.{Float, nan}
 use Rattle.vectors.specs.declared.Vector3.{Vector3}
 use Rattle.vectors.specs.Vectors.{vector, sum, difference, multiple}
@@ -11,6 +11,7 @@ use Rattle.calculus.specs.Kind.{Module}
 use Rattle.calculus.specs.Graded.{triangle, index, graded}
 use Rattle.calculus.specs.Array.{curveArray, surfaceArray}
 use Rattle.derivatives.specs.Real.{nil, real}
+use Rattle.derivatives.specs.Answer.{allPass}
 
 abbrev pub origin : Vector3
 origin = vector nil nil nil
@@ -26,6 +27,10 @@ vectorNumbers l k = vector (getD l (3 * k) nan) (getD l (3 * k + 1) nan) (getD l
 abbrev pub vectorSurfaceNumbers : List Float → ℕ → ℕ → Vector3
 vectorSurfaceNumbers l i j = vectorNumbers l (index i j)
 
+-- a vector stored at i, i + 1 and i + 2
+abbrev pub put : List Float → ℕ → Vector3 → List Float
+put l i v = set (set (set l i (v .x)) (i + 1) (v .y)) (i + 2) (v .z)
+
 -- ---- the array of vectors: x, y and z of each in turn
 unfoldable pub flat : List Vector3 → List Float
 flat [] = []
@@ -39,9 +44,8 @@ abbrev pub vectorSurfaceArray : (ℕ → ℕ → Vector3) → ℕ → List Float
 vectorSurfaceArray s n = flat (surfaceArray origin s n)
 
 -- ---- whether the first n vectors are finite, and the entries up to the order n
-unfoldable pub allVectorsFinite : (ℕ → Vector3) → ℕ → Bool
-allVectorsFinite a zero = true
-allVectorsFinite a (suc n) = allVectorsFinite a n && finiteVector (a n)
+abbrev pub allVectorsFinite : (ℕ → Vector3) → ℕ → Bool
+allVectorsFinite = allPass finiteVector
 
 abbrev pub finiteVectors : (ℕ → Vector3) → ℕ → Bool
 finiteVectors a n = allVectorsFinite a (suc n)

@@ -1,6 +1,5 @@
 -- The formulas on jets of vectors that the loops share: each entry from the jets and the entries before it. Assumes nothing.
 use mathlib.Core.Bool.{Bool, false, cond}
-use mathlib.Core.List.{List}
 use Prim.Native.Nat.{ℕ}
 use lib.ListN.{replicate}
 use lib.Ieee.{Float}
@@ -10,7 +9,6 @@ use Rattle.vectors.specs.Vectors.{multiple, quotient, dot, cross}
 use Rattle.calculus.specs.Kind.{regular}
 use Rattle.calculus.specs.Rising.{rising}
 use Rattle.calculus.specs.Curve
-use Rattle.derivatives.specs.declared.CurveAnswer.{CurveAnswer}
 use Rattle.derivatives.specs.declared.VectorCurveAnswer.{VectorCurveAnswer}
 use Rattle.derivatives.specs.declared.vector_entries.VectorFormula.{VectorFormula}
 use Rattle.derivatives.specs.declared.vector_entries.VectorFormula.the-variants as vector
@@ -22,12 +20,6 @@ use Rattle.derivatives.specs.Norm.{normEntry}
 use Rattle.derivatives.specs.Answer.{curveNumbers}
 use Rattle.derivatives.specs.Vector.{origin, vectors}
 use Rattle.derivatives.specs.VectorAnswer.{refusedVectors, returnedVectors}
-
-abbrev pub madeVectors : ℕ → List Float → VectorCurveAnswer
-madeVectors n l = record { refusal = 0; jet = record { order = n; entries = l } }
-
-abbrev pub madeCurve : ℕ → List Float → CurveAnswer
-madeCurve n l = record { refusal = 0; jet = record { order = n; entries = l } }
 
 -- of x and y, or of x and the floats w
 abbrev pub vectorFormula : VectorFormula → (ℕ → Vector3) → (ℕ → Vector3) → (ℕ → Float) → (ℕ → Vector3) → ℕ → Vector3

@@ -1,9 +1,8 @@
 -- What a function on jets of surfaces of vectors answers: as for curves of vectors, with the entries up to the order. Assumes nothing.
-use mathlib.Core.Bool.{false, cond, not, _&&_, _||_}
+use mathlib.Core.Bool.{cond}
 use mathlib.Core.List.{List}
-use Prim.Native.Nat.{ℕ, suc, _+_, _*_, _-_, min}
-use lib.Dec.{ltb, eqb}
-use lib.ListN.{length, replicate}
+use Prim.Native.Nat.{ℕ, suc, _+_, _*_}
+use lib.ListN.{replicate}
 use lib.Ieee.{Float}
 use Rattle.vectors.specs.declared.Vector3.{Vector3}
 use Rattle.vectors.specs.declared.VectorAnswer.{VectorAnswer}
@@ -23,9 +22,8 @@ use Rattle.derivatives.specs.declared.vector_entries.VectorFormula.{Vect
 use Rattle.derivatives.specs.declared.vector_entries.VectorFormula.the-variants as vector
 use Rattle.derivatives.specs.Real.{nil, real, isZero}
 use Rattle.derivatives.specs.Rational.{surfaceRational, surfaceRationalEntry}
-use Rattle.derivatives.specs.Answer.{surfaceNumbers, finiteList, finiteSurface, refusedSurface, returnedSurface}
+use Rattle.derivatives.specs.Answer.{Reading, surfaceNumbers, refusedSurface, returnedSurface, surfaces, onOneLess, onTwo, onTwoAt, fromList, intoList}
 use Rattle.derivatives.specs.Vector.{origin, vectors, vectorNumbers, flat, vectorSurfaceNumbers, vectorSurfaceArray, finiteVectorSurface}
-use Rattle.derivatives.specs.VectorAnswer.{tested, far}
 use Rattle.derivatives.specs.VectorFormula.{vectorDivisionByZero}
 
 -- ---- a refusal's number beside the zero jet of order 0, a jet beside 0, and a jet that has been computed: 10 where it is not finite
@@ -35,9 +33,6 @@ refusedVectorSurface c = record { refusal = c; jet = record { order = 0; entries
 abbrev pub madeVectorSurface : ℕ → List Float → VectorSurfaceAnswer
 madeVectorSurface n l = record { refusal = 0; jet = record { order = n; entries = l } }
 
-abbrev pub madeSurface : ℕ → List Float → SurfaceAnswer
-madeSurface n l = record { refusal = 0; jet = record { order = n; entries = l } }
-
 abbrev pub answeredVectorSurface : ℕ → (ℕ → ℕ → Vector3) → VectorSurfaceAnswer
 answeredVectorSurface n s = madeVectorSurface n (vectorSurfaceArray s n)
 
@@ -45,19 +40,14 @@ abbrev pub returnedVectorSurface : ℕ → (ℕ → ℕ → Vector3) → VectorS
 returnedVectorSurface n s = cond (finiteVectorSurface s n) (answeredVectorSurface n s) (refusedVectorSurface 10)
 
 -- ---- two jets, a formula worked at the smaller order; the second has vectors, or floats
+abbrev pub vectorSurfaces : Reading VectorSurfaceDerivatives (ℕ → ℕ → Vector3)
+vectorSurfaces = record { order = λ a. a .order; numbers = λ a. vectorSurfaceNumbers (a .entries); finite = finiteVectorSurface }
+
 abbrev pub onVectorSurfaces : ((ℕ → ℕ → Vector3) → (ℕ → ℕ → Vector3) → ℕ → VectorSurfaceAnswer) → VectorSurfaceDerivatives → VectorSurfaceDerivatives → VectorSurfaceAnswer
-onVectorSurfaces op a b =
-    let n = min (a .order) (b .order) in
-    let x = vectorSurfaceNumbers (a .entries) in
-    let y = vectorSurfaceNumbers (b .entries) in
-    tested refusedVectorSurface (far (a .order) (b .order)) false (finiteVectorSurface x n && finiteVectorSurface y n) (op x y n)
+onVectorSurfaces = onTwo vectorSurfaces vectorSurfaces refusedVectorSurface
 
 abbrev pub onWeightedSurface : ((ℕ → ℕ → Vector3) → (ℕ → ℕ → Float) → ℕ → VectorSurfaceAnswer) → VectorSurfaceDerivatives → SurfaceDerivatives → VectorSurfaceAnswer
-onWeightedSurface op a b =
-    let n = min (a .order) (b .order) in
-    let x = vectorSurfaceNumbers (a .entries) in
-    let y = surfaceNumbers (b .entries) in
-    tested refusedVectorSurface (far (a .order) (b .order)) false (finiteVectorSurface x n && finiteSurface y n) (op x y n)
+onWeightedSurface = onTwo vectorSurfaces surfaces refusedVectorSurface
 
 abbrev pub bySurfaceVectors : ((ℕ → ℕ → Vector3) → (ℕ → ℕ → Vector3) → ℕ → ℕ → Vector3) → (ℕ → ℕ → Vector3) → (ℕ → ℕ → Vector3) → ℕ → VectorSurfaceAnswer
 bySurfaceVectors f x y n = returnedVectorSurface n (f x y)
@@ -87,42 +77,23 @@ bySurfaceWeightedEntries f x w n =
 
 -- the dot product, whose entries are floats
 abbrev pub vectorSurfaceDot : VectorSurfaceDerivatives → VectorSurfaceDerivatives → SurfaceAnswer
-vectorSurfaceDot a b =
-    let n = min (a .order) (b .order) in
-    let x = vectorSurfaceNumbers (a .entries) in
-    let y = vectorSurfaceNumbers (b .entries) in
-    tested refusedSurface (far (a .order) (b .order)) false (finiteVectorSurface x n && finiteVectorSurface y n)
-    (returnedSurface n (Surface.productBy (regular real) dot x y))
+vectorSurfaceDot = onTwo vectorSurfaces vectorSurfaces refusedSurface (λ x y n. returnedSurface n (Surface.productBy (regular real) dot x y))
 
 -- ---- one entry of a formula, m times by u and n times by v: worked at the order m + n
 abbrev pub onVectorSurfacesAt : {R : Type 0} → (ℕ → R) → ((ℕ → ℕ → Vector3) → (ℕ → ℕ → Vector3) → ℕ → ℕ → R) → VectorSurfaceDerivatives → VectorSurfaceDerivatives → ℕ → ℕ → R
-onVectorSurfacesAt refused op a b m n =
-    let x = vectorSurfaceNumbers (a .entries) in
-    let y = vectorSurfaceNumbers (b .entries) in
-    tested refused (far (a .order) (b .order) || ltb 20 (m + n)) (ltb (min (a .order) (b .order)) (m + n))
-    (finiteVectorSurface x (m + n) && finiteVectorSurface y (m + n)) (op x y m n)
+onVectorSurfacesAt refused op a b m n = onTwoAt vectorSurfaces vectorSurfaces refused (λ x y. op x y m n) a b (m + n)
 
 abbrev pub onWeightedSurfaceAt : ((ℕ → ℕ → Vector3) → (ℕ → ℕ → Float) → ℕ → ℕ → Vector3) → VectorSurfaceDerivatives → SurfaceDerivatives → ℕ → ℕ → VectorAnswer
-onWeightedSurfaceAt op a b m n =
-    let x = vectorSurfaceNumbers (a .entries) in
-    let y = surfaceNumbers (b .entries) in
-    tested Refused (far (a .order) (b .order) || ltb 20 (m + n)) (ltb (min (a .order) (b .order)) (m + n))
-    (finiteVectorSurface x (m + n) && finiteSurface y (m + n)) (returnedVector (op x y m n))
+onWeightedSurfaceAt op a b m n = onTwoAt vectorSurfaces surfaces Refused (λ x y. returnedVector (op x y m n)) a b (m + n)
 
--- ---- a derivative has one order less
+-- ---- derivatives
 abbrev pub vectorSurfaceDerivative : ((ℕ → ℕ → Vector3) → ℕ → ℕ → Vector3) → VectorSurfaceDerivatives → VectorSurfaceAnswer
-vectorSurfaceDerivative op a =
-    let x = vectorSurfaceNumbers (a .entries) in
-    tested refusedVectorSurface (ltb 20 (a .order)) (eqb (a .order) 0) (finiteVectorSurface x (a .order)) (answeredVectorSurface (a .order - 1) (op x))
+vectorSurfaceDerivative op = onOneLess vectorSurfaces refusedVectorSurface (λ x n. answeredVectorSurface n (op x))
 
--- ---- from a list: x, y and z of each entry, the entries in the order of work; and into one: the refusal's number, and what the list holds then
+-- ---- from a list: x, y and z of each entry, the entries in the order of work; and into one
 abbrev pub vectorSurfaceFromList : ℕ → List Float → VectorSurfaceAnswer
 vectorSurfaceFromList n l =
-    tested refusedVectorSurface (ltb 20 n) (not (eqb (length l) (3 * triangle (suc n)))) (finiteList l)
-    (answeredVectorSurface n (λ i j. vectorNumbers l (listPlace n i j)))
+    fromList refusedVectorSurface n (3 * triangle (suc n)) l (answeredVectorSurface n (λ i j. vectorNumbers l (listPlace n i j)))
 
 abbrev pub vectorSurfaceIntoList : VectorSurfaceDerivatives → List Float → ℕ × List Float
-vectorSurfaceIntoList a out =
-    let x = vectorSurfaceNumbers (a .entries) in
-    tested (λ (c : ℕ). (c, out)) (ltb 20 (a .order)) (not (eqb (length out) (3 * triangle (suc (a .order))))) (finiteVectorSurface x (a .order))
-    (0, flat (surfaceEntries x (a .order)))
+vectorSurfaceIntoList = intoList vectorSurfaces (λ n. 3 * triangle (suc n)) (λ x n. flat (surfaceEntries x n))

@@ -1,5 +1,5 @@
 -- The norm of a surface of vectors, and what is answered for it. Assumes nothing.
-use mathlib.Core.Bool.{false, cond, _&&_}
+use mathlib.Core.Bool.{cond, _&&_}
 use Prim.Native.Nat.{ℕ}
 use lib.Dec.{ltb}
 use lib.Ieee.{Float}
@@ -12,9 +12,8 @@ use Rattle.derivatives.specs.declared.SurfaceAnswer.{SurfaceAnswer}
 use Rattle.derivatives.specs.declared.VectorSurfaceDerivatives.{VectorSurfaceDerivatives}
 use Rattle.derivatives.specs.Real.{real, isZero}
 use Rattle.derivatives.specs.Norm.{atEnd, surfaceNorm}
-use Rattle.derivatives.specs.Answer.{refusedSurface, returnedSurface}
-use Rattle.derivatives.specs.Vector.{vectorSurfaceNumbers, finiteVectorSurface}
-use Rattle.derivatives.specs.VectorAnswer.{tested}
+use Rattle.derivatives.specs.Answer.{refusedSurface, returnedSurface, onOne}
+use Rattle.derivatives.specs.VectorSurfaceAnswer.{vectorSurfaces}
 
 -- a sum with the term of |s| · |s| at p, but for the first and the last term
 abbrev pub withOther : (ℕ → ℕ → Float) → ℕ → ℕ → Float → ℕ × ℕ → Float
@@ -25,7 +24,6 @@ vectorSurfaceNorm = surfaceNorm real squareRoot dot
 
 -- 7 where it divides by twice its first entry, as it does from the order 1 on, and that is zero
 abbrev pub vectorSurfaceAbsolute : VectorSurfaceDerivatives → SurfaceAnswer
-vectorSurfaceAbsolute a =
-    let x = vectorSurfaceNumbers (a .entries) in
-    tested refusedSurface (ltb 20 (a .order)) false (finiteVectorSurface x (a .order))
-    (cond (ltb 0 (a .order) && isZero (vectorSurfaceNorm x 0 0)) (refusedSurface 7) (returnedSurface (a .order) (vectorSurfaceNorm x)))
+vectorSurfaceAbsolute =
+    onOne vectorSurfaces refusedSurface
+    (λ x n. cond (ltb 0 n && isZero (vectorSurfaceNorm x 0 0)) (refusedSurface 7) (returnedSurface n (vectorSurfaceNorm x)))

@@ -1,12 +1,26 @@
 // Jets of surfaces along curves in their parameters: Faà di Bruno's formula (document 01's carry).
 ghost use mathlib.Core.Path.{_≡_};
+ghost use mathlib.Core.Bool.{_&&_};
+ghost use Prim.Native.Nat.{_≤_};
+ghost use Rattle.derivatives.specs.Answer.{curveNumbers, surfaceNumbers, finiteCurve, finiteSurface};
 ghost use Rattle.derivatives.specs.Composite.{alongCurveAt, alongCurve};
 use crate::CurveAnswer;
-use crate::CurveDerivatives;
 use crate::ParameterCurve;
 use crate::SurfaceDerivatives;
 use crate::carry;
+use crate::orders;
 use ieee::Real;
+
+// Whether the entries up to the order n of the surface, of u and of v are finite.
+fn all_finite(entries: &[f64; 231], u: &[f64; 21], v: &[f64; 21], n: usize) -> bool
+    requires { ⌜ n ≤ 20 ⌝ }
+    ensures { λ r. ⌜ r ≡ (finiteSurface (surfaceNumbers (now (entries .entry))) n && (finiteCurve (curveNumbers (now (u .entry))) n && finiteCurve (curveNumbers (now (v .entry))) n)) ⌝ }
+{
+    ieee::both(
+        crate::finite_surface(entries, n),
+        crate::curves_finite(u, v, n),
+    )
+}
 
 impl SurfaceDerivatives {
     // The derivative of one order, which is zero at order 0.
@@ -15,31 +29,19 @@ impl SurfaceDerivatives {
     {
         let m = self.order;
         let n = curve.order;
-        if 20 < m {
+        if orders::far_at(m, n, order) {
             return Real::Refused(1);
         }
-        if 20 < n {
-            return Real::Refused(1);
-        }
-        if 20 < order {
-            return Real::Refused(1);
-        }
-        if crate::smaller(m, n) < order {
+        if calculus::smaller(m, n) < order {
             return Real::Refused(2);
         }
         let entries = self.entries;
         let u = curve.u;
         let v = curve.v;
-        if !crate::finite_surface(&entries, order) {
+        if !all_finite(&entries, &u, &v, order) {
             return Real::Refused(5);
         }
-        if !crate::finite_curve(&u, order) {
-            return Real::Refused(5);
-        }
-        if !crate::finite_curve(&v, order) {
-            return Real::Refused(5);
-        }
-        crate::returned(carry::derivative(&entries, &u, &v, order))
+        ieee::returned(carry::derivative(&entries, &u, &v, order))
     }
 
     // The derivatives of all orders up to `order`, with the entry [0][0] at order 0.
@@ -48,37 +50,19 @@ impl SurfaceDerivatives {
     {
         let m = self.order;
         let n = curve.order;
-        if 20 < m {
+        if orders::far_at(m, n, order) {
             return crate::refused_curve(1);
         }
-        if 20 < n {
-            return crate::refused_curve(1);
-        }
-        if 20 < order {
-            return crate::refused_curve(1);
-        }
-        if crate::smaller(m, n) < order {
+        if calculus::smaller(m, n) < order {
             return crate::refused_curve(2);
         }
         let entries = self.entries;
         let u = curve.u;
         let v = curve.v;
-        if !crate::finite_surface(&entries, order) {
-            return crate::refused_curve(5);
-        }
-        if !crate::finite_curve(&u, order) {
-            return crate::refused_curve(5);
-        }
-        if !crate::finite_curve(&v, order) {
+        if !all_finite(&entries, &u, &v, order) {
             return crate::refused_curve(5);
         }
         let r = carry::derivatives(&entries, &u, &v, order);
-        if !crate::finite_curve(&r, order) {
-            return crate::refused_curve(10);
-        }
-        CurveAnswer {
-            refusal: 0,
-            jet: CurveDerivatives { order, entries: r },
-        }
+        crate::returned_curve(r, order)
     }
 }

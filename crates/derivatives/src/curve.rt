@@ -13,9 +13,12 @@ ghost use Rattle.derivatives.specs.Real.{nil, real};
 ghost use Rattle.derivatives.specs.Rational.{rational, rationalTerm, rationalEntry};
 ghost use Rattle.calculus.specs.Order.{curveEntries};
 ghost use Rattle.derivatives.specs.Answer.{curveNumbers, answeredCurve, returnedCurve, onCurves, byFormula, byDivision, onCurvesAt, curveDerivative, curveFromList, curveIntoList};
-ghost use Rattle.derivatives.specs.Formula.{curveFormula, divisionByZero, byCurveFormula};
+ghost use Rattle.derivatives.specs.Formula.{curveFormula, byCurveFormula};
 use crate::CurveAnswer;
 use crate::CurveDerivatives;
+use crate::formula;
+use crate::formula::Formula;
+use crate::orders;
 use ieee::Real;
 
 fn leibniz_term(a: &[f64; 21], b: &[f64; 21], c: &[u32; 231], m: usize, i: usize) -> f64
@@ -63,35 +66,20 @@ fn rational_entry(x: &[f64; 21], w: &[f64; 21], q: &[f64; 21], c: &[u32; 231], m
     (x[m] - sum) / w[0]
 }
 
-// A formula on two jets, by which the entry of each order is formed.
-pub enum CurveFormula {
-    Sum,
-    Difference,
-    Product,
-    Quotient,
-}
-
-fn entry(
-    f: CurveFormula,
-    a: &[f64; 21],
-    b: &[f64; 21],
-    q: &[f64; 21],
-    c: &[u32; 231],
-    m: usize,
-) -> f64
+fn entry(f: Formula, a: &[f64; 21], b: &[f64; 21], q: &[f64; 21], c: &[u32; 231], m: usize) -> f64
     requires { ⌜ (m ≤ 20) × (now c ≡ binomialTable) ⌝ }
     ensures { λ r. ⌜ r ≡ curveFormula f (curveNumbers (now (a .entry))) (curveNumbers (now (b .entry))) (curveNumbers (now (q .entry))) m ⌝ }
 {
     match f {
-        CurveFormula::Sum => a[m] + b[m],
-        CurveFormula::Difference => a[m] - b[m],
-        CurveFormula::Product => product_entry(a, b, c, m),
-        CurveFormula::Quotient => rational_entry(a, b, q, c, m),
+        Formula::Sum => a[m] + b[m],
+        Formula::Difference => a[m] - b[m],
+        Formula::Product => product_entry(a, b, c, m),
+        Formula::Quotient => rational_entry(a, b, q, c, m),
     }
 }
 
 // The entries up to the order n, and zeros past them.
-fn entries(f: CurveFormula, a: &[f64; 21], b: &[f64; 21], n: usize) -> [f64; 21]
+fn entries(f: Formula, a: &[f64; 21], b: &[f64; 21], n: usize) -> [f64; 21]
     requires { ⌜ n ≤ 20 ⌝ }
     ensures { λ r. ⌜ r ≡ curveArray nil (rising nil (curveFormula f (curveNumbers (now (a .entry))) (curveNumbers (now (b .entry))))) n ⌝ }
 {
@@ -106,53 +94,26 @@ fn entries(f: CurveFormula, a: &[f64; 21], b: &[f64; 21], n: usize) -> [f64; 21]
     r
 }
 
-// Whether the formula divides by y where that is zero.
-fn division_by_zero(f: CurveFormula, y: f64) -> bool
-    ensures { λ r. ⌜ r ≡ divisionByZero f y ⌝ }
-{
-    match f {
-        CurveFormula::Sum => false,
-        CurveFormula::Difference => false,
-        CurveFormula::Product => false,
-        CurveFormula::Quotient => y == 0.0,
-    }
-}
-
-fn on_two(f: CurveFormula, a: CurveDerivatives, b: CurveDerivatives) -> CurveAnswer
+fn on_two(f: Formula, a: CurveDerivatives, b: CurveDerivatives) -> CurveAnswer
     ensures { λ r. ⌜ r ≡ onCurves (byCurveFormula f) a b ⌝ }
 {
     let m = a.order;
     let n = b.order;
-    if 20 < m {
+    if orders::far(m, n) {
         return crate::refused_curve(1);
     }
-    if 20 < n {
-        return crate::refused_curve(1);
-    }
-    let k = crate::smaller(m, n);
+    let k = calculus::smaller(m, n);
     let x = a.entries;
     let y = b.entries;
-    if !crate::finite_curve(&x, k) {
-        return crate::refused_curve(5);
-    }
-    if !crate::finite_curve(&y, k) {
+    if !crate::curves_finite(&x, &y, k) {
         return crate::refused_curve(5);
     }
     let w = y[0];
-    if division_by_zero(f, w) {
+    if formula::division_by_zero(f, w) {
         return crate::refused_curve(7);
     }
     let r = entries(f, &x, &y, k);
-    if !crate::finite_curve(&r, k) {
-        return crate::refused_curve(10);
-    }
-    CurveAnswer {
-        refusal: 0,
-        jet: CurveDerivatives {
-            order: k,
-            entries: r,
-        },
-    }
+    crate::returned_curve(r, k)
 }
 
 // The entries of a list, which has one for each order.
@@ -243,13 +204,13 @@ impl CurveDerivatives {
     pub fn sum(self, other: CurveDerivatives) -> CurveAnswer
         ensures { λ r. ⌜ r ≡ onCurves (byFormula (sums (regular real))) self other ⌝ }
     {
-        on_two(CurveFormula::Sum, self, other)
+        on_two(Formula::Sum, self, other)
     }
 
     pub fn difference(self, other: CurveDerivatives) -> CurveAnswer
         ensures { λ r. ⌜ r ≡ onCurves (byFormula (differences (regular real))) self other ⌝ }
     {
-        on_two(CurveFormula::Difference, self, other)
+        on_two(Formula::Difference, self, other)
     }
 
     pub fn derivative(self) -> CurveAnswer
@@ -275,40 +236,31 @@ impl CurveDerivatives {
     {
         let m = self.order;
         let n = other.order;
-        if 20 < m {
+        if orders::far_at(m, n, order) {
             return Real::Refused(1);
         }
-        if 20 < n {
-            return Real::Refused(1);
-        }
-        if 20 < order {
-            return Real::Refused(1);
-        }
-        if crate::smaller(m, n) < order {
+        if calculus::smaller(m, n) < order {
             return Real::Refused(2);
         }
         let x = self.entries;
         let y = other.entries;
-        if !crate::finite_curve(&x, order) {
-            return Real::Refused(5);
-        }
-        if !crate::finite_curve(&y, order) {
+        if !crate::curves_finite(&x, &y, order) {
             return Real::Refused(5);
         }
         let c = calculus::binomials();
-        crate::returned(product_entry(&x, &y, &c, order))
+        ieee::returned(product_entry(&x, &y, &c, order))
     }
 
     pub fn combinatorial_derivatives(self, other: CurveDerivatives) -> CurveAnswer
         ensures { λ r. ⌜ r ≡ onCurves (byFormula (product real)) self other ⌝ }
     {
-        on_two(CurveFormula::Product, self, other)
+        on_two(Formula::Product, self, other)
     }
 
     // The quotient of this curve by the weights.
     pub fn rational_derivatives(self, weights: CurveDerivatives) -> CurveAnswer
         ensures { λ r. ⌜ r ≡ onCurves (byDivision (rational (regular real) (real .over))) self weights ⌝ }
     {
-        on_two(CurveFormula::Quotient, self, weights)
+        on_two(Formula::Quotient, self, weights)
     }
 }

@@ -1,19 +1,20 @@
 // Jets of floats: the derivatives of a curve or of a surface, each rounded as the source rounds it. A function answers in full, or refuses
 // with a number of document 01's table. Anybody may write the fields: every function tests the orders, and that what it reads is finite.
 ghost use mathlib.Core.Path.{_≡_};
-ghost use Prim.Native.Nat.{_+_, _≤_, min};
+ghost use mathlib.Core.Bool.{cond, _&&_};
+ghost use Prim.Native.Nat.{_+_, _≤_};
 ghost use lib.IntN.{pos};
 ghost use lib.Ieee.{binary64, ofInt};
-ghost use Rattle.ieee.specs.Answer.{returned as returnedReal};
 ghost use Rattle.calculus.specs.Graded.{index as indexOf};
 ghost use Rattle.calculus.specs.Choose.{choose, binomialTable};
-ghost use Rattle.derivatives.specs.Answer.{curveNumbers, surfaceNumbers, finiteList, finiteCurve, finiteSurface, refusedCurve, refusedSurface, refusedParameter};
-use ieee::Real;
+ghost use Rattle.derivatives.specs.Answer.{curveNumbers, surfaceNumbers, finiteList, finiteCurve, finiteSurface, refusedCurve, refusedSurface, refusedParameter, madeCurve, madeSurface};
 
 mod carry;
 mod composite;
 mod curve;
+mod formula;
 pub mod lists;
+mod orders;
 mod parameter;
 pub mod raw;
 mod surface;
@@ -124,12 +125,6 @@ fn refused_parameter(c: u8) -> ParameterAnswer
     }
 }
 
-fn smaller(m: usize, n: usize) -> usize
-    ensures { λ r. ⌜ r ≡ min m n ⌝ }
-{
-    if m < n { m } else { n }
-}
-
 // Where [i][j] stands in a surface's array.
 fn index(i: usize, j: usize) -> usize
     requires { ⌜ i + j ≤ 20 ⌝ }
@@ -190,7 +185,7 @@ fn finite_surface(a: &[f64; 231], n: usize) -> bool
     requires { ⌜ n ≤ 20 ⌝ }
     ensures { λ r. ⌜ r ≡ finiteSurface (surfaceNumbers (now (a .entry))) n ⌝ }
 {
-    let k = (n + 1) * (n + 2) / 2;
+    let k = calculus::surface_count(n);
     let mut i = 0;
     while i < k {
         let x = a[i];
@@ -202,13 +197,50 @@ fn finite_surface(a: &[f64; 231], n: usize) -> bool
     true
 }
 
-// A float that has been computed: 10 where it is not finite.
-fn returned(x: f64) -> Real
-    ensures { λ r. ⌜ r ≡ returnedReal x ⌝ }
+// Whether those of two curves are, and of two surfaces.
+fn curves_finite(a: &[f64; 21], b: &[f64; 21], n: usize) -> bool
+    requires { ⌜ n ≤ 20 ⌝ }
+    ensures { λ r. ⌜ r ≡ (finiteCurve (curveNumbers (now (a .entry))) n && finiteCurve (curveNumbers (now (b .entry))) n) ⌝ }
 {
-    if ieee::is_finite(x) {
-        Real::Value(x)
-    } else {
-        Real::Refused(10)
+    ieee::both(finite_curve(a, n), finite_curve(b, n))
+}
+
+fn surfaces_finite(a: &[f64; 231], b: &[f64; 231], n: usize) -> bool
+    requires { ⌜ n ≤ 20 ⌝ }
+    ensures { λ r. ⌜ r ≡ (finiteSurface (surfaceNumbers (now (a .entry))) n && finiteSurface (surfaceNumbers (now (b .entry))) n) ⌝ }
+{
+    ieee::both(finite_surface(a, n), finite_surface(b, n))
+}
+
+// A jet that has been computed: 10 where it is not finite.
+fn returned_curve(a: [f64; 21], n: usize) -> CurveAnswer
+    requires { ⌜ n ≤ 20 ⌝ }
+    ensures { λ r. ⌜ r ≡ cond (finiteCurve (curveNumbers a) n) (madeCurve n a) (refusedCurve 10) ⌝ }
+{
+    if !finite_curve(&a, n) {
+        return refused_curve(10);
+    }
+    CurveAnswer {
+        refusal: 0,
+        jet: CurveDerivatives {
+            order: n,
+            entries: a,
+        },
+    }
+}
+
+fn returned_surface(a: [f64; 231], n: usize) -> SurfaceAnswer
+    requires { ⌜ n ≤ 20 ⌝ }
+    ensures { λ r. ⌜ r ≡ cond (finiteSurface (surfaceNumbers a) n) (madeSurface n a) (refusedSurface 10) ⌝ }
+{
+    if !finite_surface(&a, n) {
+        return refused_surface(10);
+    }
+    SurfaceAnswer {
+        refusal: 0,
+        jet: SurfaceDerivatives {
+            order: n,
+            entries: a,
+        },
     }
 }

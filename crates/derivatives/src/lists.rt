@@ -66,7 +66,7 @@ pub fn surface(order: usize, list: &[f64]) -> SurfaceDerivatives
     if 20 < order {
         return zero_surface();
     }
-    let k = crate::surface::count(order);
+    let k = calculus::surface_count(order);
     if list.len() != k {
         return zero_surface();
     }
@@ -107,7 +107,7 @@ pub fn vector_surface(order: usize, list: &[f64]) -> VectorSurfaceDerivatives
     if 20 < order {
         return zero_vector_surface();
     }
-    let k = crate::surface::count(order);
+    let k = calculus::surface_count(order);
     if list.len() != 3 * k {
         return zero_vector_surface();
     }

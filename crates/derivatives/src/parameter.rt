@@ -72,10 +72,7 @@ impl ParameterCurve {
         }
         let u = self.u;
         let v = self.v;
-        if !crate::finite_curve(&u, n) {
-            return 5;
-        }
-        if !crate::finite_curve(&v, n) {
+        if !crate::curves_finite(&u, &v, n) {
             return 5;
         }
         write(&u, &v, n, out);

@@ -23,16 +23,6 @@ use crate::vector_entries::VectorFormula;
 use crate::vector_surface_entries;
 use vectors::Vector3;
 
-fn zero() -> Vector3
-    ensures { λ r. ⌜ r ≡ origin ⌝ }
-{
-    Vector3 {
-        x: 0.0,
-        y: 0.0,
-        z: 0.0,
-    }
-}
-
 // One entry of a product: of vectors, of vectors by floats, and of floats.
 pub fn dot(a: &[f64; 63], b: &[f64; 63], m: usize) -> f64
     ensures { λ r. ⌜ r ≡ cond (ltb 20 m) nil (productBy (regular real) dotOf (vectorNumbers (now (a .entry))) (vectorNumbers (now (b .entry))) m) ⌝ }
@@ -48,7 +38,7 @@ pub fn cross(a: &[f64; 63], b: &[f64; 63], m: usize) -> Vector3
     ensures { λ r. ⌜ r ≡ cond (ltb 20 m) origin (productBy vectors crossOf (vectorNumbers (now (a .entry))) (vectorNumbers (now (b .entry))) m) ⌝ }
 {
     if 20 < m {
-        return zero();
+        return vector_array::zero();
     }
     let c = calculus::binomials();
     vector_entries::cross_entry(a, b, &c, m)
@@ -58,7 +48,7 @@ pub fn scaled(a: &[f64; 63], b: &[f64; 21], m: usize) -> Vector3
     ensures { λ r. ⌜ r ≡ cond (ltb 20 m) origin (productBy vectors multiple (vectorNumbers (now (a .entry))) (curveNumbers (now (b .entry))) m) ⌝ }
 {
     if 20 < m {
-        return zero();
+        return vector_array::zero();
     }
     let c = calculus::binomials();
     vector_entries::scaled_entry(a, b, &c, m)
@@ -119,7 +109,7 @@ pub fn composite(entries: &[f64; 693], u: &[f64; 21], v: &[f64; 21], m: usize) -
     ensures { λ r. ⌜ r ≡ cond (ltb 20 m) origin (compositeDerivative vectors (curveNumbers (now (u .entry))) (curveNumbers (now (v .entry))) (vectorSurfaceNumbers (now (entries .entry))) m) ⌝ }
 {
     if 20 < m {
-        return zero();
+        return vector_array::zero();
     }
     vector_carry::derivative(entries, u, v, m)
 }

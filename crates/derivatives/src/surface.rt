@@ -1,24 +1,46 @@
 // Jets of surfaces.
 ghost use mathlib.Core.Path.{_≡_};
 ghost use mathlib.Core.List.{List};
-ghost use Prim.Native.Nat.{ℕ, suc, _+_, _-_, _≤_};
+ghost use Prim.Native.Nat.{ℕ, suc, _+_, _-_, _*_, _≤_};
 ghost use lib.Ieee.{Float, nan};
 ghost use lib.ListN.{length, getD};
 ghost use Rattle.calculus.specs.Kind.{regular};
 ghost use Rattle.calculus.specs.InTurn.{inTurn};
 ghost use Rattle.calculus.specs.Rising.{risingRows};
 ghost use Rattle.calculus.specs.Array.{surfaceArray};
-ghost use Rattle.calculus.specs.Choose.{binomialTable};
+ghost use Rattle.calculus.specs.Choose.{choose, binomialTable};
 ghost use Rattle.calculus.specs.Graded.{triangle};
 ghost use Rattle.calculus.specs.Order.{surfaceEntries, listPlace};
 ghost use Rattle.calculus.specs.Surface.{derivativeU, derivativeV, sum as sums, difference as differences, product, leibniz};
 ghost use Rattle.derivatives.specs.Real.{nil, real};
 ghost use Rattle.derivatives.specs.Rational.{surfaceRational, surfaceRationalTerm, surfaceRationalEntry};
 ghost use Rattle.derivatives.specs.Answer.{surfaceNumbers, answeredSurface, onSurfaces, bySurfaceFormula, bySurfaceDivision, onSurfacesAt, surfaceDerivative, surfaceFromList, surfaceIntoList};
-ghost use Rattle.derivatives.specs.Formula.{surfaceFormula, surfaceDivisionByZero, byFormulaOnSurfaces};
+ghost use Rattle.derivatives.specs.Formula.{surfaceFormula, byFormulaOnSurfaces};
 use crate::SurfaceAnswer;
 use crate::SurfaceDerivatives;
+use crate::formula;
+use crate::formula::Formula;
+use crate::orders;
 use ieee::Real;
+
+// The entry [i][j].
+pub fn number_at(a: &[f64; 231], i: usize, j: usize) -> f64
+    requires { ⌜ i + j ≤ 20 ⌝ }
+    ensures { λ r. ⌜ r ≡ surfaceNumbers (now (a .entry)) i j ⌝ }
+{
+    let k = crate::index(i, j);
+    a[k]
+}
+
+// The coefficient of the term [i][j] of Leibniz's rule at [m][n].
+pub fn coefficient(c: &[u32; 231], m: usize, n: usize, i: usize, j: usize) -> f64
+    requires { ⌜ (i ≤ m) × (j ≤ n) × (m + n ≤ 20) × (now c ≡ binomialTable) ⌝ }
+    ensures { λ r. ⌜ r ≡ real .ofNat (choose m i * choose n j) ⌝ }
+{
+    let x = crate::binomial(c, m, i);
+    let y = crate::binomial(c, n, j);
+    crate::float(x * y)
+}
 
 pub fn leibniz_term(
     a: &[f64; 231],
@@ -32,12 +54,10 @@ pub fn leibniz_term(
     requires { ⌜ (i ≤ m) × (j ≤ n) × (m + n ≤ 20) × (now c ≡ binomialTable) ⌝ }
     ensures { λ r. ⌜ r ≡ leibniz (regular real) (real .times) (surfaceNumbers (now (a .entry))) (surfaceNumbers (now (b .entry))) m n i j ⌝ }
 {
-    let p = crate::index(i, j);
-    let q = crate::index(m - i, n - j);
-    let x = crate::binomial(c, m, i);
-    let y = crate::binomial(c, n, j);
-    let k = crate::float(x * y);
-    a[p] * b[q] * k
+    let k = coefficient(c, m, n, i, j);
+    let x = number_at(a, i, j);
+    let y = number_at(b, m - i, n - j);
+    x * y * k
 }
 
 // The terms of one i, j rising, added to a sum.
@@ -88,11 +108,11 @@ fn rational_term(
     requires { ⌜ (i ≤ m) × (j ≤ n) × (m + n ≤ 20) × (now c ≡ binomialTable) ⌝ }
     ensures { λ r. ⌜ r ≡ surfaceRationalTerm (regular real) (real .over) (surfaceNumbers (now (w .entry))) (surfaceNumbers (now (q .entry))) m n i j ⌝ }
 {
-    let p = crate::index(i, j);
-    let o = crate::index(m - i, n - j);
     let x = crate::float(crate::binomial(c, m, i));
     let y = crate::float(crate::binomial(c, n, j));
-    q[p] * (w[o] * x * y)
+    let e = number_at(q, i, j);
+    let d = number_at(w, m - i, n - j);
+    e * (d * x * y)
 }
 
 // The terms of one i, j rising, added to a sum.
@@ -140,16 +160,8 @@ fn rational_entry(
     (x[k] - sum) / w[0]
 }
 
-// A formula on two jets, by which each entry is formed.
-pub enum SurfaceFormula {
-    Sum,
-    Difference,
-    Product,
-    Quotient,
-}
-
 fn entry(
-    f: SurfaceFormula,
+    f: Formula,
     a: &[f64; 231],
     b: &[f64; 231],
     q: &[f64; 231],
@@ -162,15 +174,15 @@ fn entry(
 {
     let k = crate::index(m, n);
     match f {
-        SurfaceFormula::Sum => a[k] + b[k],
-        SurfaceFormula::Difference => a[k] - b[k],
-        SurfaceFormula::Product => product_entry(a, b, c, m, n),
-        SurfaceFormula::Quotient => rational_entry(a, b, q, c, m, n),
+        Formula::Sum => a[k] + b[k],
+        Formula::Difference => a[k] - b[k],
+        Formula::Product => product_entry(a, b, c, m, n),
+        Formula::Quotient => rational_entry(a, b, q, c, m, n),
     }
 }
 
 // The entries up to the order n, with i rising, then j; and zeros past them.
-fn entries(f: SurfaceFormula, a: &[f64; 231], b: &[f64; 231], n: usize) -> [f64; 231]
+fn entries(f: Formula, a: &[f64; 231], b: &[f64; 231], n: usize) -> [f64; 231]
     requires { ⌜ n ≤ 20 ⌝ }
     ensures { λ r. ⌜ r ≡ surfaceArray nil (risingRows nil (surfaceFormula f (surfaceNumbers (now (a .entry))) (surfaceNumbers (now (b .entry))))) n ⌝ }
 {
@@ -191,53 +203,26 @@ fn entries(f: SurfaceFormula, a: &[f64; 231], b: &[f64; 231], n: usize) -> [f64;
     r
 }
 
-// Whether the formula divides by y where that is zero.
-fn division_by_zero(f: SurfaceFormula, y: f64) -> bool
-    ensures { λ r. ⌜ r ≡ surfaceDivisionByZero f y ⌝ }
-{
-    match f {
-        SurfaceFormula::Sum => false,
-        SurfaceFormula::Difference => false,
-        SurfaceFormula::Product => false,
-        SurfaceFormula::Quotient => y == 0.0,
-    }
-}
-
-fn on_two(f: SurfaceFormula, a: SurfaceDerivatives, b: SurfaceDerivatives) -> SurfaceAnswer
+fn on_two(f: Formula, a: SurfaceDerivatives, b: SurfaceDerivatives) -> SurfaceAnswer
     ensures { λ r. ⌜ r ≡ onSurfaces (byFormulaOnSurfaces f) a b ⌝ }
 {
     let m = a.order;
     let n = b.order;
-    if 20 < m {
+    if orders::far(m, n) {
         return crate::refused_surface(1);
     }
-    if 20 < n {
-        return crate::refused_surface(1);
-    }
-    let k = crate::smaller(m, n);
+    let k = calculus::smaller(m, n);
     let x = a.entries;
     let y = b.entries;
-    if !crate::finite_surface(&x, k) {
-        return crate::refused_surface(5);
-    }
-    if !crate::finite_surface(&y, k) {
+    if !crate::surfaces_finite(&x, &y, k) {
         return crate::refused_surface(5);
     }
     let w = y[0];
-    if division_by_zero(f, w) {
+    if formula::division_by_zero(f, w) {
         return crate::refused_surface(7);
     }
     let r = entries(f, &x, &y, k);
-    if !crate::finite_surface(&r, k) {
-        return crate::refused_surface(10);
-    }
-    SurfaceAnswer {
-        refusal: 0,
-        jet: SurfaceDerivatives {
-            order: k,
-            entries: r,
-        },
-    }
+    crate::returned_surface(r, k)
 }
 
 // The derivative p times by u and q times by v, of the order n.
@@ -265,14 +250,6 @@ fn shifted(a: &[f64; 231], n: usize, p: usize, q: usize) -> SurfaceAnswer
             entries: r,
         },
     }
-}
-
-// How many entries there are up to the order n.
-pub fn count(n: usize) -> usize
-    requires { ⌜ n ≤ 20 ⌝ }
-    ensures { λ r. ⌜ r ≡ triangle (suc n) ⌝ }
-{
-    (n + 1) * (n + 2) / 2
 }
 
 // The entries of a list: i rising, then j.
@@ -322,6 +299,25 @@ fn write(a: &[f64; 231], n: usize, out: &mut [f64])
     }
 }
 
+// The derivative p times by u and q times by v, where p + q is 1.
+fn derivative(a: SurfaceDerivatives, p: usize, q: usize) -> SurfaceAnswer
+    requires { ⌜ p + q ≡ 1 ⌝ }
+    ensures { λ r. ⌜ r ≡ surfaceDerivative (λ s i j. s (i + p) (j + q)) a ⌝ }
+{
+    let n = a.order;
+    if 20 < n {
+        return crate::refused_surface(1);
+    }
+    if n == 0 {
+        return crate::refused_surface(2);
+    }
+    let x = a.entries;
+    if !crate::finite_surface(&x, n) {
+        return crate::refused_surface(5);
+    }
+    shifted(&x, n - 1, p, q)
+}
+
 impl SurfaceDerivatives {
     pub fn from_list(order: usize, list: &[f64]) -> SurfaceAnswer
         ensures { λ r. ⌜ r ≡ surfaceFromList order (now (list .entry)) ⌝ }
@@ -329,7 +325,7 @@ impl SurfaceDerivatives {
         if 20 < order {
             return crate::refused_surface(1);
         }
-        if list.len() != count(order) {
+        if list.len() != calculus::surface_count(order) {
             return crate::refused_surface(2);
         }
         if !crate::finite_list(list) {
@@ -345,7 +341,7 @@ impl SurfaceDerivatives {
         if 20 < n {
             return 1;
         }
-        if out.len() != count(n) {
+        if out.len() != calculus::surface_count(n) {
             return 2;
         }
         let a = self.entries;
@@ -359,47 +355,25 @@ impl SurfaceDerivatives {
     pub fn sum(self, other: SurfaceDerivatives) -> SurfaceAnswer
         ensures { λ r. ⌜ r ≡ onSurfaces (bySurfaceFormula (sums (regular real))) self other ⌝ }
     {
-        on_two(SurfaceFormula::Sum, self, other)
+        on_two(Formula::Sum, self, other)
     }
 
     pub fn difference(self, other: SurfaceDerivatives) -> SurfaceAnswer
         ensures { λ r. ⌜ r ≡ onSurfaces (bySurfaceFormula (differences (regular real))) self other ⌝ }
     {
-        on_two(SurfaceFormula::Difference, self, other)
+        on_two(Formula::Difference, self, other)
     }
 
     pub fn derivative_u(self) -> SurfaceAnswer
         ensures { λ r. ⌜ r ≡ surfaceDerivative derivativeU self ⌝ }
     {
-        let n = self.order;
-        if 20 < n {
-            return crate::refused_surface(1);
-        }
-        if n == 0 {
-            return crate::refused_surface(2);
-        }
-        let a = self.entries;
-        if !crate::finite_surface(&a, n) {
-            return crate::refused_surface(5);
-        }
-        shifted(&a, n - 1, 1, 0)
+        derivative(self, 1, 0)
     }
 
     pub fn derivative_v(self) -> SurfaceAnswer
         ensures { λ r. ⌜ r ≡ surfaceDerivative derivativeV self ⌝ }
     {
-        let n = self.order;
-        if 20 < n {
-            return crate::refused_surface(1);
-        }
-        if n == 0 {
-            return crate::refused_surface(2);
-        }
-        let a = self.entries;
-        if !crate::finite_surface(&a, n) {
-            return crate::refused_surface(5);
-        }
-        shifted(&a, n - 1, 0, 1)
+        derivative(self, 0, 1)
     }
 
     // One entry of the product: [m][n].
@@ -408,46 +382,32 @@ impl SurfaceDerivatives {
     {
         let k = self.order;
         let l = other.order;
-        if 20 < k {
+        if orders::far_sum_at(k, l, m, n) {
             return Real::Refused(1);
         }
-        if 20 < l {
-            return Real::Refused(1);
-        }
-        if 20 < m {
-            return Real::Refused(1);
-        }
-        if 20 < n {
-            return Real::Refused(1);
-        }
-        if 20 < m + n {
-            return Real::Refused(1);
-        }
-        if crate::smaller(k, l) < m + n {
+        let o = m + n;
+        if calculus::smaller(k, l) < o {
             return Real::Refused(2);
         }
         let x = self.entries;
         let y = other.entries;
-        if !crate::finite_surface(&x, m + n) {
-            return Real::Refused(5);
-        }
-        if !crate::finite_surface(&y, m + n) {
+        if !crate::surfaces_finite(&x, &y, o) {
             return Real::Refused(5);
         }
         let c = calculus::binomials();
-        crate::returned(product_entry(&x, &y, &c, m, n))
+        ieee::returned(product_entry(&x, &y, &c, m, n))
     }
 
     pub fn combinatorial_derivatives(self, other: SurfaceDerivatives) -> SurfaceAnswer
         ensures { λ r. ⌜ r ≡ onSurfaces (bySurfaceFormula (product real)) self other ⌝ }
     {
-        on_two(SurfaceFormula::Product, self, other)
+        on_two(Formula::Product, self, other)
     }
 
     // The quotient of this surface by the weights.
     pub fn rational_derivatives(self, weights: SurfaceDerivatives) -> SurfaceAnswer
         ensures { λ r. ⌜ r ≡ onSurfaces (bySurfaceDivision (surfaceRational (regular real) (real .over))) self weights ⌝ }
     {
-        on_two(SurfaceFormula::Quotient, self, weights)
+        on_two(Formula::Quotient, self, weights)
     }
 }

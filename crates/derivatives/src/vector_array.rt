@@ -1,21 +1,28 @@
 // Arrays of vectors, three floats an entry, and the tests on jets of them.
 ghost use mathlib.Core.Path.{_≡_};
-ghost use mathlib.Core.Bool.{cond, _&&_, _||_};
+ghost use mathlib.Core.Bool.{cond, _&&_};
 ghost use Prim.Native.Nat.{_+_, _*_, _≤_, _<_};
 ghost use lib.Dec.{ltb};
 ghost use lib.ListN.{length};
-ghost use Rattle.vectors.specs.Answers.{returnedVector};
 ghost use Rattle.derivatives.specs.Real.{isZero};
-ghost use Rattle.derivatives.specs.Answer.{curveNumbers, finiteCurve, refusedCurve};
-ghost use Rattle.derivatives.specs.Vector.{vectorNumbers, vectorSurfaceNumbers, allVectorsFinite, finiteVectors, finiteVectorSurface};
-ghost use Rattle.derivatives.specs.VectorAnswer.{far as farOf, refusedVectors};
-ghost use Rattle.derivatives.specs.VectorFormula.{madeVectors, madeCurve};
-use crate::CurveAnswer;
-use crate::CurveDerivatives;
+ghost use Rattle.derivatives.specs.Answer.{curveNumbers, finiteCurve};
+ghost use Rattle.derivatives.specs.Vector.{origin, put, vectorNumbers, vectorSurfaceNumbers, allVectorsFinite, finiteVectors, finiteVectorSurface};
+ghost use Rattle.derivatives.specs.VectorAnswer.{refusedVectors, madeVectors};
 use crate::VectorCurveAnswer;
 use crate::VectorCurveDerivatives;
+use ieee::both;
 use vectors::Vector3;
-use vectors::VectorAnswer;
+
+// The vector that a sum starts from.
+pub fn zero() -> Vector3
+    ensures { λ r. ⌜ r ≡ origin ⌝ }
+{
+    Vector3 {
+        x: 0.0,
+        y: 0.0,
+        z: 0.0,
+    }
+}
 
 // The entry k of an array.
 pub fn vector_at(a: &[f64], k: usize) -> Vector3
@@ -28,6 +35,17 @@ pub fn vector_at(a: &[f64], k: usize) -> Vector3
         y: a[i + 1],
         z: a[i + 2],
     }
+}
+
+// A vector is stored as the entry k.
+pub fn store(a: &mut [f64], k: usize, v: Vector3)
+    requires { ⌜ 3 * k + 2 < length (now a) ⌝ }
+    ensures { λ _. ⌜ now (a .exit) ≡ put (now (a .entry)) (3 * k) v ⌝ }
+{
+    let i = 3 * k;
+    a[i] = v.x;
+    a[i + 1] = v.y;
+    a[i + 2] = v.z;
 }
 
 // Whether the first n vectors are finite.
@@ -46,24 +64,11 @@ pub fn all_finite(a: &[f64], n: usize) -> bool
     true
 }
 
-// Whether one of two orders is above 20.
-pub fn far(m: usize, n: usize) -> bool
-    ensures { λ r. ⌜ r ≡ farOf m n ⌝ }
-{
-    if 20 < m { true } else { 20 < n }
-}
-
-pub fn far_at(m: usize, n: usize, k: usize) -> bool
-    ensures { λ r. ⌜ r ≡ (farOf m n || ltb 20 k) ⌝ }
-{
-    if far(m, n) { true } else { 20 < k }
-}
-
 // Whether the norm of the order n is divided by q, and that is zero.
 pub fn norm_divides(n: usize, q: f64) -> bool
     ensures { λ r. ⌜ r ≡ (ltb 0 n && isZero q) ⌝ }
 {
-    if 0 < n { q == 0.0 } else { false }
+    both(0 < n, q == 0.0)
 }
 
 // Whether the entries up to the order n are finite, of one jet, of a surface, and of two jets.
@@ -78,30 +83,21 @@ pub fn surface_finite(a: &[f64; 693], n: usize) -> bool
     requires { ⌜ n ≤ 20 ⌝ }
     ensures { λ r. ⌜ r ≡ finiteVectorSurface (vectorSurfaceNumbers (now (a .entry))) n ⌝ }
 {
-    let k = (n + 1) * (n + 2) / 2;
-    all_finite(a, k)
+    all_finite(a, calculus::surface_count(n))
 }
 
 pub fn both_finite(a: &[f64; 63], b: &[f64; 63], n: usize) -> bool
     requires { ⌜ n ≤ 20 ⌝ }
     ensures { λ r. ⌜ r ≡ (finiteVectors (vectorNumbers (now (a .entry))) n && finiteVectors (vectorNumbers (now (b .entry))) n) ⌝ }
 {
-    if curve_finite(a, n) {
-        curve_finite(b, n)
-    } else {
-        false
-    }
+    both(curve_finite(a, n), curve_finite(b, n))
 }
 
 pub fn weighted_finite(a: &[f64; 63], w: &[f64; 21], n: usize) -> bool
     requires { ⌜ n ≤ 20 ⌝ }
     ensures { λ r. ⌜ r ≡ (finiteVectors (vectorNumbers (now (a .entry))) n && finiteCurve (curveNumbers (now (w .entry))) n) ⌝ }
 {
-    if curve_finite(a, n) {
-        crate::finite_curve(w, n)
-    } else {
-        false
-    }
+    both(curve_finite(a, n), crate::finite_curve(w, n))
 }
 
 pub fn refused(c: u8) -> VectorCurveAnswer
@@ -131,31 +127,5 @@ pub fn returned(a: [f64; 63], n: usize) -> VectorCurveAnswer
             order: n,
             entries: a,
         },
-    }
-}
-
-pub fn returned_curve(a: [f64; 21], n: usize) -> CurveAnswer
-    requires { ⌜ n ≤ 20 ⌝ }
-    ensures { λ r. ⌜ r ≡ cond (finiteCurve (curveNumbers a) n) (madeCurve n a) (refusedCurve 10) ⌝ }
-{
-    if !crate::finite_curve(&a, n) {
-        return crate::refused_curve(10);
-    }
-    CurveAnswer {
-        refusal: 0,
-        jet: CurveDerivatives {
-            order: n,
-            entries: a,
-        },
-    }
-}
-
-pub fn returned_vector(v: Vector3) -> VectorAnswer
-    ensures { λ r. ⌜ r ≡ returnedVector v ⌝ }
-{
-    if v.is_finite() {
-        VectorAnswer::Value(v)
-    } else {
-        VectorAnswer::Refused(10)
     }
 }

@@ -10,7 +10,9 @@ ghost use Rattle.partitions.specs.Count.{isList};
 ghost use Rattle.derivatives.specs.Answer.{curveNumbers};
 ghost use Rattle.derivatives.specs.Vector.{vectors, vectorSurfaceNumbers, vectorArray};
 use crate::carry;
+use crate::vector_array::store;
 use crate::vector_array::vector_at;
+use crate::vector_array::zero;
 use partitions::CompositionIter;
 use partitions::Count;
 use vectors::Vector3;
@@ -23,11 +25,7 @@ fn tensor(entries: &[f64; 693], u: &[f64; 21], v: &[f64; 21], list: &[usize]) ->
     let len = list.len();
     let last = len * (len + 1) / 2 + len;
     let end: u32 = 1 << len;
-    let mut sum = Vector3 {
-        x: 0.0,
-        y: 0.0,
-        z: 0.0,
-    };
+    let mut sum = zero();
     let mut mask: u32 = 0;
     while mask < end {
         let t = u32::count_ones(mask);
@@ -86,11 +84,7 @@ pub fn derivative(entries: &[f64; 693], u: &[f64; 21], v: &[f64; 21], order: usi
     requires { ⌜ order ≤ 20 ⌝ }
     ensures { λ r. ⌜ r ≡ compositeDerivative vectors (curveNumbers (now (u .entry))) (curveNumbers (now (v .entry))) (vectorSurfaceNumbers (now (entries .entry))) order ⌝ }
 {
-    let mut total = Vector3 {
-        x: 0.0,
-        y: 0.0,
-        z: 0.0,
-    };
+    let mut total = zero();
     let mut len = 0;
     while len < order {
         len += 1;
@@ -118,10 +112,7 @@ pub fn derivatives(entries: &[f64; 693], u: &[f64; 21], v: &[f64; 21], order: us
     let mut m = 0;
     while m <= order {
         let e = entry(entries, u, v, m);
-        let i = 3 * m;
-        r[i] = e.x;
-        r[i + 1] = e.y;
-        r[i + 2] = e.z;
+        store(&mut r, m, e);
         m += 1;
     }
     r

@@ -8,31 +8,20 @@ ghost use Rattle.derivatives.specs.VectorComposite.{carriedVector, carri
 use crate::ParameterCurve;
 use crate::VectorCurveAnswer;
 use crate::VectorSurfaceDerivatives;
+use crate::orders;
 use crate::vector_array;
 use crate::vector_carry;
 use vectors::VectorAnswer;
 
-// Whether the entries up to the order n of u and v are finite, and those of the surface too.
-fn both_finite(u: &[f64; 21], v: &[f64; 21], n: usize) -> bool
-    requires { ⌜ n ≤ 20 ⌝ }
-    ensures { λ r. ⌜ r ≡ (finiteCurve (curveNumbers (now (u .entry))) n && finiteCurve (curveNumbers (now (v .entry))) n) ⌝ }
-{
-    if crate::finite_curve(u, n) {
-        crate::finite_curve(v, n)
-    } else {
-        false
-    }
-}
-
+// Whether the entries up to the order n of the surface, of u and of v are finite.
 fn all_finite(entries: &[f64; 693], u: &[f64; 21], v: &[f64; 21], n: usize) -> bool
     requires { ⌜ n ≤ 20 ⌝ }
     ensures { λ r. ⌜ r ≡ (finiteVectorSurface (vectorSurfaceNumbers (now (entries .entry))) n && (finiteCurve (curveNumbers (now (u .entry))) n && finiteCurve (curveNumbers (now (v .entry))) n)) ⌝ }
 {
-    if vector_array::surface_finite(entries, n) {
-        both_finite(u, v, n)
-    } else {
-        false
-    }
+    ieee::both(
+        vector_array::surface_finite(entries, n),
+        crate::curves_finite(u, v, n),
+    )
 }
 
 impl VectorSurfaceDerivatives {
@@ -42,10 +31,10 @@ impl VectorSurfaceDerivatives {
     {
         let m = self.order;
         let n = curve.order;
-        if vector_array::far_at(m, n, order) {
+        if orders::far_at(m, n, order) {
             return VectorAnswer::Refused(1);
         }
-        if crate::smaller(m, n) < order {
+        if calculus::smaller(m, n) < order {
             return VectorAnswer::Refused(2);
         }
         let entries = self.entries;
@@ -54,7 +43,7 @@ impl VectorSurfaceDerivatives {
         if !all_finite(&entries, &u, &v, order) {
             return VectorAnswer::Refused(5);
         }
-        vector_array::returned_vector(vector_carry::derivative(&entries, &u, &v, order))
+        vectors::answers::returned_vector(vector_carry::derivative(&entries, &u, &v, order))
     }
 
     // The derivatives of all orders up to `order`, with the entry [0][0] at order 0.
@@ -63,10 +52,10 @@ impl VectorSurfaceDerivatives {
     {
         let m = self.order;
         let n = curve.order;
-        if vector_array::far_at(m, n, order) {
+        if orders::far_at(m, n, order) {
             return vector_array::refused(1);
         }
-        if crate::smaller(m, n) < order {
+        if calculus::smaller(m, n) < order {
             return vector_array::refused(2);
         }
         let entries = self.entries;

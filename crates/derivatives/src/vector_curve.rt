@@ -19,6 +19,7 @@ use crate::CurveAnswer;
 use crate::CurveDerivatives;
 use crate::VectorCurveAnswer;
 use crate::VectorCurveDerivatives;
+use crate::orders;
 use crate::vector_array;
 use crate::vector_entries;
 use crate::vector_entries::NumberFormula;
@@ -36,10 +37,10 @@ fn on_two(
 {
     let m = a.order;
     let n = b.order;
-    if vector_array::far(m, n) {
+    if orders::far(m, n) {
         return vector_array::refused(1);
     }
-    let k = crate::smaller(m, n);
+    let k = calculus::smaller(m, n);
     let x = a.entries;
     let y = b.entries;
     if !vector_array::both_finite(&x, &y, k) {
@@ -73,10 +74,10 @@ fn on_weighted(
 {
     let m = a.order;
     let n = b.order;
-    if vector_array::far(m, n) {
+    if orders::far(m, n) {
         return vector_array::refused(1);
     }
-    let k = crate::smaller(m, n);
+    let k = calculus::smaller(m, n);
     let x = a.entries;
     let y = b.entries;
     if !vector_array::weighted_finite(&x, &y, k) {
@@ -175,10 +176,10 @@ impl VectorCurveDerivatives {
     {
         let m = self.order;
         let n = other.order;
-        if vector_array::far_at(m, n, order) {
+        if orders::far_at(m, n, order) {
             return VectorAnswer::Refused(1);
         }
-        if crate::smaller(m, n) < order {
+        if calculus::smaller(m, n) < order {
             return VectorAnswer::Refused(2);
         }
         let x = self.entries;
@@ -187,7 +188,7 @@ impl VectorCurveDerivatives {
             return VectorAnswer::Refused(5);
         }
         let c = calculus::binomials();
-        vector_array::returned_vector(vector_entries::scaled_entry(&x, &y, &c, order))
+        vectors::answers::returned_vector(vector_entries::scaled_entry(&x, &y, &c, order))
     }
 
     // One entry of the dot product.
@@ -196,10 +197,10 @@ impl VectorCurveDerivatives {
     {
         let m = self.order;
         let n = other.order;
-        if vector_array::far_at(m, n, order) {
+        if orders::far_at(m, n, order) {
             return Real::Refused(1);
         }
-        if crate::smaller(m, n) < order {
+        if calculus::smaller(m, n) < order {
             return Real::Refused(2);
         }
         let x = self.entries;
@@ -208,7 +209,7 @@ impl VectorCurveDerivatives {
             return Real::Refused(5);
         }
         let c = calculus::binomials();
-        crate::returned(vector_entries::dot_entry(&x, &y, &c, order))
+        ieee::returned(vector_entries::dot_entry(&x, &y, &c, order))
     }
 
     // One entry of the cross product.
@@ -221,10 +222,10 @@ impl VectorCurveDerivatives {
     {
         let m = self.order;
         let n = other.order;
-        if vector_array::far_at(m, n, order) {
+        if orders::far_at(m, n, order) {
             return VectorAnswer::Refused(1);
         }
-        if crate::smaller(m, n) < order {
+        if calculus::smaller(m, n) < order {
             return VectorAnswer::Refused(2);
         }
         let x = self.entries;
@@ -233,7 +234,7 @@ impl VectorCurveDerivatives {
             return VectorAnswer::Refused(5);
         }
         let c = calculus::binomials();
-        vector_array::returned_vector(vector_entries::cross_entry(&x, &y, &c, order))
+        vectors::answers::returned_vector(vector_entries::cross_entry(&x, &y, &c, order))
     }
 
     pub fn combinatorial_derivatives_scaled(self, other: CurveDerivatives) -> VectorCurveAnswer
@@ -247,17 +248,17 @@ impl VectorCurveDerivatives {
     {
         let m = self.order;
         let n = other.order;
-        if vector_array::far(m, n) {
+        if orders::far(m, n) {
             return crate::refused_curve(1);
         }
-        let k = crate::smaller(m, n);
+        let k = calculus::smaller(m, n);
         let x = self.entries;
         let y = other.entries;
         if !vector_array::both_finite(&x, &y, k) {
             return crate::refused_curve(5);
         }
         let r = vector_entries::numbers(NumberFormula::Dot, &x, &y, k);
-        vector_array::returned_curve(r, k)
+        crate::returned_curve(r, k)
     }
 
     pub fn combinatorial_derivatives_cross(self, other: VectorCurveDerivatives) -> VectorCurveAnswer
@@ -290,6 +291,6 @@ impl VectorCurveDerivatives {
         if vector_array::norm_divides(n, first) {
             return crate::refused_curve(7);
         }
-        vector_array::returned_curve(r, n)
+        crate::returned_curve(r, n)
     }
 }

@@ -16,7 +16,9 @@ ghost use Rattle.derivatives.specs.Norm.{normTerm, normEntry};
 ghost use Rattle.derivatives.specs.Answer.{curveNumbers};
 ghost use Rattle.derivatives.specs.Vector.{origin, vectors, vectorNumbers, vectorArray, flat};
 ghost use Rattle.derivatives.specs.VectorFormula.{vectorFormula, numberFormula};
+use crate::vector_array::store;
 use crate::vector_array::vector_at;
+use crate::vector_array::zero;
 use vectors::Vector3;
 
 fn scaled_term(a: &[f64; 63], b: &[f64; 21], c: &[u32; 231], m: usize, i: usize) -> Vector3
@@ -34,11 +36,7 @@ pub fn scaled_entry(a: &[f64; 63], b: &[f64; 21], c: &[u32; 231], m: usize) -> V
     requires { ⌜ (m ≤ 20) × (now c ≡ binomialTable) ⌝ }
     ensures { λ r. ⌜ r ≡ productBy vectors multiple (vectorNumbers (now (a .entry))) (curveNumbers (now (b .entry))) m ⌝ }
 {
-    let mut sum = Vector3 {
-        x: 0.0,
-        y: 0.0,
-        z: 0.0,
-    };
+    let mut sum = zero();
     let mut i = 0;
     while i <= m {
         let t = scaled_term(a, b, c, m, i);
@@ -63,11 +61,7 @@ pub fn cross_entry(a: &[f64; 63], b: &[f64; 63], c: &[u32; 231], m: usize) -> Ve
     requires { ⌜ (m ≤ 20) × (now c ≡ binomialTable) ⌝ }
     ensures { λ r. ⌜ r ≡ productBy vectors cross (vectorNumbers (now (a .entry))) (vectorNumbers (now (b .entry))) m ⌝ }
 {
-    let mut sum = Vector3 {
-        x: 0.0,
-        y: 0.0,
-        z: 0.0,
-    };
+    let mut sum = zero();
     let mut i = 0;
     while i <= m {
         let t = cross_term(a, b, c, m, i);
@@ -240,10 +234,7 @@ pub fn entries(f: VectorFormula, a: &[f64; 63], b: &[f64; 63], w: &[f64; 21], n:
     let mut m = 0;
     while m <= n {
         let e = entry(f, a, b, w, &r, &c, m);
-        let i = 3 * m;
-        r[i] = e.x;
-        r[i + 1] = e.y;
-        r[i + 2] = e.z;
+        store(&mut r, m, e);
         m += 1;
     }
     r
@@ -273,10 +264,7 @@ pub fn taken(a: &[f64], s: usize, n: usize) -> [f64; 63]
     let mut m = 0;
     while m <= n {
         let e = vector_at(a, s + m);
-        let i = 3 * m;
-        r[i] = e.x;
-        r[i + 1] = e.y;
-        r[i + 2] = e.z;
+        store(&mut r, m, e);
         m += 1;
     }
     r

@@ -1,8 +1,7 @@
 // Jets of surfaces of vectors.
 ghost use mathlib.Core.Path.{_≡_};
 ghost use mathlib.Core.List.{List};
-ghost use mathlib.Core.Bool.{cond, _&&_, _||_};
-ghost use lib.Dec.{ltb};
+ghost use mathlib.Core.Bool.{cond, _&&_};
 ghost use Prim.Native.Nat.{ℕ, _+_, _≤_};
 ghost use lib.Ieee.{Float};
 ghost use Rattle.vectors.specs.Vectors.{multiple, dot, cross};
@@ -12,22 +11,23 @@ ghost use Rattle.vectors.specs.declared.VectorAnswer.the-variants.{Refused};
 ghost use Rattle.vectors.specs.Answers.{returnedVector};
 ghost use Rattle.calculus.specs.Kind.{regular};
 ghost use Rattle.derivatives.specs.Real.{real};
-ghost use Rattle.derivatives.specs.VectorAnswer.{far};
 ghost use Rattle.calculus.specs.Surface.{derivativeU, derivativeV, sum as sums, difference as differences, productBy};
 ghost use Rattle.derivatives.specs.Answer.{surfaceNumbers, finiteSurface, refusedSurface};
 ghost use Rattle.derivatives.specs.Vector.{vectors, vectorSurfaceNumbers, finiteVectorSurface};
 ghost use Rattle.derivatives.specs.VectorSurfaceNorm.{vectorSurfaceAbsolute};
-ghost use Rattle.derivatives.specs.VectorSurfaceAnswer.{refusedVectorSurface, madeVectorSurface, madeSurface as made, vectorSurfaceDot, vectorSurfaceDerivative, vectorSurfaceFromList, vectorSurfaceIntoList, onVectorSurfaces, onWeightedSurface, onVectorSurfacesAt, onWeightedSurfaceAt, bySurfaceVectors, bySurfaceWeights, vectorSurfaceQuotient, bySurfaceVectorEntries, bySurfaceWeightedEntries};
+ghost use Rattle.derivatives.specs.VectorSurfaceAnswer.{refusedVectorSurface, madeVectorSurface, vectorSurfaceDot, vectorSurfaceDerivative, vectorSurfaceFromList, vectorSurfaceIntoList, onVectorSurfaces, onWeightedSurface, onVectorSurfacesAt, onWeightedSurfaceAt, bySurfaceVectors, bySurfaceWeights, vectorSurfaceQuotient, bySurfaceVectorEntries, bySurfaceWeightedEntries};
 use crate::SurfaceAnswer;
 use crate::SurfaceDerivatives;
 use crate::VectorSurfaceAnswer;
 use crate::VectorSurfaceDerivatives;
+use crate::orders;
 use crate::vector_array;
 use crate::vector_curve;
 use crate::vector_entries::VectorFormula;
 use crate::vector_surface_entries;
 use crate::vector_surface_norm;
 use ieee::Real;
+use ieee::both;
 use vectors::VectorAnswer;
 
 pub fn refused(c: u8) -> VectorSurfaceAnswer
@@ -65,22 +65,20 @@ fn both_finite(a: &[f64; 693], b: &[f64; 693], n: usize) -> bool
     requires { ⌜ n ≤ 20 ⌝ }
     ensures { λ r. ⌜ r ≡ (finiteVectorSurface (vectorSurfaceNumbers (now (a .entry))) n && finiteVectorSurface (vectorSurfaceNumbers (now (b .entry))) n) ⌝ }
 {
-    if vector_array::surface_finite(a, n) {
-        vector_array::surface_finite(b, n)
-    } else {
-        false
-    }
+    both(
+        vector_array::surface_finite(a, n),
+        vector_array::surface_finite(b, n),
+    )
 }
 
 fn weighted_finite(a: &[f64; 693], w: &[f64; 231], n: usize) -> bool
     requires { ⌜ n ≤ 20 ⌝ }
     ensures { λ r. ⌜ r ≡ (finiteVectorSurface (vectorSurfaceNumbers (now (a .entry))) n && finiteSurface (surfaceNumbers (now (w .entry))) n) ⌝ }
 {
-    if vector_array::surface_finite(a, n) {
-        crate::finite_surface(w, n)
-    } else {
-        false
-    }
+    both(
+        vector_array::surface_finite(a, n),
+        crate::finite_surface(w, n),
+    )
 }
 
 // A formula on two jets of vectors, at the smaller order.
@@ -93,10 +91,10 @@ fn on_two(
 {
     let m = a.order;
     let n = b.order;
-    if vector_array::far(m, n) {
+    if orders::far(m, n) {
         return refused(1);
     }
-    let k = crate::smaller(m, n);
+    let k = calculus::smaller(m, n);
     let x = a.entries;
     let y = b.entries;
     if !both_finite(&x, &y, k) {
@@ -117,10 +115,10 @@ fn on_weighted(
 {
     let m = a.order;
     let n = b.order;
-    if vector_array::far(m, n) {
+    if orders::far(m, n) {
         return refused(1);
     }
-    let k = crate::smaller(m, n);
+    let k = calculus::smaller(m, n);
     let x = a.entries;
     let y = b.entries;
     if !weighted_finite(&x, &y, k) {
@@ -132,45 +130,6 @@ fn on_weighted(
     }
     let r = vector_surface_entries::entries(f, &x, &x, &y, k);
     returned(r, k)
-}
-
-fn returned_surface(a: [f64; 231], n: usize) -> SurfaceAnswer
-    requires { ⌜ n ≤ 20 ⌝ }
-    ensures { λ r. ⌜ r ≡ cond (finiteSurface (surfaceNumbers a) n) (made n a) (refusedSurface 10) ⌝ }
-{
-    if !crate::finite_surface(&a, n) {
-        return crate::refused_surface(10);
-    }
-    SurfaceAnswer {
-        refusal: 0,
-        jet: SurfaceDerivatives {
-            order: n,
-            entries: a,
-        },
-    }
-}
-
-// Whether one of two orders, or m + n, is above 20.
-fn far_sum(m: usize, n: usize) -> bool
-    ensures { λ r. ⌜ r ≡ ltb 20 (m + n) ⌝ }
-{
-    if 20 < m {
-        return true;
-    }
-    if 20 < n {
-        return true;
-    }
-    20 < m + n
-}
-
-fn far_at(k: usize, l: usize, m: usize, n: usize) -> bool
-    ensures { λ r. ⌜ r ≡ (far k l || ltb 20 (m + n)) ⌝ }
-{
-    if vector_array::far(k, l) {
-        true
-    } else {
-        far_sum(m, n)
-    }
 }
 
 // The derivative p times by u and q times by v, where p + q is 1.
@@ -207,7 +166,7 @@ impl VectorSurfaceDerivatives {
         if 20 < order {
             return refused(1);
         }
-        let k = crate::surface::count(order);
+        let k = calculus::surface_count(order);
         if list.len() != 3 * k {
             return refused(2);
         }
@@ -228,7 +187,7 @@ impl VectorSurfaceDerivatives {
         if 20 < n {
             return 1;
         }
-        let k = crate::surface::count(n);
+        let k = calculus::surface_count(n);
         if out.len() != 3 * k {
             return 2;
         }
@@ -275,11 +234,11 @@ impl VectorSurfaceDerivatives {
     {
         let k = self.order;
         let l = other.order;
-        if far_at(k, l, m, n) {
+        if orders::far_sum_at(k, l, m, n) {
             return VectorAnswer::Refused(1);
         }
         let o = m + n;
-        if crate::smaller(k, l) < o {
+        if calculus::smaller(k, l) < o {
             return VectorAnswer::Refused(2);
         }
         let x = self.entries;
@@ -288,7 +247,7 @@ impl VectorSurfaceDerivatives {
             return VectorAnswer::Refused(5);
         }
         let c = calculus::binomials();
-        vector_array::returned_vector(vector_surface_entries::scaled_entry(&x, &y, &c, m, n))
+        vectors::answers::returned_vector(vector_surface_entries::scaled_entry(&x, &y, &c, m, n))
     }
 
     // One entry of the dot product.
@@ -302,11 +261,11 @@ impl VectorSurfaceDerivatives {
     {
         let k = self.order;
         let l = other.order;
-        if far_at(k, l, m, n) {
+        if orders::far_sum_at(k, l, m, n) {
             return Real::Refused(1);
         }
         let o = m + n;
-        if crate::smaller(k, l) < o {
+        if calculus::smaller(k, l) < o {
             return Real::Refused(2);
         }
         let x = self.entries;
@@ -315,7 +274,7 @@ impl VectorSurfaceDerivatives {
             return Real::Refused(5);
         }
         let c = calculus::binomials();
-        crate::returned(vector_surface_entries::dot_entry(&x, &y, &c, m, n))
+        ieee::returned(vector_surface_entries::dot_entry(&x, &y, &c, m, n))
     }
 
     // One entry of the cross product.
@@ -329,11 +288,11 @@ impl VectorSurfaceDerivatives {
     {
         let k = self.order;
         let l = other.order;
-        if far_at(k, l, m, n) {
+        if orders::far_sum_at(k, l, m, n) {
             return VectorAnswer::Refused(1);
         }
         let o = m + n;
-        if crate::smaller(k, l) < o {
+        if calculus::smaller(k, l) < o {
             return VectorAnswer::Refused(2);
         }
         let x = self.entries;
@@ -342,7 +301,7 @@ impl VectorSurfaceDerivatives {
             return VectorAnswer::Refused(5);
         }
         let c = calculus::binomials();
-        vector_array::returned_vector(vector_surface_entries::cross_entry(&x, &y, &c, m, n))
+        vectors::answers::returned_vector(vector_surface_entries::cross_entry(&x, &y, &c, m, n))
     }
 
     pub fn combinatorial_derivatives_scaled(self, other: SurfaceDerivatives) -> VectorSurfaceAnswer
@@ -356,17 +315,17 @@ impl VectorSurfaceDerivatives {
     {
         let m = self.order;
         let n = other.order;
-        if vector_array::far(m, n) {
+        if orders::far(m, n) {
             return crate::refused_surface(1);
         }
-        let k = crate::smaller(m, n);
+        let k = calculus::smaller(m, n);
         let x = self.entries;
         let y = other.entries;
         if !both_finite(&x, &y, k) {
             return crate::refused_surface(5);
         }
         let r = vector_surface_entries::dots(&x, &y, k);
-        returned_surface(r, k)
+        crate::returned_surface(r, k)
     }
 
     pub fn combinatorial_derivatives_cross(
@@ -402,6 +361,6 @@ impl VectorSurfaceDerivatives {
         if vector_array::norm_divides(n, first) {
             return crate::refused_surface(7);
         }
-        returned_surface(r, n)
+        crate::returned_surface(r, n)
     }
 }

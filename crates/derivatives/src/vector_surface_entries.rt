@@ -9,42 +9,28 @@ ghost use Rattle.calculus.specs.Kind.{regular};
 ghost use Rattle.calculus.specs.InTurn.{inTurn};
 ghost use Rattle.calculus.specs.Rising.{risingRows};
 ghost use Rattle.calculus.specs.Array.{surfaceArray};
-ghost use Rattle.calculus.specs.Choose.{choose, binomialTable};
+ghost use Rattle.calculus.specs.Choose.{binomialTable};
 ghost use Rattle.calculus.specs.Surface.{leibniz, productBy};
 ghost use Rattle.derivatives.specs.Real.{nil, real};
 ghost use Rattle.derivatives.specs.Rational.{surfaceRationalTerm, surfaceRationalEntry};
 ghost use Rattle.derivatives.specs.Answer.{surfaceNumbers};
 ghost use Rattle.derivatives.specs.Vector.{origin, vectors, vectorNumbers, flat, vectorSurfaceNumbers, vectorSurfaceArray};
 ghost use Rattle.derivatives.specs.VectorSurfaceAnswer.{vectorSurfaceFormula};
+use crate::surface::coefficient;
+use crate::surface::number_at;
+use crate::vector_array::store;
 use crate::vector_array::vector_at;
+use crate::vector_array::zero;
 use crate::vector_entries::VectorFormula;
 use vectors::Vector3;
 
-// The entry [i][j] of vectors, and of floats.
+// The entry [i][j].
 pub fn surface_at(a: &[f64; 693], i: usize, j: usize) -> Vector3
     requires { ⌜ i + j ≤ 20 ⌝ }
     ensures { λ r. ⌜ r ≡ vectorSurfaceNumbers (now (a .entry)) i j ⌝ }
 {
     let k = crate::index(i, j);
     vector_at(a, k)
-}
-
-pub fn number_at(a: &[f64; 231], i: usize, j: usize) -> f64
-    requires { ⌜ i + j ≤ 20 ⌝ }
-    ensures { λ r. ⌜ r ≡ surfaceNumbers (now (a .entry)) i j ⌝ }
-{
-    let k = crate::index(i, j);
-    a[k]
-}
-
-// The coefficient of the term [i][j] of Leibniz's rule at [m][n].
-fn coefficient(c: &[u32; 231], m: usize, n: usize, i: usize, j: usize) -> f64
-    requires { ⌜ (i ≤ m) × (j ≤ n) × (m + n ≤ 20) × (now c ≡ binomialTable) ⌝ }
-    ensures { λ r. ⌜ r ≡ real .ofNat (choose m i * choose n j) ⌝ }
-{
-    let x = crate::binomial(c, m, i);
-    let y = crate::binomial(c, n, j);
-    crate::float(x * y)
 }
 
 fn cross_term(
@@ -150,11 +136,7 @@ pub fn cross_entry(a: &[f64; 693], b: &[f64; 693], c: &[u32; 231], m: usize, n: 
     requires { ⌜ (m + n ≤ 20) × (now c ≡ binomialTable) ⌝ }
     ensures { λ r. ⌜ r ≡ productBy vectors cross (vectorSurfaceNumbers (now (a .entry))) (vectorSurfaceNumbers (now (b .entry))) m n ⌝ }
 {
-    let mut sum = Vector3 {
-        x: 0.0,
-        y: 0.0,
-        z: 0.0,
-    };
+    let mut sum = zero();
     let mut i = 0;
     while i <= m {
         sum = cross_row(sum, a, b, c, m, n, i);
@@ -190,11 +172,7 @@ pub fn scaled_entry(a: &[f64; 693], b: &[f64; 231], c: &[u32; 231], m: usize, n:
     requires { ⌜ (m + n ≤ 20) × (now c ≡ binomialTable) ⌝ }
     ensures { λ r. ⌜ r ≡ productBy vectors multiple (vectorSurfaceNumbers (now (a .entry))) (surfaceNumbers (now (b .entry))) m n ⌝ }
 {
-    let mut sum = Vector3 {
-        x: 0.0,
-        y: 0.0,
-        z: 0.0,
-    };
+    let mut sum = zero();
     let mut i = 0;
     while i <= m {
         sum = scaled_row(sum, a, b, c, m, n, i);
@@ -238,11 +216,7 @@ fn rational_entry(
     requires { ⌜ (m + n ≤ 20) × (now c ≡ binomialTable) ⌝ }
     ensures { λ r. ⌜ r ≡ surfaceRationalEntry vectors quotient (vectorSurfaceNumbers (now (x .entry))) (surfaceNumbers (now (w .entry))) (vectorSurfaceNumbers (now (q .entry))) m n ⌝ }
 {
-    let mut sum = Vector3 {
-        x: 0.0,
-        y: 0.0,
-        z: 0.0,
-    };
+    let mut sum = zero();
     let mut i = 0;
     while i <= m {
         sum = rational_row(sum, w, q, c, m, n, i);
@@ -302,10 +276,7 @@ pub fn entries(
     while i <= n {
         let e = entry(f, a, b, w, &r, &c, i, j);
         let k = crate::index(i, j);
-        let p = 3 * k;
-        r[p] = e.x;
-        r[p + 1] = e.y;
-        r[p + 2] = e.z;
+        store(&mut r, k, e);
         j += 1;
         if n < i + j {
             i += 1;
@@ -384,10 +355,7 @@ pub fn shifted(a: &[f64; 693], n: usize, p: usize, q: usize) -> [f64; 693]
     while i <= n {
         let e = surface_at(a, i + p, j + q);
         let k = crate::index(i, j);
-        let o = 3 * k;
-        r[o] = e.x;
-        r[o + 1] = e.y;
-        r[o + 2] = e.z;
+        store(&mut r, k, e);
         j += 1;
         if n < i + j {
             i += 1;
@@ -409,10 +377,7 @@ pub fn read(list: &[f64], n: usize) -> [f64; 693]
     while i <= n {
         let e = vector_at(list, l);
         let k = crate::index(i, j);
-        let o = 3 * k;
-        r[o] = e.x;
-        r[o + 1] = e.y;
-        r[o + 2] = e.z;
+        store(&mut r, k, e);
         l += 1;
         j += 1;
         if n < i + j {
@@ -432,10 +397,8 @@ pub fn write(a: &[f64; 693], n: usize, out: &mut [f64])
     let mut l = 0;
     while i <= n {
         let e = surface_at(a, i, j);
-        out[l] = e.x;
-        out[l + 1] = e.y;
-        out[l + 2] = e.z;
-        l += 3;
+        store(out, l, e);
+        l += 1;
         j += 1;
         if n < i + j {
             i += 1;

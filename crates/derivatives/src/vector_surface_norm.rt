@@ -14,29 +14,17 @@ ghost use Rattle.derivatives.specs.Answer.{surfaceNumbers};
 ghost use Rattle.derivatives.specs.Vector.{vectorSurfaceNumbers};
 ghost use Rattle.derivatives.specs.VectorSurfaceNorm.{withOther, vectorSurfaceNorm};
 use crate::surface;
+use crate::surface::number_at;
 use crate::vector_surface_entries::dot_entry;
-use crate::vector_surface_entries::number_at;
 use crate::vector_surface_entries::surface_at;
-
-fn both(p: bool, q: bool) -> bool
-    ensures { λ r. ⌜ r ≡ (p && q) ⌝ }
-{
-    if p { q } else { false }
-}
-
-fn either(p: bool, q: bool) -> bool
-    ensures { λ r. ⌜ r ≡ (p || q) ⌝ }
-{
-    if p { true } else { q }
-}
+use ieee::both;
+use ieee::either;
 
 // Whether [i][j] is the first or the last of the terms at [m][n].
 fn at_end(m: usize, n: usize, i: usize, j: usize) -> bool
     ensures { λ r. ⌜ r ≡ ((eqb i 0 && eqb j 0) || (eqb i m && eqb j n)) ⌝ }
 {
-    let p = both(i == 0, j == 0);
-    let q = both(i == m, j == n);
-    either(p, q)
+    either(both(i == 0, j == 0), both(i == m, j == n))
 }
 
 fn with_other(

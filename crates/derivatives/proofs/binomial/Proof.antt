@@ -1,19 +1,14 @@
-use native.Mathlib.Nat.{mul-le-mul-right}
 -- `derivatives::binomial` meets its contract. Assumes nothing.
 use Rattle.derivatives.proofs.Terms.{coefficient}
 use Rattle.calculus.proofs.Graded.{index-231}
 use Rattle.calculus.specs.Graded.{index}
 use lib.ListN.{getD}
-use denote.Ref.{now}
-use mathlib.Core.Path.{_≡_, refl, sym, ap, ap₂, _∙_}
-use Prim.Native.Nat.{ℕ, suc, _+_, _-_, _*_, _≤_, _<_}
+use mathlib.Core.Path.{ap₂, _∙_}
+use Prim.Native.Nat.{ℕ, _-_, _*_, _<_}
 use native.Mathlib.Omega.{arith}
 use borrow.Author.Needs.{needs}
 use Rattle.derivatives.proofs.binomial.Statement.{statement}
 use Rattle.derivatives.proofs.binomial.Tie as tie
-use Rattle.derivatives.proofs.binomial.Reads as reads
-use Rattle.derivatives.proofs.binomial.Lts as lts
-use Rattle.derivatives.proofs.index.Reads as index-reads
 
 small : (k : ℕ) → k < 231 → k * 4 < 924
 small k h = omega arith

@@ -1,14 +1,12 @@
 -- `derivatives::index` meets its contract. Assumes nothing.
-use mathlib.Core.Path.{_≡_, refl, sym, ap, ap₂, _∙_}
+use mathlib.Core.Path.{refl}
 use Rattle.derivatives.proofs.Terms.{small-square}
 use Rattle.calculus.specs.Graded.{index}
-use Prim.Native.Nat.{ℕ, suc, _+_, _-_, _≤_, _<_}
+use Prim.Native.Nat.{_+_}
 use native.Mathlib.Omega.{arith}
 use borrow.Author.Needs.{needs}
 use Rattle.derivatives.proofs.index.Statement.{statement}
 use Rattle.derivatives.proofs.index.Tie as tie
-use Rattle.derivatives.proofs.index.Reads as reads
-use Rattle.derivatives.proofs.index.Lts as lts
 
 add-n : tie.Need-add-n
 add-n c = search needs

@@ -1,29 +1,25 @@
 -- `derivatives::CurveDerivatives::derivative` meets its contract. Assumes nothing.
-use Rattle.derivatives.proofs.Answers.{derivative-order, derivative-none, derivative-finite, derivative-is}
-use borrow.Author.Tests.{not-true, not-false}
-use mathlib.Core.Path.{_≡_, refl, sym, ap, ap₂, _∙_}
-use Prim.Native.Nat.{ℕ, suc, _+_, _-_, _≤_, _<_}
-use native.Mathlib.Omega.{arith}
+use Rattle.derivatives.proofs.Tested.{less-far, less-none, less-infinite, less-worked}
+use Rattle.calculus.specs.Curve.{derivative}
+use Rattle.derivatives.specs.Answer.{refusedCurve, answeredCurve, curves}
+use mathlib.Core.Path.{_∙_}
 use borrow.Author.Needs.{needs}
 use Rattle.derivatives.proofs.CurveDerivatives.derivative.Statement.{statement}
 use Rattle.derivatives.proofs.CurveDerivatives.derivative.Tie as tie
-use Rattle.derivatives.proofs.CurveDerivatives.derivative.Reads as reads
-use Rattle.derivatives.proofs.CurveDerivatives.derivative.Lts as lts
-use Rattle.derivatives.proofs.curve.shifted.Reads as shifted-reads
-use Rattle.derivatives.proofs.finite_curve.Reads as finite-curve-reads
-use Rattle.derivatives.proofs.refused_curve.Reads as refused-curve-reads
 
 refused-curve-requires : tie.Need-refused-curve-requires
 refused-curve-requires c κs = search needs
 
 returns : tie.Need-returns
-returns c = c .refused-curve .ensures ∙ derivative-order (c .before .before .args .self) (c .before .if1 .taken)
+returns c = let s = c .before .before .args in
+    c .refused-curve .ensures ∙ less-far curves refusedCurve (λ x n. answeredCurve n (derivative x)) (s .self) (c .before .if1 .taken)
 
 refused-curve-requires-2 : tie.Need-refused-curve-requires-2
 refused-curve-requires-2 c κs = search needs
 
 returns-2 : tie.Need-returns-2
-returns-2 c = c .refused-curve2 .ensures ∙ derivative-none (c .before .before .before .args .self) (c .before .before .if1 .left) (c .before .if2 .taken)
+returns-2 c = let s = c .before .before .before .args in
+    c .refused-curve2 .ensures ∙ less-none curves refusedCurve (λ x n. answeredCurve n (derivative x)) (s .self) (c .before .before .if1 .left) (c .before .if2 .taken)
 
 finite-curve-requires : tie.Need-finite-curve-requires
 finite-curve-requires c κs = search needs
@@ -32,7 +28,8 @@ refused-curve-requires-3 : tie.Need-refused-curve-requires-3
 refused-curve-requires-3 c κs = search needs
 
 returns-3 : tie.Need-returns-3
-returns-3 c = c .refused-curve3 .ensures ∙ derivative-finite (c .before .before .before .before .before .before .before .args .self) (c .before .before .before .before .before .before .if1 .left) (c .before .before .before .before .before .if2 .left) (sym (c .before .before .finite-curve .ensures) ∙ not-true _ (c .before .if3 .taken))
+returns-3 c = let p = c .before .before .before .before .before .before in let s = p .before .args in
+    c .refused-curve3 .ensures ∙ less-infinite curves refusedCurve (λ x n. answeredCurve n (derivative x)) (s .self) (p .if1 .left) (c .before .before .finite-curve .ensures) (c .before .before .before .before .before .if2 .left) (c .before .if3 .taken)
 
 sub-shifted : tie.Need-sub-shifted
 sub-shifted c = search needs
@@ -41,19 +38,8 @@ shifted-requires : tie.Need-shifted-requires
 shifted-requires c κs = search needs
 
 returns-4 : tie.Need-returns-4
-returns-4 c = c .shifted .ensures ∙ derivative-is (c .before .before .before .before .before .before .before .before .args .self) (c .before .before .before .before .before .before .before .if1 .left) (c .before .before .before .before .before .before .if2 .left) (sym (c .before .before .before .finite-curve .ensures) ∙ not-false _ (c .before .before .if3 .left))
+returns-4 c = let p = c .before .before .before .before .before .before .before in let s = p .before .args in
+    c .shifted .ensures ∙ less-worked curves refusedCurve (λ x n. answeredCurve n (derivative x)) (s .self) (p .if1 .left) (c .before .before .before .finite-curve .ensures) (c .before .before .before .before .before .before .if2 .left) (c .before .before .if3 .left)
 
 pub derivative-spec : {M : Type 1} → statement M
-derivative-spec =
-    tie.close
-    (tie.spec
-    refused-curve-requires
-    returns
-    refused-curve-requires-2
-    returns-2
-    finite-curve-requires
-    refused-curve-requires-3
-    returns-3
-    sub-shifted
-    shifted-requires
-    returns-4)
+derivative-spec = tie.close (tie.spec refused-curve-requires returns refused-curve-requires-2 returns-2 finite-curve-requires refused-curve-requires-3 returns-3 sub-shifted shifted-requires returns-4)

@@ -1,24 +1,20 @@
 -- `derivatives::CurveDerivatives::from_list` meets its contract. Assumes nothing.
-use Rattle.derivatives.proofs.Answers.{list-order, list-length, list-finite, list-is}
-use borrow.Author.Tests.{not-true, not-false}
+use Rattle.derivatives.proofs.Tested.{list-far, list-length, list-infinite, list-is}
+use Rattle.derivatives.specs.Answer.{curveNumbers, refusedCurve, answeredCurve}
+use mathlib.Core.Path.{_∙_}
+use Prim.Native.Nat.{suc}
+use native.Mathlib.Numerals.{add-one}
 use denote.Ref.{now}
-use mathlib.Core.Path.{_≡_, refl, sym, ap, ap₂, _∙_}
-use Prim.Native.Nat.{ℕ, suc, _+_, _-_, _≤_, _<_}
-use native.Mathlib.Omega.{arith}
 use borrow.Author.Needs.{needs}
 use Rattle.derivatives.proofs.CurveDerivatives.from_list.Statement.{statement}
 use Rattle.derivatives.proofs.CurveDerivatives.from_list.Tie as tie
-use Rattle.derivatives.proofs.CurveDerivatives.from_list.Reads as reads
-use Rattle.derivatives.proofs.CurveDerivatives.from_list.Lts as lts
-use Rattle.derivatives.proofs.curve.read.Reads as read-reads
-use Rattle.derivatives.proofs.finite_list.Reads as finite-list-reads
-use Rattle.derivatives.proofs.refused_curve.Reads as refused-curve-reads
 
 refused-curve-requires : tie.Need-refused-curve-requires
 refused-curve-requires c κs = search needs
 
 returns : tie.Need-returns
-returns c = c .refused-curve .ensures ∙ list-order (c .before .before .before .args .order) (now (c .before .before .before .args .list)) (c .before .if1 .taken)
+returns c = let s = c .before .before .before .args in
+    c .refused-curve .ensures ∙ list-far refusedCurve (s .order) (suc (s .order)) (now (s .list)) (answeredCurve (s .order) (curveNumbers (now (s .list)))) (c .before .if1 .taken)
 
 add-if2 : tie.Need-add-if2
 add-if2 c = search needs
@@ -27,7 +23,8 @@ refused-curve-requires-2 : tie.Need-refused-curve-requires-2
 refused-curve-requires-2 c κs = search needs
 
 returns-2 : tie.Need-returns-2
-returns-2 c = c .refused-curve2 .ensures ∙ list-length (c .before .before .before .before .args .order) (now (c .before .before .before .before .args .list)) (c .before .before .if1 .left) (c .before .if2 .taken)
+returns-2 c = let q = c .before .before in let s = q .before .before .args in
+    c .refused-curve2 .ensures ∙ list-length refusedCurve (s .order) (suc (s .order)) (now (s .list)) (answeredCurve (s .order) (curveNumbers (now (s .list)))) (q .if1 .left) (add-one (s .order)) (c .before .if2 .taken)
 
 finite-list-requires : tie.Need-finite-list-requires
 finite-list-requires c κs = search needs
@@ -36,25 +33,15 @@ refused-curve-requires-3 : tie.Need-refused-curve-requires-3
 refused-curve-requires-3 c κs = search needs
 
 returns-3 : tie.Need-returns-3
-returns-3 c = c .refused-curve3 .ensures ∙ list-finite (c .before .before .before .before .before .before .args .order) (now (c .before .before .before .before .before .before .args .list)) (c .before .before .before .before .if1 .left) (c .before .before .before .if2 .left) (sym (c .before .before .finite-list .ensures) ∙ not-true _ (c .before .if3 .taken))
+returns-3 c = let q = c .before .before .before .before in let s = q .before .before .args in
+    c .refused-curve3 .ensures ∙ list-infinite refusedCurve (s .order) (suc (s .order)) (now (s .list)) (answeredCurve (s .order) (curveNumbers (now (s .list)))) (q .if1 .left) (add-one (s .order)) (c .before .before .before .if2 .left) (c .before .before .finite-list .ensures) (c .before .if3 .taken)
 
 read-requires : tie.Need-read-requires
 read-requires c κs = search needs
 
 returns-4 : tie.Need-returns-4
-returns-4 c = c .read .ensures ∙ list-is (c .before .before .before .before .before .before .args .order) (now (c .before .before .before .before .before .before .args .list)) (c .before .before .before .before .if1 .left) (c .before .before .before .if2 .left) (sym (c .before .before .finite-list .ensures) ∙ not-false _ (c .before .if3 .left))
+returns-4 c = let q = c .before .before .before .before in let s = q .before .before .args in
+    c .read .ensures ∙ list-is refusedCurve (s .order) (suc (s .order)) (now (s .list)) (answeredCurve (s .order) (curveNumbers (now (s .list)))) (q .if1 .left) (add-one (s .order)) (c .before .before .before .if2 .left) (c .before .before .finite-list .ensures) (c .before .if3 .left)
 
 pub from-list-spec : {M : Type 1} → statement M
-from-list-spec =
-    tie.close
-    (tie.spec
-    refused-curve-requires
-    returns
-    add-if2
-    refused-curve-requires-2
-    returns-2
-    finite-list-requires
-    refused-curve-requires-3
-    returns-3
-    read-requires
-    returns-4)
+from-list-spec = tie.close (tie.spec refused-curve-requires returns add-if2 refused-curve-requires-2 returns-2 finite-list-requires refused-curve-requires-3 returns-3 read-requires returns-4)

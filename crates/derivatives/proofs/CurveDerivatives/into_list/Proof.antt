@@ -1,34 +1,32 @@
 -- `derivatives::CurveDerivatives::into_list` meets its contract. Assumes nothing.
-use Rattle.derivatives.proofs.Answers.{pair, into-order, into-length, into-finite, into-is}
-use lib.Ieee.{Float}
-use mathlib.Core.List.{List}
-use borrow.Author.Tests.{not-true, not-false}
+use Rattle.derivatives.proofs.Tested.{pair, into-far, into-length, into-infinite, into-worked}
+use Rattle.calculus.specs.Order.{curveEntries}
+use Rattle.derivatives.specs.Answer.{curves}
+use Prim.Native.Nat.{suc}
+use native.Mathlib.Numerals.{add-one}
 use denote.Ref.{now}
-use mathlib.Core.Path.{_≡_, refl, sym, ap, ap₂, _∙_}
-use Prim.Native.Nat.{ℕ, suc, _+_, _-_, _≤_, _<_}
-use native.Mathlib.Omega.{arith}
+use mathlib.Core.Path.{ap, _∙_}
 use borrow.Author.Needs.{needs}
 use Rattle.derivatives.proofs.CurveDerivatives.into_list.Statement.{statement}
 use Rattle.derivatives.proofs.CurveDerivatives.into_list.Tie as tie
-use Rattle.derivatives.proofs.CurveDerivatives.into_list.Reads as reads
-use Rattle.derivatives.proofs.CurveDerivatives.into_list.Lts as lts
-use Rattle.derivatives.proofs.curve.write.Reads as write-reads
-use Rattle.derivatives.proofs.finite_curve.Reads as finite-curve-reads
 
 returns : tie.Need-returns
-returns c = into-order (c .before .before .args .self) (now (c .before .before .args .out)) (c .if1 .taken)
+returns c = let s = c .before .before .args in
+    into-far curves (suc) (curveEntries) (s .self) (now (s .out)) (c .if1 .taken)
 
 add-if2 : tie.Need-add-if2
 add-if2 c = search needs
 
 returns-2 : tie.Need-returns-2
-returns-2 c = into-length (c .before .before .before .args .self) (now (c .before .before .before .args .out)) (c .before .if1 .left) (c .if2 .taken)
+returns-2 c = let q = c .before in let s = q .before .before .args in
+    into-length curves (suc) (curveEntries) (s .self) (now (s .out)) (q .if1 .left) (add-one (s .self .order)) (c .if2 .taken)
 
 finite-curve-requires : tie.Need-finite-curve-requires
 finite-curve-requires c κs = search needs
 
 returns-3 : tie.Need-returns-3
-returns-3 c = into-finite (c .before .before .before .before .before .before .before .args .self) (now (c .before .before .before .before .before .before .before .args .out)) (c .before .before .before .before .before .if1 .left) (c .before .before .before .before .if2 .left) (sym (c .before .finite-curve .ensures) ∙ not-true _ (c .if3 .taken))
+returns-3 c = let q = c .before .before .before .before .before in let s = q .before .before .args in
+    into-infinite curves (suc) (curveEntries) (s .self) (now (s .out)) (q .if1 .left) (add-one (s .self .order)) (c .before .before .before .before .if2 .left) (c .before .finite-curve .ensures) (c .if3 .taken)
 
 write-requires : tie.Need-write-requires
 write-requires c κs = search needs
@@ -37,17 +35,9 @@ same-length : tie.Need-same-length
 same-length c = search needs
 
 returns-4 : tie.Need-returns-4
-returns-4 c = ap (λ (l : List Float). pair 0 l) (c .before .before .write .ensures) ∙ into-is (c .before .before .before .before .before .before .before .before .before .before .before .before .args .self) (now (c .before .before .before .before .before .before .before .before .before .before .before .before .args .out)) (c .before .before .before .before .before .before .before .before .before .before .if1 .left) (c .before .before .before .before .before .before .before .before .before .if2 .left) (sym (c .before .before .before .before .before .before .finite-curve .ensures) ∙ not-false _ (c .before .before .before .before .before .if3 .left))
+returns-4 c = let q = c .before .before .before .before .before .before .before .before .before .before in let s = q .before .before .args in
+    ap (pair 0) (c .before .before .write .ensures)
+    ∙ into-worked curves (suc) (curveEntries) (s .self) (now (s .out)) (q .if1 .left) (add-one (s .self .order)) (c .before .before .before .before .before .before .before .before .before .if2 .left) (c .before .before .before .before .before .before .finite-curve .ensures) (c .before .before .before .before .before .if3 .left)
 
 pub into-list-spec : {M : Type 1} → statement M
-into-list-spec =
-    tie.close
-    (tie.spec
-    returns
-    add-if2
-    returns-2
-    finite-curve-requires
-    returns-3
-    write-requires
-    same-length
-    returns-4)
+into-list-spec = tie.close (tie.spec returns add-if2 returns-2 finite-curve-requires returns-3 write-requires same-length returns-4)

@@ -1,27 +1,23 @@
 -- `derivatives::VectorCurveDerivatives::from_list` meets its contract. Assumes nothing.
-use Rattle.derivatives.proofs.VectorAnswers.{list-order, list-length, list-finite, list-is, same-array}
-use Rattle.derivatives.specs.VectorFormula.{madeVectors}
+use Rattle.derivatives.proofs.Tested.{list-far, list-length, list-infinite, list-is}
+use Rattle.derivatives.proofs.VectorAnswers.{same-array}
 use Rattle.derivatives.specs.Vector.{vectorNumbers}
+use Rattle.derivatives.specs.VectorAnswer.{refusedVectors, madeVectors, answeredVectors}
+use mathlib.Core.Path.{ap, _∙_}
+use Prim.Native.Nat.{suc, _+_, _*_}
 use native.Mathlib.Nat.{zero-add}
-use borrow.Author.Tests.{not-true, not-false}
+use native.Mathlib.Numerals.{add-one}
 use denote.Ref.{now}
-use Prim.Native.Nat.{_+_, _-_}
-use mathlib.Core.Path.{sym, ap, _∙_}
 use borrow.Author.Needs.{needs}
 use Rattle.derivatives.proofs.VectorCurveDerivatives.from_list.Statement.{statement}
 use Rattle.derivatives.proofs.VectorCurveDerivatives.from_list.Tie as tie
-use Rattle.derivatives.proofs.VectorCurveDerivatives.from_list.Reads as reads
-use Rattle.derivatives.proofs.VectorCurveDerivatives.from_list.Lts as lts
-use Rattle.derivatives.proofs.finite_list.Reads as finite-list-reads
-use Rattle.derivatives.proofs.vector_array.refused.Reads as refused-reads
-use Rattle.derivatives.proofs.vector_entries.taken.Reads as taken-reads
 
 refused-requires : tie.Need-refused-requires
 refused-requires c κs = search needs
 
 returns : tie.Need-returns
 returns c = let s = c .before .before .before .args in
-    c .refused .ensures ∙ list-order (s .order) (now (s .list)) (c .before .if1 .taken)
+    c .refused .ensures ∙ list-far refusedVectors (s .order) (3 * suc (s .order)) (now (s .list)) (answeredVectors (s .order) (vectorNumbers (now (s .list)))) (c .before .if1 .taken)
 
 add-if2 : tie.Need-add-if2
 add-if2 c = search needs
@@ -33,8 +29,8 @@ refused-requires-2 : tie.Need-refused-requires-2
 refused-requires-2 c κs = search needs
 
 returns-2 : tie.Need-returns-2
-returns-2 c = let s = c .before .before .before .before .args in
-    c .refused2 .ensures ∙ list-length (s .order) (now (s .list)) (c .before .before .if1 .left) (c .before .if2 .taken)
+returns-2 c = let q = c .before .before in let s = q .before .before .args in
+    c .refused2 .ensures ∙ list-length refusedVectors (s .order) (3 * suc (s .order)) (now (s .list)) (answeredVectors (s .order) (vectorNumbers (now (s .list)))) (q .if1 .left) (ap (_*_ 3) (add-one (s .order))) (c .before .if2 .taken)
 
 finite-list-requires : tie.Need-finite-list-requires
 finite-list-requires c κs = search needs
@@ -43,30 +39,17 @@ refused-requires-3 : tie.Need-refused-requires-3
 refused-requires-3 c κs = search needs
 
 returns-3 : tie.Need-returns-3
-returns-3 c = let s = c .before .before .before .before .before .before .args in
-    c .refused3 .ensures ∙ list-finite (s .order) (now (s .list)) (c .before .before .before .before .if1 .left) (c .before .before .before .if2 .left) (sym (c .before .before .finite-list .ensures) ∙ not-true _ (c .before .if3 .taken))
+returns-3 c = let q = c .before .before .before .before in let s = q .before .before .args in
+    c .refused3 .ensures ∙ list-infinite refusedVectors (s .order) (3 * suc (s .order)) (now (s .list)) (answeredVectors (s .order) (vectorNumbers (now (s .list)))) (q .if1 .left) (ap (_*_ 3) (add-one (s .order))) (c .before .before .before .if2 .left) (c .before .before .finite-list .ensures) (c .before .if3 .taken)
 
 taken-requires : tie.Need-taken-requires
 taken-requires c κs = search needs
 
 returns-4 : tie.Need-returns-4
-returns-4 c = let s = c .before .before .before .before .before .before .args in
+returns-4 c = let q = c .before .before .before .before in let s = q .before .before .args in
     let x = vectorNumbers (now (s .list)) in
     ap (madeVectors (s .order)) (c .taken .ensures ∙ same-array (λ m. x (0 + m)) x (s .order) (λ k. ap x (zero-add k)))
-    ∙ list-is (s .order) (now (s .list)) (c .before .before .before .before .if1 .left) (c .before .before .before .if2 .left) (sym (c .before .before .finite-list .ensures) ∙ not-false _ (c .before .if3 .left))
+    ∙ list-is refusedVectors (s .order) (3 * suc (s .order)) (now (s .list)) (answeredVectors (s .order) (vectorNumbers (now (s .list)))) (q .if1 .left) (ap (_*_ 3) (add-one (s .order))) (c .before .before .before .if2 .left) (c .before .before .finite-list .ensures) (c .before .if3 .left)
 
 pub from-list-spec : {M : Type 1} → statement M
-from-list-spec =
-    tie.close
-    (tie.spec
-    refused-requires
-    returns
-    add-if2
-    mul-if2
-    refused-requires-2
-    returns-2
-    finite-list-requires
-    refused-requires-3
-    returns-3
-    taken-requires
-    returns-4)
+from-list-spec = tie.close (tie.spec refused-requires returns add-if2 mul-if2 refused-requires-2 returns-2 finite-list-requires refused-requires-3 returns-3 taken-requires returns-4)

@@ -7,14 +7,11 @@ use Rattle.partitions.proofs.Lists.{Is}
 use Rattle.partitions.specs.Walk.{stepped, remaining}
 use Rattle.partitions.specs.Parts.{lists}
 use lib.ListN.{length, take, length-take}
-use mathlib.Core.List.{List, _∷_}
-use mathlib.Core.Bool.{true, false}
-use Rattle.derivatives.specs.Answer.{curveNumbers, surfaceNumbers}
-use Rattle.derivatives.specs.Real.{nil, real}
+use mathlib.Core.Bool.{false}
+use Rattle.derivatives.specs.Real.{real}
 use borrow.Author.Tests.{not-true, not-false}
 use denote.Ref.{now}
-use mathlib.Core.Path.{_≡_, refl, sym, ap, ap₂, _∙_, subst}
-use Prim.Native.Nat.{ℕ, suc, _+_, _-_, _≤_, _<_}
+use mathlib.Core.Path.{_≡_, sym, ap, ap₂, _∙_, subst}
 use native.Mathlib.Omega.{arith}
 use borrow.Author.Needs.{needs}
 use Rattle.derivatives.proofs.carry.along_lists.Statement.{statement}

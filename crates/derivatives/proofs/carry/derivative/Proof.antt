@@ -4,10 +4,10 @@ use Rattle.calculus.specs.Carry.{throughLen}
 use Rattle.calculus.specs.InTurn.{alongList}
 use Rattle.partitions.specs.Parts.{lists}
 use native.Mathlib.Numerals.{add-one}
-use Rattle.derivatives.specs.Real.{nil, real}
+use Rattle.derivatives.specs.Real.{real}
 use denote.Ref.{now}
-use mathlib.Core.Path.{_≡_, refl, sym, ap, ap₂, _∙_, subst}
-use Prim.Native.Nat.{ℕ, suc, _+_, _-_, _≤_, _<_}
+use mathlib.Core.Path.{_≡_, refl, ap, ap₂, _∙_}
+use Prim.Native.Nat.{_-_, _≤_}
 use native.Mathlib.Omega.{arith}
 use borrow.Author.Needs.{needs}
 use Rattle.derivatives.proofs.carry.derivative.Statement.{statement}

@@ -3,10 +3,10 @@ use Rattle.derivatives.proofs.Carries.{carriedJet}
 use Rattle.derivatives.proofs.Curves.{CurveFilled}
 use Rattle.calculus.proofs.Filling.{curve-none, curve-more, curve-all}
 use lib.Ieee.{nan}
-use Rattle.derivatives.specs.Real.{nil, real}
+use Rattle.derivatives.specs.Real.{nil}
 use denote.Ref.{now}
-use mathlib.Core.Path.{_≡_, refl, sym, ap, ap₂, _∙_, subst}
-use Prim.Native.Nat.{ℕ, suc, _+_, _-_, _≤_, _<_}
+use mathlib.Core.Path.{_≡_, sym}
+use Prim.Native.Nat.{suc, _-_, _≤_}
 use native.Mathlib.Omega.{arith}
 use borrow.Author.Needs.{needs}
 use Rattle.derivatives.proofs.carry.derivatives.Statement.{statement}

@@ -1,9 +1,7 @@
 -- `derivatives::carry::entry` meets its contract. Assumes nothing.
 use Rattle.derivatives.proofs.Carries.{carried-value, carried-derivative}
 use denote.Ref.{now}
-use mathlib.Core.Path.{_≡_, refl, sym, ap, ap₂, _∙_, subst}
-use Prim.Native.Nat.{ℕ, suc, _+_, _-_, _≤_, _<_}
-use native.Mathlib.Omega.{arith}
+use mathlib.Core.Path.{_∙_}
 use borrow.Author.Needs.{needs}
 use Rattle.derivatives.proofs.carry.entry.Statement.{statement}
 use Rattle.derivatives.proofs.carry.entry.Tie as tie

@@ -5,12 +5,12 @@ use Rattle.partitions.proofs.Member.{part-total}
 use lib.ListN.{length, drop, getD}
 use Prim.Native.Nat.{_/_, _%_}
 use mathlib.Core.Logic.{⊎-elim}
-use Rattle.derivatives.specs.Answer.{curveNumbers, surfaceNumbers}
-use Rattle.derivatives.specs.Real.{nil, real}
+use Rattle.derivatives.specs.Answer.{curveNumbers}
+use Rattle.derivatives.specs.Real.{real}
 use denote.Ref.{now}
-use mathlib.Core.Path.{_≡_, refl, sym, ap, ap₂, _∙_, subst}
+use mathlib.Core.Path.{_≡_, refl, sym, ap, _∙_}
 use lib.ListN.{length}
-use Prim.Native.Nat.{ℕ, suc, _+_, _-_, _≤_, _<_}
+use Prim.Native.Nat.{_+_, _-_, _≤_}
 use native.Mathlib.Omega.{arith}
 use borrow.Author.Needs.{needs}
 use Rattle.derivatives.proofs.carry.factors.Statement.{statement}

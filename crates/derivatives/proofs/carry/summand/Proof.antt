@@ -5,11 +5,9 @@ use Rattle.calculus.proofs.Walking.{counted-list, list-short}
 use lib.Ieee.{binary64, inFloat}
 use lib.IntN.{pos}
 use lib.Dec.{T}
-use Rattle.derivatives.specs.Real.{nil, real}
+use Rattle.derivatives.specs.Real.{real}
 use denote.Ref.{now}
-use mathlib.Core.Path.{_≡_, refl, sym, ap, ap₂, _∙_, subst}
-use Prim.Native.Nat.{ℕ, suc, _+_, _-_, _≤_, _<_}
-use native.Mathlib.Omega.{arith}
+use mathlib.Core.Path.{sym, ap, ap₂, _∙_, subst}
 use borrow.Author.Needs.{needs}
 use Rattle.derivatives.proofs.carry.summand.Statement.{statement}
 use Rattle.derivatives.proofs.carry.summand.Tie as tie

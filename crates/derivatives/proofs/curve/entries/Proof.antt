@@ -5,16 +5,12 @@ use Rattle.derivatives.specs.Real.{nil}
 use Rattle.calculus.proofs.Filling.{curve-none, curve-more, curve-all}
 use lib.Ieee.{nan}
 use denote.Ref.{now}
-use mathlib.Core.Path.{_≡_, refl, sym, ap, ap₂, _∙_}
-use Prim.Native.Nat.{ℕ, suc, _+_, _-_, _≤_, _<_}
+use mathlib.Core.Path.{_≡_, sym, _∙_}
+use Prim.Native.Nat.{suc, _-_, _≤_}
 use native.Mathlib.Omega.{arith}
 use borrow.Author.Needs.{needs}
 use Rattle.derivatives.proofs.curve.entries.Statement.{statement}
 use Rattle.derivatives.proofs.curve.entries.Tie as tie
-use Rattle.derivatives.proofs.curve.entries.Reads as reads
-use Rattle.derivatives.proofs.curve.entries.Lts as lts
-use Rattle.calculus.proofs.binomials.Reads as binomials-reads
-use Rattle.derivatives.proofs.curve.entry.Reads as entry-reads
 
 abbrev Inv-loop : tie.InvT-loop
 Inv-loop f a b n c r₀ m₀ r m = CurveFilled (curveOf f (curveNumbers a) (curveNumbers b)) m r × (m ≤ suc n)

@@ -2,16 +2,10 @@
 use Rattle.derivatives.specs.Answer.{curveNumbers}
 use Rattle.derivatives.specs.Formula.{curveFormula}
 use denote.Ref.{now}
-use mathlib.Core.Path.{_≡_, refl, sym, ap, ap₂, _∙_}
-use Prim.Native.Nat.{ℕ, suc, _+_, _-_, _≤_, _<_}
-use native.Mathlib.Omega.{arith}
+use mathlib.Core.Path.{sym, ap, _∙_}
 use borrow.Author.Needs.{needs}
 use Rattle.derivatives.proofs.curve.entry.Statement.{statement}
 use Rattle.derivatives.proofs.curve.entry.Tie as tie
-use Rattle.derivatives.proofs.curve.entry.Reads as reads
-use Rattle.derivatives.proofs.curve.entry.Lts as lts
-use Rattle.derivatives.proofs.curve.product_entry.Reads as product-entry-reads
-use Rattle.derivatives.proofs.curve.rational_entry.Reads as rational-entry-reads
 
 enum-told : tie.Need-enum-told
 enum-told c = search needs

@@ -7,15 +7,12 @@ use Rattle.calculus.specs.InTurn.{inTurn}
 use Rattle.calculus.specs.Kind.{regular}
 use native.Mathlib.Numerals.{add-one}
 use denote.Ref.{now}
-use mathlib.Core.Path.{_≡_, refl, sym, ap, ap₂, _∙_}
-use Prim.Native.Nat.{ℕ, suc, _+_, _-_, _≤_, _<_}
+use mathlib.Core.Path.{_≡_, refl, ap, _∙_}
+use Prim.Native.Nat.{suc, _-_, _≤_}
 use native.Mathlib.Omega.{arith}
 use borrow.Author.Needs.{needs}
 use Rattle.derivatives.proofs.curve.product_entry.Statement.{statement}
 use Rattle.derivatives.proofs.curve.product_entry.Tie as tie
-use Rattle.derivatives.proofs.curve.product_entry.Reads as reads
-use Rattle.derivatives.proofs.curve.product_entry.Lts as lts
-use Rattle.derivatives.proofs.curve.leibniz_term.Reads as leibniz-term-reads
 
 abbrev Inv-loop : tie.InvT-loop
 Inv-loop a b c m sum₀ i₀ sum i = (sum ≡ inTurn (real .plus) nil (leibniz (regular real) (real .times) (curveNumbers a) (curveNumbers b) m) i) × (i ≤ suc m)

@@ -1,21 +1,17 @@
 -- `derivatives::curve::rational_entry` meets its contract. The invariant: the sum of the terms before i. Assumes nothing.
 use Rattle.derivatives.proofs.Terms.{one-more}
 use Rattle.derivatives.specs.Answer.{curveNumbers}
-use Rattle.derivatives.specs.Real.{nil, real}
+use Rattle.derivatives.specs.Real.{real}
 use Rattle.derivatives.specs.Rational.{rationalTerm}
 use Rattle.calculus.specs.InTurn.{inTurn}
 use Rattle.calculus.specs.Kind.{regular}
-use native.Mathlib.Numerals.{add-one}
 use denote.Ref.{now}
-use mathlib.Core.Path.{_≡_, refl, sym, ap, ap₂, _∙_}
-use Prim.Native.Nat.{ℕ, suc, _+_, _-_, _≤_, _<_}
+use mathlib.Core.Path.{_≡_, refl, ap, _∙_}
+use Prim.Native.Nat.{suc, _+_, _-_, _≤_}
 use native.Mathlib.Omega.{arith}
 use borrow.Author.Needs.{needs}
 use Rattle.derivatives.proofs.curve.rational_entry.Statement.{statement}
 use Rattle.derivatives.proofs.curve.rational_entry.Tie as tie
-use Rattle.derivatives.proofs.curve.rational_entry.Reads as reads
-use Rattle.derivatives.proofs.curve.rational_entry.Lts as lts
-use Rattle.derivatives.proofs.curve.rational_term.Reads as rational-term-reads
 
 abbrev Inv-loop : tie.InvT-loop
 Inv-loop x w q c m sum₀ i₀ sum i = (sum ≡ inTurn (real .plus) (real .times (curveNumbers q 0) (curveNumbers w m)) (λ k. rationalTerm (regular real) (real .over) (curveNumbers w) (curveNumbers q) m (suc k)) (i - 1)) × (1 ≤ i) × (i - 1 ≤ m - 1)

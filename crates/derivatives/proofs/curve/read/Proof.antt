@@ -1,21 +1,19 @@
 -- `derivatives::curve::read` meets its contract. The invariant: the first m entries stand in the array. Assumes nothing.
 use mathlib.Core.List.{List}
 use lib.Ieee.{Float}
-use Rattle.calculus.specs.Array.{curveArray}
-use Rattle.derivatives.proofs.Curves.{CurveFilled, made}
+use Rattle.derivatives.proofs.Curves.{CurveFilled}
+use Rattle.derivatives.specs.Answer.{madeCurve}
 use Rattle.derivatives.specs.Answer.{curveNumbers}
 use Rattle.derivatives.specs.Real.{nil}
 use Rattle.calculus.proofs.Filling.{curve-none, curve-more, curve-all}
 use lib.Ieee.{nan}
 use denote.Ref.{now}
-use mathlib.Core.Path.{_≡_, refl, sym, ap, ap₂, _∙_}
-use Prim.Native.Nat.{ℕ, suc, _+_, _-_, _≤_, _<_}
+use mathlib.Core.Path.{_≡_, refl, sym, ap}
+use Prim.Native.Nat.{suc, _-_, _≤_}
 use native.Mathlib.Omega.{arith}
 use borrow.Author.Needs.{needs}
 use Rattle.derivatives.proofs.curve.read.Statement.{statement}
 use Rattle.derivatives.proofs.curve.read.Tie as tie
-use Rattle.derivatives.proofs.curve.read.Reads as reads
-use Rattle.derivatives.proofs.curve.read.Lts as lts
 
 abbrev Inv-loop : tie.InvT-loop
 Inv-loop list n r₀ m₀ r m = CurveFilled (curveNumbers list) m r × (m ≤ suc n)
@@ -50,7 +48,7 @@ loop-again c = let l = c .before .before in
 
 returns : tie.Need-returns Inv-loop μ-loop
 returns c = let s = c .before .before .args in
-    ap (λ (l : List Float). made (s .n) l) (curve-all 21 nan nil (λ k v. curveNumbers (now (s .list)) k ≡ v) (curveNumbers (now (s .list))) (λ k v e. sym e) (suc (s .n)) (c .before .loop .inv .0) (omega arith))
+    ap (λ (l : List Float). madeCurve (s .n) l) (curve-all 21 nan nil (λ k v. curveNumbers (now (s .list)) k ≡ v) (curveNumbers (now (s .list))) (λ k v e. sym e) (suc (s .n)) (c .before .loop .inv .0) (omega arith))
 
 pub read-spec : {M : Type 1} → statement M
 read-spec =

@@ -1,22 +1,20 @@
 -- `derivatives::curve::shifted` meets its contract. The invariant: the first m entries stand in the array. Assumes nothing.
-use Rattle.derivatives.proofs.Curves.{CurveFilled, made}
+use Rattle.derivatives.proofs.Curves.{CurveFilled}
+use Rattle.derivatives.specs.Answer.{madeCurve}
 use Rattle.derivatives.specs.Answer.{curveNumbers}
 use Rattle.derivatives.specs.Real.{nil}
 use Rattle.calculus.proofs.Filling.{curve-none, curve-more, curve-all}
 use Rattle.calculus.specs.Curve.{derivative}
-use lib.ListN.{getD}
 use mathlib.Core.List.{List}
 use lib.Ieee.{Float, nan}
 use native.Mathlib.Numerals.{add-one}
 use denote.Ref.{now}
-use mathlib.Core.Path.{_≡_, refl, sym, ap, ap₂, _∙_}
-use Prim.Native.Nat.{ℕ, suc, _+_, _-_, _≤_, _<_}
+use mathlib.Core.Path.{_≡_, sym, ap}
+use Prim.Native.Nat.{suc, _-_, _≤_}
 use native.Mathlib.Omega.{arith}
 use borrow.Author.Needs.{needs}
 use Rattle.derivatives.proofs.curve.shifted.Statement.{statement}
 use Rattle.derivatives.proofs.curve.shifted.Tie as tie
-use Rattle.derivatives.proofs.curve.shifted.Reads as reads
-use Rattle.derivatives.proofs.curve.shifted.Lts as lts
 
 abbrev Inv-loop : tie.InvT-loop
 Inv-loop a n r₀ m₀ r m = CurveFilled (derivative (curveNumbers a)) m r × (m ≤ suc n)
@@ -55,7 +53,7 @@ loop-again c = let x = curveNumbers (now (c .before .before .before .args .a)) i
 returns : tie.Need-returns Inv-loop μ-loop
 returns c = let s = c .before .before .args in
     let x = derivative (curveNumbers (now (s .a))) in
-    ap (λ (l : List Float). made (s .n) l) (curve-all 21 nan nil (λ k v. x k ≡ v) x (λ k v e. sym e) (suc (s .n)) (c .before .loop .inv .0) (omega arith))
+    ap (λ (l : List Float). madeCurve (s .n) l) (curve-all 21 nan nil (λ k v. x k ≡ v) x (λ k v e. sym e) (suc (s .n)) (c .before .loop .inv .0) (omega arith))
 
 pub shifted-spec : {M : Type 1} → statement M
 shifted-spec =

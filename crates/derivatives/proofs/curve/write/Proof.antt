@@ -1,20 +1,13 @@
-use native.Mathlib.Nat.{not-suc-le-zero}
 -- `derivatives::curve::write` meets its contract. The invariant: the first m entries stand in the list. Assumes nothing.
+use native.Mathlib.Nat.{not-suc-le-zero}
 use Rattle.derivatives.proofs.Curves.{Written, written-more, written-all}
-use mathlib.Core.List.{List}
 use Rattle.derivatives.specs.Answer.{curveNumbers}
-use Rattle.derivatives.specs.Real.{nil}
-use lib.ListN.{length, getD, length-set}
-use lib.Ieee.{nan}
-use denote.Ref.{now}
-use mathlib.Core.Path.{_≡_, refl, sym, ap, ap₂, _∙_}
-use Prim.Native.Nat.{ℕ, suc, _+_, _-_, _≤_, _<_}
+use mathlib.Core.Path.{sym, _∙_}
+use Prim.Native.Nat.{suc, _-_, _≤_}
 use native.Mathlib.Omega.{arith}
 use borrow.Author.Needs.{needs}
 use Rattle.derivatives.proofs.curve.write.Statement.{statement}
 use Rattle.derivatives.proofs.curve.write.Tie as tie
-use Rattle.derivatives.proofs.curve.write.Reads as reads
-use Rattle.derivatives.proofs.curve.write.Lts as lts
 
 abbrev Inv-loop : tie.InvT-loop
 Inv-loop a n out₀ m₀ out m = Written (curveNumbers a) (suc n) m out × (m ≤ suc n)

@@ -5,14 +5,10 @@ use native.Mathlib.Numerals.{add-one}
 use borrow.Author.Tests.{lt-ltb, le-ltb, eq-eqb, ne-eqb}
 use denote.Ref.{now}
 use lib.ListN.{length}
-use mathlib.Core.Path.{_≡_, sym, ap, _∙_}
+use mathlib.Core.Path.{sym, ap, _∙_}
 use borrow.Author.Needs.{needs}
 use Rattle.derivatives.proofs.lists.curve.Statement.{statement}
 use Rattle.derivatives.proofs.lists.curve.Tie as tie
-use Rattle.derivatives.proofs.lists.curve.Reads as reads
-use Rattle.derivatives.proofs.lists.curve.Lts as lts
-use Rattle.derivatives.proofs.curve.read.Reads as read-reads
-use Rattle.derivatives.proofs.lists.zero_curve.Reads as zero-curve-reads
 
 zero-curve-requires : tie.Need-zero-curve-requires
 zero-curve-requires c κs = search needs

@@ -10,14 +10,10 @@ use native.Mathlib.Numerals.{add-one}
 use borrow.Author.Tests.{lt-ltb, le-ltb, eq-eqb, ne-eqb}
 use denote.Ref.{now}
 use lib.ListN.{length, getD}
-use mathlib.Core.Path.{_≡_, sym, ap, ap₂, _∙_, fun-ext}
+use mathlib.Core.Path.{sym, ap, ap₂, _∙_, fun-ext}
 use borrow.Author.Needs.{needs}
 use Rattle.derivatives.proofs.lists.parameter.Statement.{statement}
 use Rattle.derivatives.proofs.lists.parameter.Tie as tie
-use Rattle.derivatives.proofs.lists.parameter.Reads as reads
-use Rattle.derivatives.proofs.lists.parameter.Lts as lts
-use Rattle.derivatives.proofs.lists.zero_parameter.Reads as zero-parameter-reads
-use Rattle.derivatives.proofs.parameter.read.Reads as read-reads
 
 abbrev made : ℕ → List Float → List Float → ParameterCurve
 made n u v = record { order = n; u = u; v = v }

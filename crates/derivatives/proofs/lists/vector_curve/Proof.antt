@@ -10,14 +10,10 @@ use native.Mathlib.Numerals.{add-one}
 use borrow.Author.Tests.{lt-ltb, le-ltb, eq-eqb, ne-eqb}
 use denote.Ref.{now}
 use lib.ListN.{length}
-use mathlib.Core.Path.{_≡_, sym, ap, _∙_}
+use mathlib.Core.Path.{sym, ap, _∙_}
 use borrow.Author.Needs.{needs}
 use Rattle.derivatives.proofs.lists.vector_curve.Statement.{statement}
 use Rattle.derivatives.proofs.lists.vector_curve.Tie as tie
-use Rattle.derivatives.proofs.lists.vector_curve.Reads as reads
-use Rattle.derivatives.proofs.lists.vector_curve.Lts as lts
-use Rattle.derivatives.proofs.lists.zero_vector_curve.Reads as zero-vector-curve-reads
-use Rattle.derivatives.proofs.vector_entries.taken.Reads as taken-reads
 
 abbrev made : ℕ → List Float → VectorCurveDerivatives
 made n l = record { order = n; entries = l }

@@ -1,21 +1,16 @@
-use Rattle.derivatives.proofs.Parameters.{every}
-use mathlib.Core.List.{List}
 -- `derivatives::parameter::read` meets its contract. The invariant: the first m entries stand in the array. Assumes nothing.
+use Rattle.derivatives.proofs.Parameters.{every}
 use Rattle.derivatives.proofs.Curves.{CurveFilled}
-use Rattle.derivatives.specs.Real.{nil, real}
+use Rattle.derivatives.specs.Real.{nil}
 use Rattle.calculus.proofs.Filling.{curve-none, curve-more, curve-all}
-use lib.ListN.{getD}
 use lib.Ieee.{nan}
-use Prim.Native.Nat.{_*_}
 use denote.Ref.{now}
-use mathlib.Core.Path.{_≡_, refl, sym, ap, ap₂, _∙_}
-use Prim.Native.Nat.{ℕ, suc, _+_, _-_, _≤_, _<_}
+use mathlib.Core.Path.{_≡_, refl, sym}
+use Prim.Native.Nat.{suc, _-_, _≤_}
 use native.Mathlib.Omega.{arith}
 use borrow.Author.Needs.{needs}
 use Rattle.derivatives.proofs.parameter.read.Statement.{statement}
 use Rattle.derivatives.proofs.parameter.read.Tie as tie
-use Rattle.derivatives.proofs.parameter.read.Reads as reads
-use Rattle.derivatives.proofs.parameter.read.Lts as lts
 
 abbrev Inv-loop : tie.InvT-loop
 Inv-loop list n from r₀ m₀ r m = CurveFilled (every list from) m r × (m ≤ suc n)

@@ -1,20 +1,18 @@
-use Rattle.derivatives.proofs.Parameters.{begin}
 -- `derivatives::parameter::write` meets its contract. The invariant: the first m pairs are written. Assumes nothing.
+use Rattle.derivatives.proofs.Parameters.{begin}
 use Rattle.derivatives.proofs.Parameters.{left, end, pairs-length, two-more}
 use Rattle.calculus.proofs.Writing.{Writing, writing-begins, writing-ends}
 use Rattle.derivatives.specs.Answer.{pairs}
-use lib.ListN.{length, length-set}
+use lib.ListN.{length-set}
 use Prim.Native.Nat.{_*_}
 use Rattle.derivatives.specs.Answer.{curveNumbers}
 use denote.Ref.{now}
-use mathlib.Core.Path.{_≡_, refl, sym, ap, ap₂, _∙_}
-use Prim.Native.Nat.{ℕ, suc, _+_, _-_, _≤_, _<_}
+use mathlib.Core.Path.{sym, _∙_}
+use Prim.Native.Nat.{suc, _-_, _≤_}
 use native.Mathlib.Omega.{arith}
 use borrow.Author.Needs.{needs}
 use Rattle.derivatives.proofs.parameter.write.Statement.{statement}
 use Rattle.derivatives.proofs.parameter.write.Tie as tie
-use Rattle.derivatives.proofs.parameter.write.Reads as reads
-use Rattle.derivatives.proofs.parameter.write.Lts as lts
 
 abbrev Inv-loop : tie.InvT-loop
 Inv-loop u v n out₀ m₀ out m = Writing (pairs (curveNumbers u) (curveNumbers v) 0 (suc n)) out (left (curveNumbers u) (curveNumbers v) n m) (2 * m) × (m ≤ suc n)

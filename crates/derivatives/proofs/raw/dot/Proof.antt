@@ -1,5 +1,5 @@
 -- `derivatives::raw::dot` meets its contract. Assumes nothing.
-use Rattle.derivatives.proofs.Answers.{yes, no}
+use Rattle.ieee.proofs.Tests.{first, second}
 use Rattle.derivatives.specs.Real.{nil, real}
 use Rattle.derivatives.specs.Vector.{vectorNumbers}
 use Rattle.vectors.specs.Vectors.{dot}
@@ -7,20 +7,14 @@ use Rattle.calculus.specs.Kind.{regular}
 use Rattle.calculus.specs.Curve.{productBy}
 use borrow.Author.Tests.{lt-ltb, le-ltb}
 use borrow.Author.Needs.{needs}
-use lib.Dec.{ltb}
 use denote.Ref.{now}
 use mathlib.Core.Path.{sym, _∙_}
-use Prim.Native.Nat.{_-_}
 use Rattle.derivatives.proofs.raw.dot.Statement.{statement}
 use Rattle.derivatives.proofs.raw.dot.Tie as tie
-use Rattle.derivatives.proofs.raw.dot.Reads as reads
-use Rattle.derivatives.proofs.raw.dot.Lts as lts
-use Rattle.derivatives.proofs.vector_entries.dot_entry.Reads as dot-entry-reads
-use Rattle.calculus.proofs.binomials.Reads as binomials-reads
 
 returns : tie.Need-returns
 returns c = let s = c .before .args in
-    sym (yes (ltb 20 (s .m)) nil (productBy (regular real) dot (vectorNumbers (now (s .a))) (vectorNumbers (now (s .b))) (s .m)) (lt-ltb 20 (s .m) (c .if1 .taken)))
+    sym (first nil (productBy (regular real) dot (vectorNumbers (now (s .a))) (vectorNumbers (now (s .b))) (s .m)) (lt-ltb 20 (s .m) (c .if1 .taken)))
 
 binomials-requires : tie.Need-binomials-requires
 binomials-requires c κs = search needs
@@ -30,7 +24,7 @@ dot-entry-requires c κs = search needs
 
 returns-2 : tie.Need-returns-2
 returns-2 c = let s = c .before .before .before .before .args in
-    c .dot-entry .ensures ∙ sym (no (ltb 20 (s .m)) nil (productBy (regular real) dot (vectorNumbers (now (s .a))) (vectorNumbers (now (s .b))) (s .m)) (le-ltb 20 (s .m) (c .before .before .before .if1 .left)))
+    c .dot-entry .ensures ∙ sym (second nil (productBy (regular real) dot (vectorNumbers (now (s .a))) (vectorNumbers (now (s .b))) (s .m)) (le-ltb 20 (s .m) (c .before .before .before .if1 .left)))
 
 pub dot-spec : {M : Type 1} → statement M
 dot-spec = tie.close (tie.spec returns binomials-requires dot-entry-requires returns-2)

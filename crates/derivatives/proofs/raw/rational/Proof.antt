@@ -1,5 +1,5 @@
 -- `derivatives::raw::rational` meets its contract. Assumes nothing.
-use Rattle.derivatives.proofs.Answers.{yes, no}
+use Rattle.ieee.proofs.Tests.{first, second}
 use Rattle.derivatives.specs.Real.{nil}
 use Rattle.derivatives.specs.Rational.{rational}
 use Rattle.derivatives.specs.Answer.{curveNumbers}
@@ -7,27 +7,22 @@ use Rattle.derivatives.specs.Vector.{vectors, vectorNumbers, vectorArray
 use Rattle.vectors.specs.Vectors.{quotient}
 use borrow.Author.Tests.{lt-ltb, le-ltb}
 use borrow.Author.Needs.{needs}
-use lib.Dec.{ltb}
 use lib.ListN.{replicate}
 use denote.Ref.{now}
 use mathlib.Core.Path.{sym, _∙_}
-use Prim.Native.Nat.{_-_}
 use Rattle.derivatives.proofs.raw.rational.Statement.{statement}
 use Rattle.derivatives.proofs.raw.rational.Tie as tie
-use Rattle.derivatives.proofs.raw.rational.Reads as reads
-use Rattle.derivatives.proofs.raw.rational.Lts as lts
-use Rattle.derivatives.proofs.vector_entries.entries.Reads as entries-reads
 
 returns : tie.Need-returns
 returns c = let s = c .before .args in
-    sym (yes (ltb 20 (s .n)) (replicate 63 nil) (vectorArray (rational vectors quotient (vectorNumbers (now (s .a))) (curveNumbers (now (s .w)))) (s .n)) (lt-ltb 20 (s .n) (c .if1 .taken)))
+    sym (first (replicate 63 nil) (vectorArray (rational vectors quotient (vectorNumbers (now (s .a))) (curveNumbers (now (s .w)))) (s .n)) (lt-ltb 20 (s .n) (c .if1 .taken)))
 
 entries-requires : tie.Need-entries-requires
 entries-requires c κs = search needs
 
 returns-2 : tie.Need-returns-2
 returns-2 c = let s = c .before .before .args in
-    c .entries .ensures ∙ sym (no (ltb 20 (s .n)) (replicate 63 nil) (vectorArray (rational vectors quotient (vectorNumbers (now (s .a))) (curveNumbers (now (s .w)))) (s .n)) (le-ltb 20 (s .n) (c .before .if1 .left)))
+    c .entries .ensures ∙ sym (second (replicate 63 nil) (vectorArray (rational vectors quotient (vectorNumbers (now (s .a))) (curveNumbers (now (s .w)))) (s .n)) (le-ltb 20 (s .n) (c .before .if1 .left)))
 
 pub rational-spec : {M : Type 1} → statement M
 rational-spec = tie.close (tie.spec returns entries-requires returns-2)

@@ -4,17 +4,12 @@ use Prim.Native.Nat.{_*_}
 use Rattle.calculus.proofs.Graded.{index-231}
 use Rattle.derivatives.specs.Answer.{surfaceNumbers}
 use denote.Ref.{now}
-use mathlib.Core.Path.{_≡_, refl, sym, ap, ap₂, _∙_}
-use Prim.Native.Nat.{ℕ, suc, _+_, _-_, _≤_, _<_}
+use mathlib.Core.Path.{sym, _∙_}
+use Prim.Native.Nat.{suc, _+_, _-_, _≤_}
 use native.Mathlib.Omega.{arith}
 use borrow.Author.Needs.{needs}
 use Rattle.derivatives.proofs.surface.entries.Statement.{statement}
 use Rattle.derivatives.proofs.surface.entries.Tie as tie
-use Rattle.derivatives.proofs.surface.entries.Reads as reads
-use Rattle.derivatives.proofs.surface.entries.Lts as lts
-use Rattle.calculus.proofs.binomials.Reads as binomials-reads
-use Rattle.derivatives.proofs.index.Reads as index-reads
-use Rattle.derivatives.proofs.surface.entry.Reads as entry-reads
 
 abbrev Inv-loop : tie.InvT-loop
 Inv-loop f a b n c r₀ i₀ j₀ r i j = (l : n ≤ 20) × SurfaceProgress (surfaceOf f (surfaceNumbers a) (surfaceNumbers b)) l i j r

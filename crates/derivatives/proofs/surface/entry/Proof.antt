@@ -3,20 +3,15 @@ use Rattle.derivatives.specs.Formula.{surfaceFormula}
 use lib.ListN.{getD}
 use lib.Ieee.{nan}
 use Rattle.calculus.proofs.Graded.{index-231}
-use Rattle.derivatives.specs.Real.{nil, real}
+use Rattle.derivatives.specs.Real.{real}
 use Rattle.derivatives.specs.Answer.{surfaceNumbers}
 use denote.Ref.{now}
-use mathlib.Core.Path.{_≡_, refl, sym, ap, ap₂, _∙_}
-use Prim.Native.Nat.{ℕ, suc, _+_, _-_, _≤_, _<_}
+use mathlib.Core.Path.{sym, ap, ap₂, _∙_}
+use Prim.Native.Nat.{ℕ}
 use native.Mathlib.Omega.{arith}
 use borrow.Author.Needs.{needs}
 use Rattle.derivatives.proofs.surface.entry.Statement.{statement}
 use Rattle.derivatives.proofs.surface.entry.Tie as tie
-use Rattle.derivatives.proofs.surface.entry.Reads as reads
-use Rattle.derivatives.proofs.surface.entry.Lts as lts
-use Rattle.derivatives.proofs.index.Reads as index-reads
-use Rattle.derivatives.proofs.surface.product_entry.Reads as product-entry-reads
-use Rattle.derivatives.proofs.surface.rational_entry.Reads as rational-entry-reads
 
 index-requires : tie.Need-index-requires
 index-requires c κs = search needs

@@ -4,21 +4,15 @@ use Rattle.calculus.specs.Surface.{leibniz}
 use Rattle.calculus.specs.InTurn.{inRows}
 use Rattle.calculus.specs.Kind.{regular}
 use native.Mathlib.Numerals.{add-one}
-use lib.ListN.{getD}
-use lib.Ieee.{nan}
-use Rattle.calculus.proofs.Graded.{index-231}
 use Rattle.derivatives.specs.Real.{nil, real}
 use Rattle.derivatives.specs.Answer.{surfaceNumbers}
 use denote.Ref.{now}
-use mathlib.Core.Path.{_≡_, refl, sym, ap, ap₂, _∙_}
-use Prim.Native.Nat.{ℕ, suc, _+_, _-_, _≤_, _<_}
+use mathlib.Core.Path.{_≡_, refl, ap, _∙_}
+use Prim.Native.Nat.{ℕ, suc, _-_, _≤_}
 use native.Mathlib.Omega.{arith}
 use borrow.Author.Needs.{needs}
 use Rattle.derivatives.proofs.surface.product_entry.Statement.{statement}
 use Rattle.derivatives.proofs.surface.product_entry.Tie as tie
-use Rattle.derivatives.proofs.surface.product_entry.Reads as reads
-use Rattle.derivatives.proofs.surface.product_entry.Lts as lts
-use Rattle.derivatives.proofs.surface.product_row.Reads as product-row-reads
 
 abbrev Inv-loop : tie.InvT-loop
 Inv-loop a b c m n sum₀ i₀ sum i = (sum ≡ inRows (real .plus) nil (leibniz (regular real) (real .times) (surfaceNumbers a) (surfaceNumbers b) m n) i (suc n)) × (i ≤ suc m)

@@ -4,18 +4,15 @@ use Rattle.calculus.specs.Surface.{leibniz}
 use Rattle.calculus.specs.InTurn.{inTurn}
 use Rattle.calculus.specs.Kind.{regular}
 use native.Mathlib.Numerals.{add-one}
-use Rattle.derivatives.specs.Real.{nil, real}
+use Rattle.derivatives.specs.Real.{real}
 use Rattle.derivatives.specs.Answer.{surfaceNumbers}
 use denote.Ref.{now}
-use mathlib.Core.Path.{_≡_, refl, sym, ap, ap₂, _∙_}
-use Prim.Native.Nat.{ℕ, suc, _+_, _-_, _≤_, _<_}
+use mathlib.Core.Path.{_≡_, refl, ap, _∙_}
+use Prim.Native.Nat.{suc, _-_, _≤_}
 use native.Mathlib.Omega.{arith}
 use borrow.Author.Needs.{needs}
 use Rattle.derivatives.proofs.surface.product_row.Statement.{statement}
 use Rattle.derivatives.proofs.surface.product_row.Tie as tie
-use Rattle.derivatives.proofs.surface.product_row.Reads as reads
-use Rattle.derivatives.proofs.surface.product_row.Lts as lts
-use Rattle.derivatives.proofs.surface.leibniz_term.Reads as leibniz-term-reads
 
 abbrev Inv-loop : tie.InvT-loop
 Inv-loop start a b c m n i sum₀ j₀ sum j = (sum ≡ inTurn (real .plus) start (leibniz (regular real) (real .times) (surfaceNumbers a) (surfaceNumbers b) m n i) j) × (j ≤ suc n)

@@ -11,16 +11,12 @@ use Rattle.derivatives.specs.Real.{nil, real}
 use Rattle.derivatives.specs.Answer.{surfaceNumbers}
 use denote.Ref.{now}
 use Rattle.calculus.specs.Graded.{index}
-use mathlib.Core.Path.{_≡_, refl, sym, ap, ap₂, _∙_}
-use Prim.Native.Nat.{ℕ, suc, _+_, _-_, _≤_, _<_}
+use mathlib.Core.Path.{_≡_, refl, ap, ap₂, _∙_}
+use Prim.Native.Nat.{ℕ, suc, _-_, _≤_}
 use native.Mathlib.Omega.{arith}
 use borrow.Author.Needs.{needs}
 use Rattle.derivatives.proofs.surface.rational_entry.Statement.{statement}
 use Rattle.derivatives.proofs.surface.rational_entry.Tie as tie
-use Rattle.derivatives.proofs.surface.rational_entry.Reads as reads
-use Rattle.derivatives.proofs.surface.rational_entry.Lts as lts
-use Rattle.derivatives.proofs.index.Reads as index-reads
-use Rattle.derivatives.proofs.surface.rational_row.Reads as rational-row-reads
 
 abbrev Inv-loop : tie.InvT-loop
 Inv-loop x w q c m n k sum₀ i₀ sum i = (sum ≡ inRows (real .plus) nil (surfaceRationalTerm (regular real) (real .over) (surfaceNumbers w) (surfaceNumbers q) m n) i (suc n)) × (i ≤ suc m)

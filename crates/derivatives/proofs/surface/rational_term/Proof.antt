@@ -1,33 +1,9 @@
 -- `derivatives::surface::rational_term` meets its contract. Assumes nothing.
-use lib.ListN.{getD}
-use lib.Ieee.{nan}
-use Rattle.calculus.proofs.Graded.{index-231}
-use Rattle.derivatives.specs.Real.{nil, real}
-use Rattle.derivatives.specs.Answer.{surfaceNumbers}
-use denote.Ref.{now}
-use mathlib.Core.Path.{_≡_, refl, sym, ap, ap₂, _∙_}
-use Prim.Native.Nat.{ℕ, suc, _+_, _-_, _≤_, _<_}
-use native.Mathlib.Omega.{arith}
+use Rattle.derivatives.specs.Real.{real}
+use mathlib.Core.Path.{ap, ap₂, _∙_}
 use borrow.Author.Needs.{needs}
 use Rattle.derivatives.proofs.surface.rational_term.Statement.{statement}
 use Rattle.derivatives.proofs.surface.rational_term.Tie as tie
-use Rattle.derivatives.proofs.surface.rational_term.Reads as reads
-use Rattle.derivatives.proofs.surface.rational_term.Lts as lts
-use Rattle.derivatives.proofs.binomial.Reads as binomial-reads
-use Rattle.derivatives.proofs.float.Reads as float-reads
-use Rattle.derivatives.proofs.index.Reads as index-reads
-
-index-requires : tie.Need-index-requires
-index-requires c κs = search needs
-
-sub-index : tie.Need-sub-index
-sub-index c = search needs
-
-sub-index-2 : tie.Need-sub-index-2
-sub-index-2 c = search needs
-
-index-requires-2 : tie.Need-index-requires-2
-index-requires-2 c κs = search needs
 
 binomial-requires : tie.Need-binomial-requires
 binomial-requires c κs = search needs
@@ -41,36 +17,20 @@ binomial-requires-2 c κs = search needs
 float-requires-2 : tie.Need-float-requires-2
 float-requires-2 c κs = search needs
 
-mul-result : tie.Need-mul-result
-mul-result c = omega (arith, c .before .before .before .before .before .index .ensures, index-231 (c .before .before .before .before .before .before .args .i) (c .before .before .before .before .before .before .args .j) (search needs))
+number-at-requires : tie.Need-number-at-requires
+number-at-requires c κs = search needs
 
-element-copy-out-result : tie.Need-element-copy-out-result
-element-copy-out-result c = omega (arith, c .before .before .before .before .before .index .ensures, index-231 (c .before .before .before .before .before .before .args .i) (c .before .before .before .before .before .before .args .j) (search needs))
+sub-number-at : tie.Need-sub-number-at
+sub-number-at c = search needs
 
-mul-result-2 : tie.Need-mul-result-2
-mul-result-2 c = omega (arith, c .before .before .before .before .before .index2 .ensures, index-231 (c .before .before .before .before .before .before .before .args .m - c .before .before .before .before .before .before .before .args .i) (c .before .before .before .before .before .before .before .args .n - c .before .before .before .before .before .before .before .args .j) (search needs))
+sub-number-at-2 : tie.Need-sub-number-at-2
+sub-number-at-2 c = search needs
 
-element-copy-out-result-2 : tie.Need-element-copy-out-result-2
-element-copy-out-result-2 c = omega (arith, c .before .before .before .before .before .index2 .ensures, index-231 (c .before .before .before .before .before .before .before .args .m - c .before .before .before .before .before .before .before .args .i) (c .before .before .before .before .before .before .before .args .n - c .before .before .before .before .before .before .before .args .j) (search needs))
+number-at-requires-2 : tie.Need-number-at-requires-2
+number-at-requires-2 c κs = search needs
 
 returns : tie.Need-returns
-returns c = let s = c .before .before .before .before .before .before .before .before .args in
-    ap₂ (real .times) (ap (λ (k : ℕ). getD (now (s .q)) k nan) (c .before .before .before .before .before .before .before .index .ensures)) (ap₂ (real .times) (ap₂ (real .times) (ap (λ (k : ℕ). getD (now (s .w)) k nan) (c .before .before .before .before .before .before .index2 .ensures)) (c .before .before .before .before .float .ensures ∙ ap (real .ofNat) (c .before .before .before .before .before .binomial .ensures))) (c .before .before .float2 .ensures ∙ ap (real .ofNat) (c .before .before .before .binomial2 .ensures)))
+returns c = ap₂ (real .times) (c .before .number-at .ensures) (ap₂ (real .times) (ap₂ (real .times) (c .number-at2 .ensures) (c .before .before .before .before .float .ensures ∙ ap (real .ofNat) (c .before .before .before .before .before .binomial .ensures))) (c .before .before .float2 .ensures ∙ ap (real .ofNat) (c .before .before .before .binomial2 .ensures)))
 
 pub rational-term-spec : {M : Type 1} → statement M
-rational-term-spec =
-    tie.close
-    (tie.spec
-    index-requires
-    sub-index
-    sub-index-2
-    index-requires-2
-    binomial-requires
-    float-requires
-    binomial-requires-2
-    float-requires-2
-    mul-result
-    element-copy-out-result
-    mul-result-2
-    element-copy-out-result-2
-    returns)
+rational-term-spec = tie.close (tie.spec binomial-requires float-requires binomial-requires-2 float-requires-2 number-at-requires sub-number-at sub-number-at-2 number-at-requires-2 returns)

@@ -1,23 +1,20 @@
 -- `derivatives::surface::read` meets its contract. The invariant: the entries passed stand in the array. Assumes nothing.
+use Rattle.derivatives.specs.Answer.{madeSurface}
 use Rattle.calculus.proofs.Graded.{room-231}
 use Rattle.calculus.proofs.Places.{row-turn, list-place}
 use Rattle.calculus.specs.Order.{rowStart, listPlace}
 use lib.ListN.{getD}
 use lib.Ieee.{nan}
 use Prim.Native.Nat.{_*_}
-use Rattle.derivatives.proofs.Surfaces.{made, SurfaceProgress, surface-begins, surface-goes-on, surface-turns, surface-ends}
+use Rattle.derivatives.proofs.Surfaces.{SurfaceProgress, surface-begins, surface-goes-on, surface-turns, surface-ends}
 use Rattle.calculus.proofs.Graded.{index-231}
-use Rattle.derivatives.specs.Real.{nil, real}
 use denote.Ref.{now}
-use mathlib.Core.Path.{_≡_, refl, sym, ap, ap₂, _∙_}
-use Prim.Native.Nat.{ℕ, suc, _+_, _-_, _≤_, _<_}
+use mathlib.Core.Path.{_≡_, refl, sym, ap}
+use Prim.Native.Nat.{ℕ, suc, _+_, _-_, _≤_}
 use native.Mathlib.Omega.{arith}
 use borrow.Author.Needs.{needs}
 use Rattle.derivatives.proofs.surface.read.Statement.{statement}
 use Rattle.derivatives.proofs.surface.read.Tie as tie
-use Rattle.derivatives.proofs.surface.read.Reads as reads
-use Rattle.derivatives.proofs.surface.read.Lts as lts
-use Rattle.derivatives.proofs.index.Reads as index-reads
 
 abbrev Inv-loop : tie.InvT-loop
 Inv-loop list n r₀ i₀ j₀ l₀ r i j l = ((b : n ≤ 20) × SurfaceProgress (λ x y. getD list (listPlace n x y) nan) b i j r) × (l ≡ listPlace n i j)
@@ -75,7 +72,7 @@ loop-again-2 c = (
 )
 
 returns : tie.Need-returns Inv-loop μ-loop
-returns c = ap (made (c .before .before .before .args .n)) (surface-ends (λ x y. getD (now (c .before .before .before .args .list)) (listPlace (c .before .before .before .args .n) x y) nan) (c .before .loop .inv .0 .0) (c .before .loop .inv .0 .1) (c .loop-test .left))
+returns c = ap (madeSurface (c .before .before .before .args .n)) (surface-ends (λ x y. getD (now (c .before .before .before .args .list)) (listPlace (c .before .before .before .args .n) x y) nan) (c .before .loop .inv .0 .0) (c .before .loop .inv .0 .1) (c .loop-test .left))
 
 pub read-spec : {M : Type 1} → statement M
 read-spec =

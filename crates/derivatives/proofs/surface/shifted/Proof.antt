@@ -1,21 +1,18 @@
 -- `derivatives::surface::shifted` meets its contract. The invariant: the entries passed stand in the array. Assumes nothing.
+use Rattle.derivatives.specs.Answer.{madeSurface}
 use lib.ListN.{getD}
 use lib.Ieee.{nan}
 use Prim.Native.Nat.{_*_}
-use Rattle.derivatives.proofs.Surfaces.{made, SurfaceProgress, surface-begins, surface-goes-on, surface-turns, surface-ends}
+use Rattle.derivatives.proofs.Surfaces.{SurfaceProgress, surface-begins, surface-goes-on, surface-turns, surface-ends}
 use Rattle.calculus.proofs.Graded.{index-231}
-use Rattle.derivatives.specs.Real.{nil, real}
 use Rattle.derivatives.specs.Answer.{surfaceNumbers}
 use denote.Ref.{now}
-use mathlib.Core.Path.{_≡_, refl, sym, ap, ap₂, _∙_}
-use Prim.Native.Nat.{ℕ, suc, _+_, _-_, _≤_, _<_}
+use mathlib.Core.Path.{sym, ap}
+use Prim.Native.Nat.{ℕ, suc, _+_, _-_, _≤_}
 use native.Mathlib.Omega.{arith}
 use borrow.Author.Needs.{needs}
 use Rattle.derivatives.proofs.surface.shifted.Statement.{statement}
 use Rattle.derivatives.proofs.surface.shifted.Tie as tie
-use Rattle.derivatives.proofs.surface.shifted.Reads as reads
-use Rattle.derivatives.proofs.surface.shifted.Lts as lts
-use Rattle.derivatives.proofs.index.Reads as index-reads
 
 abbrev Inv-loop : tie.InvT-loop
 Inv-loop a n p q r₀ i₀ j₀ r i j = (l : n ≤ 20) × SurfaceProgress (λ x y. surfaceNumbers a (x + p) (y + q)) l i j r
@@ -72,7 +69,7 @@ loop-again-2 : tie.Need-loop-again-2 Inv-loop μ-loop
 loop-again-2 c = (c .before .before .before .before .before .loop .inv .0, rw (c .before .before .before .index .ensures) (surface-goes-on (λ x y. surfaceNumbers (now (c .before .before .before .before .before .before .args .a)) (x + c .before .before .before .before .before .before .args .p) (y + c .before .before .before .before .before .before .args .q)) (c .before .before .before .before .before .loop .inv .0) (c .before .before .before .before .before .loop .inv .1) (c .before .before .before .before .loop-test .taken) (ap (λ (k : ℕ). getD (now (c .before .before .before .before .before .before .args .a)) k nan) (sym (c .before .before .index2 .ensures))) (c .if1 .left)))
 
 returns : tie.Need-returns Inv-loop μ-loop
-returns c = ap (made (c .before .before .args .n)) (surface-ends (λ x y. surfaceNumbers (now (c .before .before .args .a)) (x + c .before .before .args .p) (y + c .before .before .args .q)) (c .before .loop .inv .0) (c .before .loop .inv .1) (c .loop-test .left))
+returns c = ap (madeSurface (c .before .before .args .n)) (surface-ends (λ x y. surfaceNumbers (now (c .before .before .args .a)) (x + c .before .before .args .p) (y + c .before .before .args .q)) (c .before .loop .inv .0) (c .before .loop .inv .1) (c .loop-test .left))
 
 pub shifted-spec : {M : Type 1} → statement M
 shifted-spec =

@@ -3,22 +3,17 @@ use Rattle.calculus.proofs.Writing.{Writing, writing-begins, in-list, writing-g
 use Rattle.calculus.proofs.Left.{Inside, surfaceLeft, surface-start, surface-next, surface-row, surface-end}
 use Rattle.calculus.proofs.Graded.{room-231}
 use Rattle.calculus.specs.Order.{surfaceEntries}
-use lib.ListN.{length, getD}
-use lib.Ieee.{nan}
+use lib.ListN.{length}
 use Prim.Native.Nat.{_*_}
 use Rattle.calculus.proofs.Graded.{index-231}
-use Rattle.derivatives.specs.Real.{nil, real}
 use Rattle.derivatives.specs.Answer.{surfaceNumbers}
 use denote.Ref.{now}
-use mathlib.Core.Path.{_≡_, refl, sym, ap, ap₂, _∙_}
-use Prim.Native.Nat.{ℕ, suc, _+_, _-_, _≤_, _<_}
+use mathlib.Core.Path.{_≡_, sym, ap, _∙_}
+use Prim.Native.Nat.{suc, _+_, _-_, _<_}
 use native.Mathlib.Omega.{arith}
 use borrow.Author.Needs.{needs}
 use Rattle.derivatives.proofs.surface.write.Statement.{statement}
 use Rattle.derivatives.proofs.surface.write.Tie as tie
-use Rattle.derivatives.proofs.surface.write.Reads as reads
-use Rattle.derivatives.proofs.surface.write.Lts as lts
-use Rattle.derivatives.proofs.index.Reads as index-reads
 
 abbrev Inv-loop : tie.InvT-loop
 Inv-loop a n out₀ i₀ j₀ l₀ out i j l = Writing (surfaceEntries (surfaceNumbers a) n) out (surfaceLeft (surfaceNumbers a) n i j) l × Inside n i j

@@ -1,5 +1,5 @@
 -- `derivatives::vector_array::all_finite` meets its contract. Assumes nothing.
-use Rattle.derivatives.proofs.Vectors.{none, more, stop}
+use Rattle.derivatives.proofs.Finite.{none, more, stop}
 use Rattle.derivatives.specs.Vector.{vectorNumbers, allVectorsFinite}
 use Rattle.vectors.specs.Answers.{finiteVector}
 use borrow.Author.Tests.{not-true, not-false}
@@ -11,10 +11,6 @@ use native.Mathlib.Omega.{arith}
 use mathlib.Core.Path.{_≡_, sym, ap, _∙_}
 use Rattle.derivatives.proofs.vector_array.all_finite.Statement.{statement}
 use Rattle.derivatives.proofs.vector_array.all_finite.Tie as tie
-use Rattle.derivatives.proofs.vector_array.all_finite.Reads as reads
-use Rattle.derivatives.proofs.vector_array.all_finite.Lts as lts
-use Rattle.derivatives.proofs.vector_array.vector_at.Reads as vector-at-reads
-use Rattle.vectors.proofs.Vector3.is_finite.Reads as is-finite-reads
 
 abbrev Inv-loop : tie.InvT-loop
 Inv-loop a n i₀ i = (allVectorsFinite (vectorNumbers a) i ≡ true) × (i ≤ n)
@@ -23,7 +19,7 @@ abbrev μ-loop : tie.MeasureT-loop
 μ-loop a n i₀ i = n - i
 
 loop-holds : tie.Need-loop-holds Inv-loop μ-loop
-loop-holds c = (none _, omega arith)
+loop-holds c = (none finiteVector _, omega arith)
 
 vector-at-requires : tie.Need-vector-at-requires Inv-loop μ-loop
 vector-at-requires c κs = omega arith
@@ -33,7 +29,7 @@ is-finite-requires c κs = search needs
 
 returns : tie.Need-returns Inv-loop μ-loop
 returns c = let s = c .before .before .before .before .before .before .args in
-    stop (vectorNumbers (now (s .a))) (s .n) (omega arith) (ap finiteVector (sym (c .before .before .vector-at .ensures)) ∙ sym (c .before .is-finite .ensures) ∙ not-true _ (c .if1 .taken))
+    stop finiteVector (vectorNumbers (now (s .a))) (s .n) (omega arith) (ap finiteVector (sym (c .before .before .vector-at .ensures)) ∙ sym (c .before .is-finite .ensures) ∙ not-true _ (c .if1 .taken))
 
 add-i : tie.Need-add-i Inv-loop μ-loop
 add-i c = search needs
@@ -43,7 +39,7 @@ loop-less c = search needs
 
 loop-again : tie.Need-loop-again Inv-loop μ-loop
 loop-again c = let s = c .before .before .before .before .before .before .args in
-    (more (vectorNumbers (now (s .a))) (c .before .before .before .before .loop .i) (c .before .before .before .before .loop .inv .0) (ap finiteVector (sym (c .before .before .vector-at .ensures)) ∙ sym (c .before .is-finite .ensures) ∙ not-false _ (c .if1 .left)), omega arith)
+    (more finiteVector (vectorNumbers (now (s .a))) (c .before .before .before .before .loop .i) (c .before .before .before .before .loop .inv .0) (ap finiteVector (sym (c .before .before .vector-at .ensures)) ∙ sym (c .before .is-finite .ensures) ∙ not-false _ (c .if1 .left)), omega arith)
 
 returns-2 : tie.Need-returns-2 Inv-loop μ-loop
 returns-2 c = let s = c .before .before .before .args in

@@ -1,15 +1,9 @@
 -- `derivatives::vector_array::both_finite` meets its contract. Assumes nothing.
-use Rattle.derivatives.proofs.VectorAnswers.{both-true, both-false}
-use Rattle.derivatives.specs.Vector.{vectorNumbers, finiteVectors}
-use denote.Ref.{now}
-use Prim.Native.Nat.{_-_}
-use mathlib.Core.Path.{sym, _∙_}
+use mathlib.Core.Bool.{_&&_}
+use mathlib.Core.Path.{ap₂, _∙_}
 use borrow.Author.Needs.{needs}
 use Rattle.derivatives.proofs.vector_array.both_finite.Statement.{statement}
 use Rattle.derivatives.proofs.vector_array.both_finite.Tie as tie
-use Rattle.derivatives.proofs.vector_array.both_finite.Reads as reads
-use Rattle.derivatives.proofs.vector_array.both_finite.Lts as lts
-use Rattle.derivatives.proofs.vector_array.curve_finite.Reads as curve-finite-reads
 
 curve-finite-requires : tie.Need-curve-finite-requires
 curve-finite-requires c κs = search needs
@@ -17,19 +11,11 @@ curve-finite-requires c κs = search needs
 curve-finite-requires-2 : tie.Need-curve-finite-requires-2
 curve-finite-requires-2 c κs = search needs
 
-returns : tie.Need-returns
-returns c = let s = c .before .before .before .args in
-    c .curve-finite2 .ensures ∙ both-true (finiteVectors (vectorNumbers (now (s .a))) (s .n)) (finiteVectors (vectorNumbers (now (s .b))) (s .n)) (sym (c .before .before .curve-finite .ensures) ∙ c .before .if1 .taken)
+both-requires : tie.Need-both-requires
+both-requires c κs = search needs
 
-returns-2 : tie.Need-returns-2
-returns-2 c = let s = c .before .before .args in
-    both-false (finiteVectors (vectorNumbers (now (s .a))) (s .n)) (finiteVectors (vectorNumbers (now (s .b))) (s .n)) (sym (c .before .curve-finite .ensures) ∙ c .if1 .left)
+returns : tie.Need-returns
+returns c = c .both .ensures ∙ ap₂ _&&_ (c .before .before .curve-finite .ensures) (c .before .curve-finite2 .ensures)
 
 pub both-finite-spec : {M : Type 1} → statement M
-both-finite-spec =
-    tie.close
-    (tie.spec
-    curve-finite-requires
-    curve-finite-requires-2
-    returns
-    returns-2)
+both-finite-spec = tie.close (tie.spec curve-finite-requires curve-finite-requires-2 both-requires returns)

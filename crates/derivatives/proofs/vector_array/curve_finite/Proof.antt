@@ -2,14 +2,10 @@
 use Rattle.derivatives.specs.Vector.{vectorNumbers, allVectorsFinite}
 use native.Mathlib.Numerals.{add-one}
 use denote.Ref.{now}
-use Prim.Native.Nat.{_-_}
 use mathlib.Core.Path.{ap, _∙_}
 use borrow.Author.Needs.{needs}
 use Rattle.derivatives.proofs.vector_array.curve_finite.Statement.{statement}
 use Rattle.derivatives.proofs.vector_array.curve_finite.Tie as tie
-use Rattle.derivatives.proofs.vector_array.curve_finite.Reads as reads
-use Rattle.derivatives.proofs.vector_array.curve_finite.Lts as lts
-use Rattle.derivatives.proofs.vector_array.all_finite.Reads as all-finite-reads
 
 add-all-finite : tie.Need-add-all-finite
 add-all-finite c = search needs

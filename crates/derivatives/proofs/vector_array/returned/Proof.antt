@@ -1,18 +1,12 @@
 -- `derivatives::vector_array::returned` meets its contract. Assumes nothing.
-use Rattle.derivatives.proofs.Answers.{yes, no}
-use Rattle.derivatives.specs.VectorFormula.{madeVectors}
+use Rattle.ieee.proofs.Tests.{first, second}
+use Rattle.derivatives.specs.VectorAnswer.{madeVectors}
 use Rattle.derivatives.specs.VectorAnswer.{refusedVectors}
-use Rattle.derivatives.specs.Vector.{vectorNumbers, finiteVectors}
 use borrow.Author.Tests.{not-true, not-false}
-use Prim.Native.Nat.{_-_}
 use mathlib.Core.Path.{sym, _∙_}
 use borrow.Author.Needs.{needs}
 use Rattle.derivatives.proofs.vector_array.returned.Statement.{statement}
 use Rattle.derivatives.proofs.vector_array.returned.Tie as tie
-use Rattle.derivatives.proofs.vector_array.returned.Reads as reads
-use Rattle.derivatives.proofs.vector_array.returned.Lts as lts
-use Rattle.derivatives.proofs.vector_array.curve_finite.Reads as curve-finite-reads
-use Rattle.derivatives.proofs.vector_array.refused.Reads as refused-reads
 
 curve-finite-requires : tie.Need-curve-finite-requires
 curve-finite-requires c κs = search needs
@@ -22,11 +16,11 @@ refused-requires c κs = search needs
 
 returns : tie.Need-returns
 returns c = let s = c .before .before .before .before .args in
-    c .refused .ensures ∙ sym (no (finiteVectors (vectorNumbers (s .t1)) (s .n)) (madeVectors (s .n) (s .t1)) (refusedVectors 10) (sym (c .before .before .curve-finite .ensures) ∙ not-true _ (c .before .if1 .taken)))
+    c .refused .ensures ∙ sym (second (madeVectors (s .n) (s .t1)) (refusedVectors 10) (sym (c .before .before .curve-finite .ensures) ∙ not-true _ (c .before .if1 .taken)))
 
 returns-2 : tie.Need-returns-2
 returns-2 c = let s = c .before .before .before .args in
-    sym (yes (finiteVectors (vectorNumbers (s .t1)) (s .n)) (madeVectors (s .n) (s .t1)) (refusedVectors 10) (sym (c .before .curve-finite .ensures) ∙ not-false _ (c .if1 .left)))
+    sym (first (madeVectors (s .n) (s .t1)) (refusedVectors 10) (sym (c .before .curve-finite .ensures) ∙ not-false _ (c .if1 .left)))
 
 pub returned-spec : {M : Type 1} → statement M
 returned-spec =

@@ -1,31 +1,27 @@
 -- `derivatives::vector_array::surface_finite` meets its contract. Assumes nothing.
+use Rattle.derivatives.proofs.Finite.{counted}
 use Rattle.derivatives.proofs.Vectors.{surface-finite}
-use Rattle.derivatives.proofs.Finite.{count-fits}
+use Rattle.derivatives.specs.Vector.{vectorNumbers, allVectorsFinite}
+use Rattle.calculus.proofs.Graded.{room-231}
 use borrow.Author.Needs.{needs}
 use denote.Ref.{now}
-use mathlib.Core.Path.{_∙_}
-use Prim.Native.Nat.{_-_}
+use mathlib.Core.Path.{ap, _∙_}
 use native.Mathlib.Omega.{arith}
 use Rattle.derivatives.proofs.vector_array.surface_finite.Statement.{statement}
 use Rattle.derivatives.proofs.vector_array.surface_finite.Tie as tie
-use Rattle.derivatives.proofs.vector_array.surface_finite.Reads as reads
-use Rattle.derivatives.proofs.vector_array.surface_finite.Lts as lts
-use Rattle.derivatives.proofs.vector_array.all_finite.Reads as all-finite-reads
 
-add-k : tie.Need-add-k
-add-k c = search needs
-
-add-k-2 : tie.Need-add-k-2
-add-k-2 c = search needs
-
-mul-k : tie.Need-mul-k
-mul-k c = record { fits = omega (arith, count-fits (c .args .n) (c .pre)) }
+surface-count-requires : tie.Need-surface-count-requires
+surface-count-requires c κs = search needs
 
 all-finite-requires : tie.Need-all-finite-requires
-all-finite-requires c κs = omega (arith, count-fits (c .before .args .n) (c .before .pre))
+all-finite-requires c κs = let n = c .before .before .args .n in
+    omega (arith, counted n (c .before .before .pre) (c .surface-count .ensures), room-231 n (c .before .before .pre))
 
 returns : tie.Need-returns
-returns c = c .all-finite .ensures ∙ surface-finite (now (c .before .before .args .a)) (c .before .before .args .n)
+returns c = let s = c .before .before .before .args in
+    c .all-finite .ensures
+    ∙ ap (allVectorsFinite (vectorNumbers (now (s .a)))) (counted (s .n) (c .before .before .before .pre) (c .before .surface-count .ensures))
+    ∙ surface-finite (now (s .a)) (s .n)
 
 pub surface-finite-spec : {M : Type 1} → statement M
-surface-finite-spec = tie.close (tie.spec add-k add-k-2 mul-k all-finite-requires returns)
+surface-finite-spec = tie.close (tie.spec surface-count-requires all-finite-requires returns)

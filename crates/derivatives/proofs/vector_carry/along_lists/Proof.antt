@@ -13,7 +13,6 @@ use Rattle.derivatives.specs.Vector.{vectors}
 use borrow.Author.Tests.{not-true, not-false}
 use denote.Ref.{now}
 use mathlib.Core.Path.{_≡_, sym, ap, ap₂, _∙_, subst}
-use Prim.Native.Nat.{_-_}
 use native.Mathlib.Omega.{arith}
 use borrow.Author.Needs.{needs}
 use Rattle.derivatives.proofs.vector_carry.along_lists.Statement.{statement}

@@ -2,7 +2,6 @@
 use Rattle.derivatives.proofs.VectorCarries.{carried-value, carried-derivative}
 use denote.Ref.{now}
 use mathlib.Core.Path.{_∙_}
-use Prim.Native.Nat.{_-_}
 use borrow.Author.Needs.{needs}
 use Rattle.derivatives.proofs.vector_carry.entry.Statement.{statement}
 use Rattle.derivatives.proofs.vector_carry.entry.Tie as tie

@@ -9,7 +9,6 @@ use Rattle.derivatives.specs.Real.{real}
 use Rattle.vectors.specs.Vectors.{multiple}
 use denote.Ref.{now}
 use mathlib.Core.Path.{sym, ap, ap₂, _∙_, subst}
-use Prim.Native.Nat.{_-_}
 use borrow.Author.Needs.{needs}
 use Rattle.derivatives.proofs.vector_carry.summand.Statement.{statement}
 use Rattle.derivatives.proofs.vector_carry.summand.Tie as tie

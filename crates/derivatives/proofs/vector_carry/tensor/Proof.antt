@@ -11,7 +11,7 @@ use Prim.Native.Nat.{_^_}
 use Rattle.derivatives.specs.Vector.{origin, vectors, vectorNumbers}
 use Rattle.vectors.specs.Vectors.{multiple}
 use denote.Ref.{now}
-use mathlib.Core.Path.{_≡_, refl, sym, ap, ap₂, _∙_, subst}
+use mathlib.Core.Path.{_≡_, sym, ap, ap₂, _∙_, subst}
 use Prim.Native.Nat.{_-_, _≤_, _<_}
 use native.Mathlib.Omega.{arith}
 use borrow.Author.Needs.{needs}
@@ -39,21 +39,24 @@ cast-end c = omega arith
 shl-end : tie.Need-shl-end Inv-loop μ-loop
 shl-end c = omega arith
 
+zero-requires : tie.Need-zero-requires Inv-loop μ-loop
+zero-requires c κs = search needs
+
 loop-holds : tie.Need-loop-holds Inv-loop μ-loop
 unfolding inTurn
-loop-holds c = (refl, omega arith)
+loop-holds c = (c .zero .ensures, omega arith)
 
 cast-k : tie.Need-cast-k Inv-loop μ-loop
-cast-k c = omega (arith, ones-le (length (c .before .before .before .args .list .now)) (c .before .loop .mask) (subst (λ x. c .before .loop .mask < x) (masks-shift (length (c .before .before .before .args .list .now)) (c .before .before .before .pre .0)) (c .loop-test .taken)), c .before .before .before .pre .0)
+cast-k c = omega (arith, ones-le (length (c .before .before .before .before .args .list .now)) (c .before .loop .mask) (subst (λ x. c .before .loop .mask < x) (masks-shift (length (c .before .before .before .before .args .list .now)) (c .before .before .before .before .pre .0)) (c .loop-test .taken)), c .before .before .before .before .pre .0)
 
 sub-k : tie.Need-sub-k Inv-loop μ-loop
-sub-k c = omega (arith, ones-le (length (c .before .before .before .args .list .now)) (c .before .loop .mask) (subst (λ x. c .before .loop .mask < x) (masks-shift (length (c .before .before .before .args .list .now)) (c .before .before .before .pre .0)) (c .loop-test .taken)))
+sub-k c = omega (arith, ones-le (length (c .before .before .before .before .args .list .now)) (c .before .loop .mask) (subst (λ x. c .before .loop .mask < x) (masks-shift (length (c .before .before .before .before .args .list .now)) (c .before .before .before .before .pre .0)) (c .loop-test .taken)))
 
 vector-at-requires : tie.Need-vector-at-requires Inv-loop μ-loop
-vector-at-requires c κs = omega (arith, square-le (length (c .before .before .before .before .args .list .now)) (c .before .before .before .before .pre .0))
+vector-at-requires c κs = omega (arith, square-le (length (c .before .before .before .before .before .args .list .now)) (c .before .before .before .before .before .pre .0))
 
 factors-requires : tie.Need-factors-requires Inv-loop μ-loop
-factors-requires c κs = c .before .before .before .before .before .pre .1
+factors-requires c κs = c .before .before .before .before .before .before .pre .1
 
 mul-requires : tie.Need-mul-requires Inv-loop μ-loop
 mul-requires c κs = search needs
@@ -62,23 +65,23 @@ add-requires : tie.Need-add-requires Inv-loop μ-loop
 add-requires c κs = search needs
 
 add-mask : tie.Need-add-mask Inv-loop μ-loop
-add-mask c = omega (arith, (subst (λ x. c .before .before .before .before .before .before .loop .mask < x) (masks-shift (length (c .before .before .before .before .before .before .before .before .args .list .now)) (c .before .before .before .before .before .before .before .before .pre .0)) (c .before .before .before .before .before .loop-test .taken)), masks-le (length (c .before .before .before .before .before .before .before .before .args .list .now)) (c .before .before .before .before .before .before .before .before .pre .0))
+add-mask c = omega (arith, (subst (λ x. c .before .before .before .before .before .before .loop .mask < x) (masks-shift (length (c .before .before .before .before .before .before .before .before .before .args .list .now)) (c .before .before .before .before .before .before .before .before .before .pre .0)) (c .before .before .before .before .before .loop-test .taken)), masks-le (length (c .before .before .before .before .before .before .before .before .before .args .list .now)) (c .before .before .before .before .before .before .before .before .before .pre .0))
 
 loop-less : tie.Need-loop-less Inv-loop μ-loop
-loop-less c = omega (arith, (subst (λ x. c .before .before .before .before .before .before .loop .mask < x) (masks-shift (length (c .before .before .before .before .before .before .before .before .args .list .now)) (c .before .before .before .before .before .before .before .before .pre .0)) (c .before .before .before .before .before .loop-test .taken)))
+loop-less c = omega (arith, (subst (λ x. c .before .before .before .before .before .before .loop .mask < x) (masks-shift (length (c .before .before .before .before .before .before .before .before .before .args .list .now)) (c .before .before .before .before .before .before .before .before .before .pre .0)) (c .before .before .before .before .before .loop-test .taken)))
 
 loop-again : tie.Need-loop-again Inv-loop μ-loop
-loop-again c = let s = c .before .before .before .before .before .before .before .before .args in
-    let b = (subst (λ x. c .before .before .before .before .before .before .loop .mask < x) (masks-shift (length (c .before .before .before .before .before .before .before .before .args .list .now)) (c .before .before .before .before .before .before .before .before .pre .0)) (c .before .before .before .before .before .loop-test .taken)) in (
+loop-again c = let s = c .before .before .before .before .before .before .before .before .before .args in
+    let b = (subst (λ x. c .before .before .before .before .before .before .loop .mask < x) (masks-shift (length (c .before .before .before .before .before .before .before .before .before .args .list .now)) (c .before .before .before .before .before .before .before .before .before .pre .0)) (c .before .before .before .before .before .loop-test .taken)) in (
       c .add .ensures ∙ one-more (vectors .plus) origin (termOf (now (s .entries)) (now (s .u)) (now (s .v)) (now (s .list))) (c .before .before .before .before .before .before .loop .inv .0)
           (c .before .mul .ensures ∙ ap₂ multiple (c .before .before .before .vector-at .ensures ∙ sym (entry-at (vectorNumbers (now (s .entries))) (now (s .list)) (c .before .before .before .before .before .before .loop .mask) b)) (c .before .before .factors .ensures)) (add-one (c .before .before .before .before .before .before .loop .mask)),
       omega (arith, b),
     )
 
 returns : tie.Need-returns Inv-loop μ-loop
-returns c = let s = c .before .before .before .args in
-    let e : c .before .loop .mask ≡ 2 ^ length (now (s .list)) = le-antisymm (c .before .loop .inv .1) (subst (λ x. x ≤ c .before .loop .mask) (masks-shift (length (now (s .list))) (c .before .before .before .pre .0)) (c .loop-test .left)) in
+returns c = let s = c .before .before .before .before .args in
+    let e : c .before .loop .mask ≡ 2 ^ length (now (s .list)) = le-antisymm (c .before .loop .inv .1) (subst (λ x. x ≤ c .before .loop .mask) (masks-shift (length (now (s .list))) (c .before .before .before .before .pre .0)) (c .loop-test .left)) in
     c .before .loop .inv .0 ∙ ap (inTurn (vectors .plus) origin (termOf (now (s .entries)) (now (s .u)) (now (s .v)) (now (s .list)))) e
 
 pub tensor-spec : {M : Type 1} → statement M
-tensor-spec = tie.close (tie.spec Inv-loop μ-loop add-last mul-last add-last-2 cast-end shl-end loop-holds cast-k sub-k vector-at-requires factors-requires mul-requires add-requires add-mask loop-less loop-again returns)
+tensor-spec = tie.close (tie.spec Inv-loop μ-loop add-last mul-last add-last-2 cast-end shl-end zero-requires loop-holds cast-k sub-k vector-at-requires factors-requires mul-requires add-requires add-mask loop-less loop-again returns)

@@ -1,12 +1,9 @@
 -- `derivatives::vector_curve::division_by_zero` meets its contract. Assumes nothing.
 use Rattle.derivatives.specs.VectorFormula.{vectorDivisionByZero}
-use Prim.Native.Nat.{_-_}
 use mathlib.Core.Path.{sym, ap}
 use borrow.Author.Needs.{needs}
 use Rattle.derivatives.proofs.vector_curve.division_by_zero.Statement.{statement}
 use Rattle.derivatives.proofs.vector_curve.division_by_zero.Tie as tie
-use Rattle.derivatives.proofs.vector_curve.division_by_zero.Reads as reads
-use Rattle.derivatives.proofs.vector_curve.division_by_zero.Lts as lts
 
 enum-told : tie.Need-enum-told
 enum-told c = search needs

@@ -9,13 +9,9 @@ use Rattle.vectors.specs.Vectors.{cross}
 use borrow.Author.Needs.{needs}
 use Prim.Native.Nat.{suc, _-_, _≤_}
 use native.Mathlib.Omega.{arith}
-use mathlib.Core.Path.{_≡_, refl, ap, _∙_}
+use mathlib.Core.Path.{_≡_, ap, _∙_}
 use Rattle.derivatives.proofs.vector_entries.cross_entry.Statement.{statement}
 use Rattle.derivatives.proofs.vector_entries.cross_entry.Tie as tie
-use Rattle.derivatives.proofs.vector_entries.cross_entry.Reads as reads
-use Rattle.derivatives.proofs.vector_entries.cross_entry.Lts as lts
-use Rattle.derivatives.proofs.vector_entries.cross_term.Reads as cross-term-reads
-use Rattle.vectors.proofs.Vector3.add.Reads as add-reads
 
 abbrev Inv-loop : tie.InvT-loop
 Inv-loop a b c m sum₀ i₀ sum i = (sum ≡ inTurn (vectors .plus) origin (leibniz vectors cross (vectorNumbers a) (vectorNumbers b) m) i) × (i ≤ suc m)
@@ -23,9 +19,12 @@ Inv-loop a b c m sum₀ i₀ sum i = (sum ≡ inTurn (vectors .plus) origin (lei
 abbrev μ-loop : tie.MeasureT-loop
 μ-loop a b c m sum₀ i₀ sum i = suc m - i
 
+zero-requires : tie.Need-zero-requires Inv-loop μ-loop
+zero-requires c κs = search needs
+
 loop-holds : tie.Need-loop-holds Inv-loop μ-loop
 unfolding inTurn
-loop-holds c = (refl, omega arith)
+loop-holds c = (c .zero .ensures, omega arith)
 
 cross-term-requires : tie.Need-cross-term-requires Inv-loop μ-loop
 cross-term-requires c κs = search needs
@@ -44,7 +43,7 @@ loop-again c = let l = c .before .before .before in
     (c .add .ensures ∙ one-more (vectors .plus) origin _ (l .loop .inv .0) (c .before .cross-term .ensures) (add-one (l .loop .i)), omega arith)
 
 returns : tie.Need-returns Inv-loop μ-loop
-returns c = let s = c .before .before .args in
+returns c = let s = c .before .before .before .args in
     let e : c .before .loop .i ≡ suc (s .m) = omega arith in
     c .before .loop .inv .0 ∙ ap (inTurn (vectors .plus) origin (leibniz vectors cross (vectorNumbers (now (s .a))) (vectorNumbers (now (s .b))) (s .m))) e
 
@@ -54,7 +53,7 @@ cross-entry-spec =
     (tie.spec
     Inv-loop
     μ-loop
-    loop-holds
+    zero-requires loop-holds
     cross-term-requires
     add-requires
     add-i

@@ -1,18 +1,10 @@
 -- `derivatives::vector_entries::cross_term` meets its contract. Assumes nothing.
 use Rattle.derivatives.specs.Real.{real}
 use Rattle.vectors.specs.Vectors.{multiple, cross}
-use Prim.Native.Nat.{_-_}
 use mathlib.Core.Path.{ap, ap₂, _∙_}
 use borrow.Author.Needs.{needs}
 use Rattle.derivatives.proofs.vector_entries.cross_term.Statement.{statement}
 use Rattle.derivatives.proofs.vector_entries.cross_term.Tie as tie
-use Rattle.derivatives.proofs.vector_entries.cross_term.Reads as reads
-use Rattle.derivatives.proofs.vector_entries.cross_term.Lts as lts
-use Rattle.derivatives.proofs.binomial.Reads as binomial-reads
-use Rattle.derivatives.proofs.float.Reads as float-reads
-use Rattle.derivatives.proofs.vector_array.vector_at.Reads as vector-at-reads
-use Rattle.vectors.proofs.Vector3.cross.Reads as cross-reads
-use Rattle.vectors.proofs.Vector3.mul.Reads as mul-reads
 
 binomial-requires : tie.Need-binomial-requires
 binomial-requires c κs = search needs

@@ -14,9 +14,6 @@ use native.Mathlib.Omega.{arith}
 use mathlib.Core.Path.{_≡_, refl, ap, _∙_}
 use Rattle.derivatives.proofs.vector_entries.dot_entry.Statement.{statement}
 use Rattle.derivatives.proofs.vector_entries.dot_entry.Tie as tie
-use Rattle.derivatives.proofs.vector_entries.dot_entry.Reads as reads
-use Rattle.derivatives.proofs.vector_entries.dot_entry.Lts as lts
-use Rattle.derivatives.proofs.vector_entries.dot_term.Reads as dot-term-reads
 
 abbrev Inv-loop : tie.InvT-loop
 Inv-loop a b c m sum₀ i₀ sum i = (sum ≡ inTurn (real .plus) nil (leibniz (regular real) dot (vectorNumbers a) (vectorNumbers b) m) i) × (i ≤ suc m)

@@ -4,19 +4,10 @@ use Rattle.derivatives.specs.Answer.{curveNumbers}
 use Rattle.derivatives.specs.Vector.{vectorNumbers}
 use denote.Ref.{now}
 use Rattle.vectors.specs.Vectors.{sum, difference}
-use Prim.Native.Nat.{_-_}
 use mathlib.Core.Path.{sym, ap, ap₂, _∙_}
 use borrow.Author.Needs.{needs}
 use Rattle.derivatives.proofs.vector_entries.entry.Statement.{statement}
 use Rattle.derivatives.proofs.vector_entries.entry.Tie as tie
-use Rattle.derivatives.proofs.vector_entries.entry.Reads as reads
-use Rattle.derivatives.proofs.vector_entries.entry.Lts as lts
-use Rattle.derivatives.proofs.vector_array.vector_at.Reads as vector-at-reads
-use Rattle.derivatives.proofs.vector_entries.cross_entry.Reads as cross-entry-reads
-use Rattle.derivatives.proofs.vector_entries.rational_entry.Reads as rational-entry-reads
-use Rattle.derivatives.proofs.vector_entries.scaled_entry.Reads as scaled-entry-reads
-use Rattle.vectors.proofs.Vector3.add.Reads as add-reads
-use Rattle.vectors.proofs.Vector3.sub.Reads as sub-reads
 
 enum-told : tie.Need-enum-told
 enum-told c = search needs

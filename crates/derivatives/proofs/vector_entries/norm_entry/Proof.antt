@@ -12,11 +12,6 @@ use mathlib.Core.Path.{_≡_, sym, ap, _∙_}
 use borrow.Author.Needs.{needs}
 use Rattle.derivatives.proofs.vector_entries.norm_entry.Statement.{statement}
 use Rattle.derivatives.proofs.vector_entries.norm_entry.Tie as tie
-use Rattle.derivatives.proofs.vector_entries.norm_entry.Reads as reads
-use Rattle.derivatives.proofs.vector_entries.norm_entry.Lts as lts
-use Rattle.derivatives.proofs.vector_array.vector_at.Reads as vector-at-reads
-use Rattle.derivatives.proofs.vector_entries.norm_sum.Reads as norm-sum-reads
-use Rattle.vectors.proofs.Vector3.magnitude.Reads as magnitude-reads
 
 vector-at-requires : tie.Need-vector-at-requires
 vector-at-requires c κs = search needs

@@ -15,9 +15,6 @@ use native.Mathlib.Omega.{arith}
 use mathlib.Core.Path.{_≡_, refl, ap, _∙_}
 use Rattle.derivatives.proofs.vector_entries.norm_sum.Statement.{statement}
 use Rattle.derivatives.proofs.vector_entries.norm_sum.Tie as tie
-use Rattle.derivatives.proofs.vector_entries.norm_sum.Reads as reads
-use Rattle.derivatives.proofs.vector_entries.norm_sum.Lts as lts
-use Rattle.derivatives.proofs.vector_entries.norm_term.Reads as norm-term-reads
 
 abbrev Inv-loop : tie.InvT-loop
 Inv-loop s q c m sum₀ i₀ sum i = (sum ≡ inTurn (real .plus) nil (normTerm real squareRoot dot (vectorNumbers s) (curveNumbers q) m) i) × (i ≤ suc m)

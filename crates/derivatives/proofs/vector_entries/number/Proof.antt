@@ -3,15 +3,10 @@ use Rattle.derivatives.specs.VectorFormula.{numberFormula}
 use Rattle.derivatives.specs.Answer.{curveNumbers}
 use Rattle.derivatives.specs.Vector.{vectorNumbers}
 use denote.Ref.{now}
-use Prim.Native.Nat.{_-_}
 use mathlib.Core.Path.{sym, ap, _∙_}
 use borrow.Author.Needs.{needs}
 use Rattle.derivatives.proofs.vector_entries.number.Statement.{statement}
 use Rattle.derivatives.proofs.vector_entries.number.Tie as tie
-use Rattle.derivatives.proofs.vector_entries.number.Reads as reads
-use Rattle.derivatives.proofs.vector_entries.number.Lts as lts
-use Rattle.derivatives.proofs.vector_entries.dot_entry.Reads as dot-entry-reads
-use Rattle.derivatives.proofs.vector_entries.norm_entry.Reads as norm-entry-reads
 
 enum-told : tie.Need-enum-told
 enum-told c = search needs

@@ -12,10 +12,6 @@ use native.Mathlib.Omega.{arith}
 use mathlib.Core.Path.{_≡_, sym, _∙_}
 use Rattle.derivatives.proofs.vector_entries.numbers.Statement.{statement}
 use Rattle.derivatives.proofs.vector_entries.numbers.Tie as tie
-use Rattle.derivatives.proofs.vector_entries.numbers.Reads as reads
-use Rattle.derivatives.proofs.vector_entries.numbers.Lts as lts
-use Rattle.calculus.proofs.binomials.Reads as binomials-reads
-use Rattle.derivatives.proofs.vector_entries.number.Reads as number-reads
 
 abbrev Inv-loop : tie.InvT-loop
 Inv-loop f a b n c r₀ m₀ r m = CurveFilled (numbersOf f (vectorNumbers a) (vectorNumbers b)) m r × (m ≤ suc n)

@@ -12,14 +12,6 @@ use native.Mathlib.Omega.{arith}
 use mathlib.Core.Path.{_≡_, ap, ap₂, _∙_}
 use Rattle.derivatives.proofs.vector_entries.rational_entry.Statement.{statement}
 use Rattle.derivatives.proofs.vector_entries.rational_entry.Tie as tie
-use Rattle.derivatives.proofs.vector_entries.rational_entry.Reads as reads
-use Rattle.derivatives.proofs.vector_entries.rational_entry.Lts as lts
-use Rattle.derivatives.proofs.vector_array.vector_at.Reads as vector-at-reads
-use Rattle.derivatives.proofs.vector_entries.rational_term.Reads as rational-term-reads
-use Rattle.vectors.proofs.Vector3.add.Reads as add-reads
-use Rattle.vectors.proofs.Vector3.div.Reads as div-reads
-use Rattle.vectors.proofs.Vector3.mul.Reads as mul-reads
-use Rattle.vectors.proofs.Vector3.sub.Reads as sub-reads
 
 abbrev Inv-loop : tie.InvT-loop
 Inv-loop x w q c m sum₀ i₀ sum i = (sum ≡ inTurn (vectors .plus) (multiple (vectorNumbers q 0) (curveNumbers w m)) (λ k. rationalTerm vectors quotient (curveNumbers w) (vectorNumbers q) m (suc k)) (i - 1)) × (1 ≤ i) × (i - 1 ≤ m - 1)

@@ -10,13 +10,9 @@ use Rattle.vectors.specs.Vectors.{multiple}
 use borrow.Author.Needs.{needs}
 use Prim.Native.Nat.{suc, _-_, _≤_}
 use native.Mathlib.Omega.{arith}
-use mathlib.Core.Path.{_≡_, refl, ap, _∙_}
+use mathlib.Core.Path.{_≡_, ap, _∙_}
 use Rattle.derivatives.proofs.vector_entries.scaled_entry.Statement.{statement}
 use Rattle.derivatives.proofs.vector_entries.scaled_entry.Tie as tie
-use Rattle.derivatives.proofs.vector_entries.scaled_entry.Reads as reads
-use Rattle.derivatives.proofs.vector_entries.scaled_entry.Lts as lts
-use Rattle.derivatives.proofs.vector_entries.scaled_term.Reads as scaled-term-reads
-use Rattle.vectors.proofs.Vector3.add.Reads as add-reads
 
 abbrev Inv-loop : tie.InvT-loop
 Inv-loop a b c m sum₀ i₀ sum i = (sum ≡ inTurn (vectors .plus) origin (leibniz vectors multiple (vectorNumbers a) (curveNumbers b) m) i) × (i ≤ suc m)
@@ -24,9 +20,12 @@ Inv-loop a b c m sum₀ i₀ sum i = (sum ≡ inTurn (vectors .plus) origin (lei
 abbrev μ-loop : tie.MeasureT-loop
 μ-loop a b c m sum₀ i₀ sum i = suc m - i
 
+zero-requires : tie.Need-zero-requires Inv-loop μ-loop
+zero-requires c κs = search needs
+
 loop-holds : tie.Need-loop-holds Inv-loop μ-loop
 unfolding inTurn
-loop-holds c = (refl, omega arith)
+loop-holds c = (c .zero .ensures, omega arith)
 
 scaled-term-requires : tie.Need-scaled-term-requires Inv-loop μ-loop
 scaled-term-requires c κs = search needs
@@ -45,7 +44,7 @@ loop-again c = let l = c .before .before .before in
     (c .add .ensures ∙ one-more (vectors .plus) origin _ (l .loop .inv .0) (c .before .scaled-term .ensures) (add-one (l .loop .i)), omega arith)
 
 returns : tie.Need-returns Inv-loop μ-loop
-returns c = let s = c .before .before .args in
+returns c = let s = c .before .before .before .args in
     let e : c .before .loop .i ≡ suc (s .m) = omega arith in
     c .before .loop .inv .0 ∙ ap (inTurn (vectors .plus) origin (leibniz vectors multiple (vectorNumbers (now (s .a))) (curveNumbers (now (s .b))) (s .m))) e
 
@@ -55,7 +54,7 @@ scaled-entry-spec =
     (tie.spec
     Inv-loop
     μ-loop
-    loop-holds
+    zero-requires loop-holds
     scaled-term-requires
     add-requires
     add-i

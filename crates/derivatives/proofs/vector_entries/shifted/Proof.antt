@@ -2,14 +2,11 @@
 use Rattle.derivatives.proofs.VectorAnswers.{same-array, one-on}
 use Rattle.derivatives.specs.Vector.{vectorNumbers}
 use denote.Ref.{now}
-use Prim.Native.Nat.{suc, _+_, _-_}
+use Prim.Native.Nat.{suc, _+_}
 use mathlib.Core.Path.{ap, _∙_}
 use borrow.Author.Needs.{needs}
 use Rattle.derivatives.proofs.vector_entries.shifted.Statement.{statement}
 use Rattle.derivatives.proofs.vector_entries.shifted.Tie as tie
-use Rattle.derivatives.proofs.vector_entries.shifted.Reads as reads
-use Rattle.derivatives.proofs.vector_entries.shifted.Lts as lts
-use Rattle.derivatives.proofs.vector_entries.taken.Reads as taken-reads
 
 taken-requires : tie.Need-taken-requires
 taken-requires c κs = search needs

@@ -10,8 +10,6 @@ use native.Mathlib.Omega.{arith}
 use mathlib.Core.Path.{_≡_, sym, _∙_}
 use Rattle.derivatives.proofs.vector_entries.write.Statement.{statement}
 use Rattle.derivatives.proofs.vector_entries.write.Tie as tie
-use Rattle.derivatives.proofs.vector_entries.write.Reads as reads
-use Rattle.derivatives.proofs.vector_entries.write.Lts as lts
 
 abbrev Inv-loop : tie.InvT-loop
 Inv-loop a n out₀ k i₀ out i = Written (curveNumbers a) (3 * suc n) i out × (i ≤ k) × (k ≡ 3 * suc n)

@@ -1,18 +1,12 @@
 -- `derivatives::vector_surface::returned` meets its contract. Assumes nothing.
-use Rattle.derivatives.proofs.Answers.{yes, no}
+use Rattle.ieee.proofs.Tests.{first, second}
 use Rattle.derivatives.specs.VectorSurfaceAnswer.{madeVectorSurface}
 use Rattle.derivatives.specs.VectorSurfaceAnswer.{refusedVectorSurface}
-use Rattle.derivatives.specs.Vector.{vectorSurfaceNumbers, finiteVectorSurface}
 use borrow.Author.Tests.{not-true, not-false}
-use Prim.Native.Nat.{_-_}
 use mathlib.Core.Path.{sym, _∙_}
 use borrow.Author.Needs.{needs}
 use Rattle.derivatives.proofs.vector_surface.returned.Statement.{statement}
 use Rattle.derivatives.proofs.vector_surface.returned.Tie as tie
-use Rattle.derivatives.proofs.vector_surface.returned.Reads as reads
-use Rattle.derivatives.proofs.vector_surface.returned.Lts as lts
-use Rattle.derivatives.proofs.vector_array.surface_finite.Reads as surface-finite-reads
-use Rattle.derivatives.proofs.vector_surface.refused.Reads as refused-reads
 
 surface-finite-requires : tie.Need-surface-finite-requires
 surface-finite-requires c κs = search needs
@@ -22,11 +16,11 @@ refused-requires c κs = search needs
 
 returns : tie.Need-returns
 returns c = let s = c .before .before .before .before .args in
-    c .refused .ensures ∙ sym (no (finiteVectorSurface (vectorSurfaceNumbers (s .t1)) (s .n)) (madeVectorSurface (s .n) (s .t1)) (refusedVectorSurface 10) (sym (c .before .before .surface-finite .ensures) ∙ not-true _ (c .before .if1 .taken)))
+    c .refused .ensures ∙ sym (second (madeVectorSurface (s .n) (s .t1)) (refusedVectorSurface 10) (sym (c .before .before .surface-finite .ensures) ∙ not-true _ (c .before .if1 .taken)))
 
 returns-2 : tie.Need-returns-2
 returns-2 c = let s = c .before .before .before .args in
-    sym (yes (finiteVectorSurface (vectorSurfaceNumbers (s .t1)) (s .n)) (madeVectorSurface (s .n) (s .t1)) (refusedVectorSurface 10) (sym (c .before .surface-finite .ensures) ∙ not-false _ (c .if1 .left)))
+    sym (first (madeVectorSurface (s .n) (s .t1)) (refusedVectorSurface 10) (sym (c .before .surface-finite .ensures) ∙ not-false _ (c .if1 .left)))
 
 pub returned-spec : {M : Type 1} → statement M
 returned-spec =

@@ -12,10 +12,6 @@ use Prim.Native.Nat.{suc, _-_, _≤_}
 use native.Mathlib.Omega.{arith}
 use Rattle.derivatives.proofs.vector_surface_entries.cross_row.Statement.{statement}
 use Rattle.derivatives.proofs.vector_surface_entries.cross_row.Tie as tie
-use Rattle.derivatives.proofs.vector_surface_entries.cross_row.Reads as reads
-use Rattle.derivatives.proofs.vector_surface_entries.cross_row.Lts as lts
-use Rattle.derivatives.proofs.vector_surface_entries.cross_term.Reads as cross-term-reads
-use Rattle.vectors.proofs.Vector3.add.Reads as add-reads
 
 abbrev Inv-loop : tie.InvT-loop
 Inv-loop a b c m n i sum₀ j₀ sum j = (sum ≡ inTurn (vectors .plus) sum₀ (leibniz vectors cross (vectorSurfaceNumbers a) (vectorSurfaceNumbers b) m n i) j) × (j ≤ suc n)

@@ -2,15 +2,8 @@
 use Rattle.vectors.specs.Vectors.{multiple, cross}
 use borrow.Author.Needs.{needs}
 use mathlib.Core.Path.{ap₂, _∙_}
-use Prim.Native.Nat.{_-_}
 use Rattle.derivatives.proofs.vector_surface_entries.cross_term.Statement.{statement}
 use Rattle.derivatives.proofs.vector_surface_entries.cross_term.Tie as tie
-use Rattle.derivatives.proofs.vector_surface_entries.cross_term.Reads as reads
-use Rattle.derivatives.proofs.vector_surface_entries.cross_term.Lts as lts
-use Rattle.derivatives.proofs.vector_surface_entries.coefficient.Reads as coefficient-reads
-use Rattle.derivatives.proofs.vector_surface_entries.surface_at.Reads as surface-at-reads
-use Rattle.vectors.proofs.Vector3.cross.Reads as cross-reads
-use Rattle.vectors.proofs.Vector3.mul.Reads as mul-reads
 
 coefficient-requires : tie.Need-coefficient-requires
 coefficient-requires c κs = search needs

@@ -14,9 +14,6 @@ use Prim.Native.Nat.{ℕ, suc, _-_, _≤_}
 use native.Mathlib.Omega.{arith}
 use Rattle.derivatives.proofs.vector_surface_entries.dot_entry.Statement.{statement}
 use Rattle.derivatives.proofs.vector_surface_entries.dot_entry.Tie as tie
-use Rattle.derivatives.proofs.vector_surface_entries.dot_entry.Reads as reads
-use Rattle.derivatives.proofs.vector_surface_entries.dot_entry.Lts as lts
-use Rattle.derivatives.proofs.vector_surface_entries.dot_row.Reads as dot-row-reads
 
 abbrev Inv-loop : tie.InvT-loop
 Inv-loop a b c m n sum₀ i₀ sum i = (sum ≡ inRows (real .plus) nil (leibniz (regular real) dot (vectorSurfaceNumbers a) (vectorSurfaceNumbers b) m n) i (suc n)) × (i ≤ suc m)

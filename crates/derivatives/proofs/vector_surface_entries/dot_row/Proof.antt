@@ -14,9 +14,6 @@ use Prim.Native.Nat.{suc, _-_, _≤_}
 use native.Mathlib.Omega.{arith}
 use Rattle.derivatives.proofs.vector_surface_entries.dot_row.Statement.{statement}
 use Rattle.derivatives.proofs.vector_surface_entries.dot_row.Tie as tie
-use Rattle.derivatives.proofs.vector_surface_entries.dot_row.Reads as reads
-use Rattle.derivatives.proofs.vector_surface_entries.dot_row.Lts as lts
-use Rattle.derivatives.proofs.vector_surface_entries.dot_term.Reads as dot-term-reads
 
 abbrev Inv-loop : tie.InvT-loop
 Inv-loop start a b c m n i sum₀ j₀ sum j = (sum ≡ inTurn (real .plus) start (leibniz (regular real) dot (vectorSurfaceNumbers a) (vectorSurfaceNumbers b) m n i) j) × (j ≤ suc n)

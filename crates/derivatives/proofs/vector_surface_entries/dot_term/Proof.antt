@@ -3,14 +3,8 @@ use Rattle.derivatives.specs.Real.{real}
 use Rattle.vectors.specs.Vectors.{dot}
 use borrow.Author.Needs.{needs}
 use mathlib.Core.Path.{ap₂, _∙_}
-use Prim.Native.Nat.{_-_}
 use Rattle.derivatives.proofs.vector_surface_entries.dot_term.Statement.{statement}
 use Rattle.derivatives.proofs.vector_surface_entries.dot_term.Tie as tie
-use Rattle.derivatives.proofs.vector_surface_entries.dot_term.Reads as reads
-use Rattle.derivatives.proofs.vector_surface_entries.dot_term.Lts as lts
-use Rattle.derivatives.proofs.vector_surface_entries.coefficient.Reads as coefficient-reads
-use Rattle.derivatives.proofs.vector_surface_entries.surface_at.Reads as surface-at-reads
-use Rattle.vectors.proofs.Vector3.dot.Reads as dot-reads
 
 coefficient-requires : tie.Need-coefficient-requires
 coefficient-requires c κs = search needs

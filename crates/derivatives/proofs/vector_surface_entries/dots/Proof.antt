@@ -13,11 +13,6 @@ use Prim.Native.Nat.{suc, _+_, _-_, _*_, _≤_}
 use native.Mathlib.Omega.{arith}
 use Rattle.derivatives.proofs.vector_surface_entries.dots.Statement.{statement}
 use Rattle.derivatives.proofs.vector_surface_entries.dots.Tie as tie
-use Rattle.derivatives.proofs.vector_surface_entries.dots.Reads as reads
-use Rattle.derivatives.proofs.vector_surface_entries.dots.Lts as lts
-use Rattle.calculus.proofs.binomials.Reads as binomials-reads
-use Rattle.derivatives.proofs.vector_surface_entries.dot_entry.Reads as dot-entry-reads
-use Rattle.derivatives.proofs.index.Reads as index-reads
 
 abbrev Inv-loop : tie.InvT-loop
 Inv-loop a b n c r₀ i₀ j₀ r i j = (l : n ≤ 20) × SurfaceProgress (productBy (regular real) dot (vectorSurfaceNumbers a) (vectorSurfaceNumbers b)) l i j r

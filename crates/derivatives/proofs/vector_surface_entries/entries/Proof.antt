@@ -1,20 +1,15 @@
 -- `derivatives::vector_surface_entries::entries` meets its contract. Assumes nothing.
-use Rattle.derivatives.proofs.VectorSurfaces.{SurfaceProgress, surface-begins, surface-goes-on, surface-turns, surface-ends, surfaceOf, surface-formed}
+use Rattle.derivatives.proofs.VectorSurfaces.{SurfaceProgress, surface-begins, surface-long, surface-goes-on, surface-turns, surface-ends, surfaceOf, surface-formed}
 use Rattle.calculus.proofs.Graded.{index-231}
 use Rattle.derivatives.specs.Vector.{vectorSurfaceNumbers}
 use Rattle.derivatives.specs.Answer.{surfaceNumbers}
-use borrow.Author.Needs.{needs}
-use denote.Ref.{now}
 use mathlib.Core.Path.{sym, _∙_}
 use Prim.Native.Nat.{suc, _+_, _-_, _*_, _≤_}
+use borrow.Author.Needs.{needs}
+use denote.Ref.{now}
 use native.Mathlib.Omega.{arith}
 use Rattle.derivatives.proofs.vector_surface_entries.entries.Statement.{statement}
 use Rattle.derivatives.proofs.vector_surface_entries.entries.Tie as tie
-use Rattle.derivatives.proofs.vector_surface_entries.entries.Reads as reads
-use Rattle.derivatives.proofs.vector_surface_entries.entries.Lts as lts
-use Rattle.calculus.proofs.binomials.Reads as binomials-reads
-use Rattle.derivatives.proofs.vector_surface_entries.entry.Reads as entry-reads
-use Rattle.derivatives.proofs.index.Reads as index-reads
 
 abbrev Inv-loop : tie.InvT-loop
 Inv-loop f a b w n c r₀ i₀ j₀ r i j = (l : n ≤ 20) × SurfaceProgress (surfaceOf f (vectorSurfaceNumbers a) (vectorSurfaceNumbers b) (surfaceNumbers w)) l i j r
@@ -35,84 +30,42 @@ entry-requires c κs = (omega (arith, c .before .before .before .loop .inv .1 .i
 index-requires : tie.Need-index-requires Inv-loop μ-loop
 index-requires c κs = omega (arith, c .before .before .before .before .loop .inv .1 .inside .1 (c .before .before .before .loop-test .taken))
 
-mul-p : tie.Need-mul-p Inv-loop μ-loop
-mul-p c = omega (arith, c .index .ensures, index-231 (c .before .before .before .before .before .loop .i) (c .before .before .before .before .before .loop .j) (omega (arith, c .before .before .before .before .before .loop .inv .1 .inside .1 (c .before .before .before .before .loop-test .taken))))
+slice-aggregate-store : tie.Need-slice-aggregate-store Inv-loop μ-loop
+slice-aggregate-store c = let p = c .before .before .before .before .before .before .loop in let s = c .before .before .before .before .before .before .before .before .args in
+    surface-long (surfaceOf (s .f) (vectorSurfaceNumbers (now (s .a))) (vectorSurfaceNumbers (now (s .b))) (surfaceNumbers (now (s .w)))) (p .inv .0) (p .inv .1)
 
-mul-r : tie.Need-mul-r Inv-loop μ-loop
-mul-r c = omega (arith, c .index .ensures, index-231 (c .before .before .before .before .before .loop .i) (c .before .before .before .before .before .loop .j) (omega (arith, c .before .before .before .before .before .loop .inv .1 .inside .1 (c .before .before .before .before .loop-test .taken))))
-
-array-write-r : tie.Need-array-write-r Inv-loop μ-loop
-array-write-r c = omega (arith, c .index .ensures, index-231 (c .before .before .before .before .before .loop .i) (c .before .before .before .before .before .loop .j) (omega (arith, c .before .before .before .before .before .loop .inv .1 .inside .1 (c .before .before .before .before .loop-test .taken))))
-
-add-r : tie.Need-add-r Inv-loop μ-loop
-add-r c = omega (arith, c .index .ensures, index-231 (c .before .before .before .before .before .loop .i) (c .before .before .before .before .before .loop .j) (omega (arith, c .before .before .before .before .before .loop .inv .1 .inside .1 (c .before .before .before .before .loop-test .taken))))
-
-mul-r-2 : tie.Need-mul-r-2 Inv-loop μ-loop
-mul-r-2 c = omega (arith, c .index .ensures, index-231 (c .before .before .before .before .before .loop .i) (c .before .before .before .before .before .loop .j) (omega (arith, c .before .before .before .before .before .loop .inv .1 .inside .1 (c .before .before .before .before .loop-test .taken))))
-
-array-write-r-2 : tie.Need-array-write-r-2 Inv-loop μ-loop
-array-write-r-2 c = omega (arith, c .index .ensures, index-231 (c .before .before .before .before .before .loop .i) (c .before .before .before .before .before .loop .j) (omega (arith, c .before .before .before .before .before .loop .inv .1 .inside .1 (c .before .before .before .before .loop-test .taken))))
-
-add-r-2 : tie.Need-add-r-2 Inv-loop μ-loop
-add-r-2 c = omega (arith, c .index .ensures, index-231 (c .before .before .before .before .before .loop .i) (c .before .before .before .before .before .loop .j) (omega (arith, c .before .before .before .before .before .loop .inv .1 .inside .1 (c .before .before .before .before .loop-test .taken))))
-
-mul-r-3 : tie.Need-mul-r-3 Inv-loop μ-loop
-mul-r-3 c = omega (arith, c .index .ensures, index-231 (c .before .before .before .before .before .loop .i) (c .before .before .before .before .before .loop .j) (omega (arith, c .before .before .before .before .before .loop .inv .1 .inside .1 (c .before .before .before .before .loop-test .taken))))
-
-array-write-r-3 : tie.Need-array-write-r-3 Inv-loop μ-loop
-array-write-r-3 c = omega (arith, c .index .ensures, index-231 (c .before .before .before .before .before .loop .i) (c .before .before .before .before .before .loop .j) (omega (arith, c .before .before .before .before .before .loop .inv .1 .inside .1 (c .before .before .before .before .loop-test .taken))))
+store-requires : tie.Need-store-requires Inv-loop μ-loop
+store-requires c κs = let p = c .before .before .before .before .before .before .loop in let s = c .before .before .before .before .before .before .before .before .args in
+    omega (arith, surface-long (surfaceOf (s .f) (vectorSurfaceNumbers (now (s .a))) (vectorSurfaceNumbers (now (s .b))) (surfaceNumbers (now (s .w)))) (p .inv .0) (p .inv .1), c .before .index .ensures, index-231 (p .i) (p .j) (omega (arith, c .before .before .before .before .before .before .loop .inv .1 .inside .1 (c .before .before .before .before .before .loop-test .taken))))
 
 add-j : tie.Need-add-j Inv-loop μ-loop
-add-j c = omega (arith, c .before .before .before .before .before .loop .inv .1 .inside .1 (c .before .before .before .before .loop-test .taken))
+add-j c = omega (arith, c .before .before .before .before .before .before .before .before .loop .inv .1 .inside .1 (c .before .before .before .before .before .before .before .loop-test .taken))
 
 add-if1 : tie.Need-add-if1 Inv-loop μ-loop
-add-if1 c = omega (arith, c .before .before .before .before .before .loop .inv .1 .inside .1 (c .before .before .before .before .loop-test .taken))
+add-if1 c = omega (arith, c .before .before .before .before .before .before .before .before .loop .inv .1 .inside .1 (c .before .before .before .before .before .before .before .loop-test .taken))
 
 add-i : tie.Need-add-i Inv-loop μ-loop
 add-i c = search needs
 
 loop-less : tie.Need-loop-less Inv-loop μ-loop
-loop-less c = omega (arith, c .before .before .before .before .before .before .loop .inv .1 .inside .1 (c .before .before .before .before .before .loop-test .taken))
+loop-less c = omega (arith, c .before .before .before .before .before .before .before .before .before .loop .inv .1 .inside .1 (c .before .before .before .before .before .before .before .before .loop-test .taken))
 
 loop-again : tie.Need-loop-again Inv-loop μ-loop
-loop-again c = let s = c .before .before .before .before .before .before .before .before .args in
-    (c .before .before .before .before .before .before .loop .inv .0, rw (c .before .index .ensures) (surface-turns (surfaceOf (s .f) (vectorSurfaceNumbers (now (s .a))) (vectorSurfaceNumbers (now (s .b))) (surfaceNumbers (now (s .w)))) (c .before .before .before .before .before .before .loop .inv .0) (c .before .before .before .before .before .before .loop .inv .1) (c .before .before .before .before .before .loop-test .taken) (surface-formed (s .f) (vectorSurfaceNumbers (now (s .a))) (vectorSurfaceNumbers (now (s .b))) (surfaceNumbers (now (s .w))) (c .before .before .before .before .before .before .loop .inv .0) (c .before .before .before .before .before .before .loop .inv .1 .stored) (c .before .before .before .before .before .before .loop .inv .1 .inside .1 (c .before .before .before .before .before .loop-test .taken)) ∙ sym (c .before .before .entry .ensures)) (c .if1 .taken)))
+loop-again c = let p = c .before .before .before .before .before .before .before .before .before .loop in let s = c .before .before .before .before .before .before .before .before .before .before .before .args in
+    let t = c .before .before .before .before .before .before .before .before .loop-test .taken in
+    (p .inv .0, surface-turns (surfaceOf (s .f) (vectorSurfaceNumbers (now (s .a))) (vectorSurfaceNumbers (now (s .b))) (surfaceNumbers (now (s .w)))) (p .inv .0) (p .inv .1) t (surface-formed (s .f) (vectorSurfaceNumbers (now (s .a))) (vectorSurfaceNumbers (now (s .b))) (surfaceNumbers (now (s .w))) (p .inv .0) (p .inv .1 .stored) (p .inv .1 .inside .1 t) ∙ sym (c .before .before .before .before .before .entry .ensures)) (c .before .before .before .before .index .ensures) (c .before .before .store .ensures) (c .if1 .taken))
 
 loop-less-2 : tie.Need-loop-less-2 Inv-loop μ-loop
-loop-less-2 c = omega (arith, c .before .before .before .before .before .before .loop .inv .1 .inside .1 (c .before .before .before .before .before .loop-test .taken))
+loop-less-2 c = omega (arith, c .before .before .before .before .before .before .before .before .before .loop .inv .1 .inside .1 (c .before .before .before .before .before .before .before .before .loop-test .taken))
 
 loop-again-2 : tie.Need-loop-again-2 Inv-loop μ-loop
-loop-again-2 c = let s = c .before .before .before .before .before .before .before .before .args in
-    (c .before .before .before .before .before .before .loop .inv .0, rw (c .before .index .ensures) (surface-goes-on (surfaceOf (s .f) (vectorSurfaceNumbers (now (s .a))) (vectorSurfaceNumbers (now (s .b))) (surfaceNumbers (now (s .w)))) (c .before .before .before .before .before .before .loop .inv .0) (c .before .before .before .before .before .before .loop .inv .1) (c .before .before .before .before .before .loop-test .taken) (surface-formed (s .f) (vectorSurfaceNumbers (now (s .a))) (vectorSurfaceNumbers (now (s .b))) (surfaceNumbers (now (s .w))) (c .before .before .before .before .before .before .loop .inv .0) (c .before .before .before .before .before .before .loop .inv .1 .stored) (c .before .before .before .before .before .before .loop .inv .1 .inside .1 (c .before .before .before .before .before .loop-test .taken)) ∙ sym (c .before .before .entry .ensures)) (c .if1 .left)))
+loop-again-2 c = let p = c .before .before .before .before .before .before .before .before .before .loop in let s = c .before .before .before .before .before .before .before .before .before .before .before .args in
+    let t = c .before .before .before .before .before .before .before .before .loop-test .taken in
+    (p .inv .0, surface-goes-on (surfaceOf (s .f) (vectorSurfaceNumbers (now (s .a))) (vectorSurfaceNumbers (now (s .b))) (surfaceNumbers (now (s .w)))) (p .inv .0) (p .inv .1) t (surface-formed (s .f) (vectorSurfaceNumbers (now (s .a))) (vectorSurfaceNumbers (now (s .b))) (surfaceNumbers (now (s .w))) (p .inv .0) (p .inv .1 .stored) (p .inv .1 .inside .1 t) ∙ sym (c .before .before .before .before .before .entry .ensures)) (c .before .before .before .before .index .ensures) (c .before .before .store .ensures) (c .if1 .left))
 
 returns : tie.Need-returns Inv-loop μ-loop
-returns c = let s = c .before .before .before .args in
-    surface-ends (surfaceOf (s .f) (vectorSurfaceNumbers (now (s .a))) (vectorSurfaceNumbers (now (s .b))) (surfaceNumbers (now (s .w)))) (c .before .loop .inv .0) (c .before .loop .inv .1) (c .loop-test .left)
+returns c = let p = c .before .loop in let s = c .before .before .before .args in
+    surface-ends (surfaceOf (s .f) (vectorSurfaceNumbers (now (s .a))) (vectorSurfaceNumbers (now (s .b))) (surfaceNumbers (now (s .w)))) (p .inv .0) (p .inv .1) (c .loop-test .left)
 
 pub entries-spec : {M : Type 1} → statement M
-entries-spec =
-    tie.close
-    (tie.spec
-    Inv-loop
-    μ-loop
-    binomials-requires
-    loop-holds
-    entry-requires
-    index-requires
-    mul-p
-    mul-r
-    array-write-r
-    add-r
-    mul-r-2
-    array-write-r-2
-    add-r-2
-    mul-r-3
-    array-write-r-3
-    add-j
-    add-if1
-    add-i
-    loop-less
-    loop-again
-    loop-less-2
-    loop-again-2
-    returns)
+entries-spec = tie.close (tie.spec Inv-loop μ-loop binomials-requires loop-holds entry-requires index-requires slice-aggregate-store store-requires add-j add-if1 add-i loop-less loop-again loop-less-2 loop-again-2 returns)

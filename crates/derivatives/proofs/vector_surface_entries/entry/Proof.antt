@@ -6,17 +6,8 @@ use Rattle.derivatives.specs.VectorSurfaceAnswer.{vectorSurfaceFormula}
 use borrow.Author.Needs.{needs}
 use denote.Ref.{now}
 use mathlib.Core.Path.{sym, ap, ap₂, _∙_}
-use Prim.Native.Nat.{_-_}
 use Rattle.derivatives.proofs.vector_surface_entries.entry.Statement.{statement}
 use Rattle.derivatives.proofs.vector_surface_entries.entry.Tie as tie
-use Rattle.derivatives.proofs.vector_surface_entries.entry.Reads as reads
-use Rattle.derivatives.proofs.vector_surface_entries.entry.Lts as lts
-use Rattle.derivatives.proofs.vector_surface_entries.surface_at.Reads as surface-at-reads
-use Rattle.derivatives.proofs.vector_surface_entries.cross_entry.Reads as cross-entry-reads
-use Rattle.derivatives.proofs.vector_surface_entries.scaled_entry.Reads as scaled-entry-reads
-use Rattle.derivatives.proofs.vector_surface_entries.rational_entry.Reads as rational-entry-reads
-use Rattle.vectors.proofs.Vector3.add.Reads as add-reads
-use Rattle.vectors.proofs.Vector3.sub.Reads as sub-reads
 
 enum-told : tie.Need-enum-told
 enum-told c = search needs

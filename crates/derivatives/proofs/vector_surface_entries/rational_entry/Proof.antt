@@ -8,18 +8,11 @@ use Rattle.vectors.specs.Vectors.{sum, difference, quotient}
 use borrow.Author.Needs.{needs}
 use denote.Ref.{now}
 use native.Mathlib.Numerals.{add-one}
-use mathlib.Core.Path.{_≡_, refl, ap, ap₂, _∙_}
+use mathlib.Core.Path.{_≡_, ap, ap₂, _∙_}
 use Prim.Native.Nat.{ℕ, suc, _-_, _≤_}
 use native.Mathlib.Omega.{arith}
 use Rattle.derivatives.proofs.vector_surface_entries.rational_entry.Statement.{statement}
 use Rattle.derivatives.proofs.vector_surface_entries.rational_entry.Tie as tie
-use Rattle.derivatives.proofs.vector_surface_entries.rational_entry.Reads as reads
-use Rattle.derivatives.proofs.vector_surface_entries.rational_entry.Lts as lts
-use Rattle.derivatives.proofs.vector_surface_entries.rational_row.Reads as rational-row-reads
-use Rattle.derivatives.proofs.vector_surface_entries.surface_at.Reads as surface-at-reads
-use Rattle.derivatives.proofs.vector_surface_entries.number_at.Reads as number-at-reads
-use Rattle.vectors.proofs.Vector3.sub.Reads as sub-reads
-use Rattle.vectors.proofs.Vector3.div.Reads as div-reads
 
 abbrev Inv-loop : tie.InvT-loop
 Inv-loop x w q c m n sum₀ i₀ sum i = (sum ≡ inRows (vectors .plus) origin (surfaceRationalTerm vectors quotient (surfaceNumbers w) (vectorSurfaceNumbers q) m n) i (suc n)) × (i ≤ suc m)
@@ -27,9 +20,12 @@ Inv-loop x w q c m n sum₀ i₀ sum i = (sum ≡ inRows (vectors .plus) origin 
 abbrev μ-loop : tie.MeasureT-loop
 μ-loop x w q c m n sum₀ i₀ sum i = suc m - i
 
+zero-requires : tie.Need-zero-requires Inv-loop μ-loop
+zero-requires c κs = search needs
+
 loop-holds : tie.Need-loop-holds Inv-loop μ-loop
 unfolding inRows
-loop-holds c = (refl, omega arith)
+loop-holds c = (c .zero .ensures, omega arith)
 
 rational-row-requires : tie.Need-rational-row-requires Inv-loop μ-loop
 rational-row-requires c κs = search needs
@@ -41,7 +37,7 @@ loop-less : tie.Need-loop-less Inv-loop μ-loop
 loop-less c = search needs
 
 loop-again : tie.Need-loop-again Inv-loop μ-loop
-loop-again c = let s = c .before .before .before .args in
+loop-again c = let s = c .before .before .before .before .args in
     (one-row-more (vectors .plus) origin (surfaceRationalTerm vectors quotient (surfaceNumbers (now (s .w))) (vectorSurfaceNumbers (now (s .q))) (s .m) (s .n)) (suc (s .n)) (c .before .before .loop .inv .0) (c .rational-row .ensures) (add-one (c .before .before .loop .i)), omega arith)
 
 surface-at-requires : tie.Need-surface-at-requires Inv-loop μ-loop
@@ -57,7 +53,7 @@ div-requires : tie.Need-div-requires Inv-loop μ-loop
 div-requires c κs = search needs
 
 returns : tie.Need-returns Inv-loop μ-loop
-returns c = let s = c .before .before .before .before .before .before .args in
+returns c = let s = c .before .before .before .before .before .before .before .args in
     let e : c .before .before .before .before .before .loop .i ≡ suc (s .m) = omega arith in
     c .div .ensures ∙ ap₂ quotient (c .before .before .sub .ensures ∙ ap₂ difference (c .before .before .before .surface-at .ensures) (c .before .before .before .before .before .loop .inv .0 ∙ ap (λ (k : ℕ). inRows (vectors .plus) origin (surfaceRationalTerm vectors quotient (surfaceNumbers (now (s .w))) (vectorSurfaceNumbers (now (s .q))) (s .m) (s .n)) k (suc (s .n))) e)) (c .before .number-at .ensures)
 
@@ -67,7 +63,7 @@ rational-entry-spec =
     (tie.spec
     Inv-loop
     μ-loop
-    loop-holds
+    zero-requires loop-holds
     rational-row-requires
     add-i
     loop-less

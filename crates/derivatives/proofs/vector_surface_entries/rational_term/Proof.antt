@@ -3,16 +3,8 @@ use Rattle.derivatives.specs.Real.{real}
 use Rattle.vectors.specs.Vectors.{multiple}
 use borrow.Author.Needs.{needs}
 use mathlib.Core.Path.{ap, ap₂, _∙_}
-use Prim.Native.Nat.{_-_}
 use Rattle.derivatives.proofs.vector_surface_entries.rational_term.Statement.{statement}
 use Rattle.derivatives.proofs.vector_surface_entries.rational_term.Tie as tie
-use Rattle.derivatives.proofs.vector_surface_entries.rational_term.Reads as reads
-use Rattle.derivatives.proofs.vector_surface_entries.rational_term.Lts as lts
-use Rattle.derivatives.proofs.binomial.Reads as binomial-reads
-use Rattle.derivatives.proofs.float.Reads as float-reads
-use Rattle.derivatives.proofs.vector_surface_entries.surface_at.Reads as surface-at-reads
-use Rattle.derivatives.proofs.vector_surface_entries.number_at.Reads as number-at-reads
-use Rattle.vectors.proofs.Vector3.mul.Reads as mul-reads
 
 binomial-requires : tie.Need-binomial-requires
 binomial-requires c κs = search needs

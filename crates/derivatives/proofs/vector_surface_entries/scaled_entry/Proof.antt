@@ -8,14 +8,11 @@ use Rattle.vectors.specs.Vectors.{sum, multiple}
 use borrow.Author.Needs.{needs}
 use denote.Ref.{now}
 use native.Mathlib.Numerals.{add-one}
-use mathlib.Core.Path.{_≡_, refl, ap, _∙_}
+use mathlib.Core.Path.{_≡_, ap, _∙_}
 use Prim.Native.Nat.{ℕ, suc, _-_, _≤_}
 use native.Mathlib.Omega.{arith}
 use Rattle.derivatives.proofs.vector_surface_entries.scaled_entry.Statement.{statement}
 use Rattle.derivatives.proofs.vector_surface_entries.scaled_entry.Tie as tie
-use Rattle.derivatives.proofs.vector_surface_entries.scaled_entry.Reads as reads
-use Rattle.derivatives.proofs.vector_surface_entries.scaled_entry.Lts as lts
-use Rattle.derivatives.proofs.vector_surface_entries.scaled_row.Reads as scaled-row-reads
 
 abbrev Inv-loop : tie.InvT-loop
 Inv-loop a b c m n sum₀ i₀ sum i = (sum ≡ inRows (vectors .plus) origin (leibniz vectors multiple (vectorSurfaceNumbers a) (surfaceNumbers b) m n) i (suc n)) × (i ≤ suc m)
@@ -23,9 +20,12 @@ Inv-loop a b c m n sum₀ i₀ sum i = (sum ≡ inRows (vectors .plus) origin (l
 abbrev μ-loop : tie.MeasureT-loop
 μ-loop a b c m n sum₀ i₀ sum i = suc m - i
 
+zero-requires : tie.Need-zero-requires Inv-loop μ-loop
+zero-requires c κs = search needs
+
 loop-holds : tie.Need-loop-holds Inv-loop μ-loop
 unfolding inRows
-loop-holds c = (refl, omega arith)
+loop-holds c = (c .zero .ensures, omega arith)
 
 scaled-row-requires : tie.Need-scaled-row-requires Inv-loop μ-loop
 scaled-row-requires c κs = search needs
@@ -37,11 +37,11 @@ loop-less : tie.Need-loop-less Inv-loop μ-loop
 loop-less c = search needs
 
 loop-again : tie.Need-loop-again Inv-loop μ-loop
-loop-again c = let s = c .before .before .before .args in
+loop-again c = let s = c .before .before .before .before .args in
     (one-row-more (vectors .plus) origin (leibniz vectors multiple (vectorSurfaceNumbers (now (s .a))) (surfaceNumbers (now (s .b))) (s .m) (s .n)) (suc (s .n)) (c .before .before .loop .inv .0) (c .scaled-row .ensures) (add-one (c .before .before .loop .i)), omega arith)
 
 returns : tie.Need-returns Inv-loop μ-loop
-returns c = let s = c .before .before .args in
+returns c = let s = c .before .before .before .args in
     let e : c .before .loop .i ≡ suc (s .m) = omega arith in
     c .before .loop .inv .0 ∙ ap (λ (k : ℕ). inRows (vectors .plus) origin (leibniz vectors multiple (vectorSurfaceNumbers (now (s .a))) (surfaceNumbers (now (s .b))) (s .m) (s .n)) k (suc (s .n))) e
 
@@ -51,7 +51,7 @@ scaled-entry-spec =
     (tie.spec
     Inv-loop
     μ-loop
-    loop-holds
+    zero-requires loop-holds
     scaled-row-requires
     add-i
     loop-less

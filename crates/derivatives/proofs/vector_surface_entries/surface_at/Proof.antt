@@ -4,14 +4,9 @@ use Rattle.derivatives.specs.Vector.{vectorNumbers}
 use borrow.Author.Needs.{needs}
 use denote.Ref.{now}
 use mathlib.Core.Path.{ap, _∙_}
-use Prim.Native.Nat.{_-_}
 use native.Mathlib.Omega.{arith}
 use Rattle.derivatives.proofs.vector_surface_entries.surface_at.Statement.{statement}
 use Rattle.derivatives.proofs.vector_surface_entries.surface_at.Tie as tie
-use Rattle.derivatives.proofs.vector_surface_entries.surface_at.Reads as reads
-use Rattle.derivatives.proofs.vector_surface_entries.surface_at.Lts as lts
-use Rattle.derivatives.proofs.index.Reads as index-reads
-use Rattle.derivatives.proofs.vector_array.vector_at.Reads as vector-at-reads
 
 index-requires : tie.Need-index-requires
 index-requires c κs = search needs

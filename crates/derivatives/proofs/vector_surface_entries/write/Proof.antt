@@ -1,5 +1,6 @@
 -- `derivatives::vector_surface_entries::write` meets its contract. The invariant: the entries passed are written. Assumes nothing.
-use Rattle.derivatives.proofs.VectorSurfaces.{flat-length, three-in-list, three-more}
+use Rattle.derivatives.proofs.VectorSurfaces.{three-in-list, three-more}
+use Rattle.derivatives.proofs.Vectors.{flat-length}
 use Rattle.derivatives.specs.Vector.{flat, vectorSurfaceNumbers}
 use Rattle.calculus.proofs.Writing.{Writing, writing-begins, writing-turns, writing-ends, rows-length}
 use Rattle.calculus.proofs.Left.{Inside, surfaceLeft, surface-start, surface-next, surface-row, surface-end}
@@ -9,22 +10,19 @@ use Rattle.calculus.specs.Order.{surfaceEntries}
 use Rattle.vectors.specs.declared.Vector3.{Vector3}
 use borrow.Author.Needs.{needs}
 use denote.Ref.{now}
-use lib.ListN.{length, length-set}
+use lib.ListN.{length}
 use mathlib.Core.List.{_∷_}
 use mathlib.Core.Path.{_≡_, sym, ap, _∙_}
-use Prim.Native.Nat.{ℕ, suc, _+_, _-_, _*_, _≤_, _<_}
+use Prim.Native.Nat.{ℕ, suc, _+_, _-_, _*_, _<_}
 use native.Mathlib.Omega.{arith}
 use Rattle.derivatives.proofs.vector_surface_entries.write.Statement.{statement}
 use Rattle.derivatives.proofs.vector_surface_entries.write.Tie as tie
-use Rattle.derivatives.proofs.vector_surface_entries.write.Reads as reads
-use Rattle.derivatives.proofs.vector_surface_entries.write.Lts as lts
-use Rattle.derivatives.proofs.vector_surface_entries.surface_at.Reads as surface-at-reads
 
 listed-length : (s : ℕ → ℕ → Vector3) (n : ℕ) → length (flat (surfaceEntries s n)) ≡ 3 * triangle (suc n)
 listed-length s n = flat-length (surfaceEntries s n) ∙ ap (_*_ 3) (rows-length s 0 (suc n))
 
 abbrev Inv-loop : tie.InvT-loop
-Inv-loop a n out₀ i₀ j₀ l₀ out i j l = Writing (flat (surfaceEntries (vectorSurfaceNumbers a) n)) out (flat (surfaceLeft (vectorSurfaceNumbers a) n i j)) l × Inside n i j
+Inv-loop a n out₀ i₀ j₀ l₀ out i j l = Writing (flat (surfaceEntries (vectorSurfaceNumbers a) n)) out (flat (surfaceLeft (vectorSurfaceNumbers a) n i j)) (3 * l) × Inside n i j
 
 abbrev μ-loop : tie.MeasureT-loop
 μ-loop a n out₀ i₀ j₀ l₀ out i j l = (suc n - i) * 22 + (suc n - j)
@@ -37,97 +35,49 @@ loop-holds c = let s = c .before .args in
 surface-at-requires : tie.Need-surface-at-requires Inv-loop μ-loop
 surface-at-requires c κs = omega (arith, c .before .loop .inv .1 .1 (c .loop-test .taken))
 
-mul-out : tie.Need-mul-out Inv-loop μ-loop
-mul-out c = let s = c .before .before .before .before .args in
+store-requires : tie.Need-store-requires Inv-loop μ-loop
+store-requires c κs = let s = c .before .before .before .before .before .args in
     let x = vectorSurfaceNumbers (now (s .a)) in
-    let p = c .before .before .loop in
-    let h : p .l + 2 < length (p .out) = three-in-list (flat (surfaceEntries x (s .n))) (p .inv .0) (surface-next x (s .n) (p .i) (p .j) (p .inv .1 .1 (c .before .loop-test .taken))) in
-    omega (arith, h, p .inv .0 .long, listed-length x (s .n), room-231 (s .n) (c .before .before .before .before .pre .0))
-
-slice-write-out : tie.Need-slice-write-out Inv-loop μ-loop
-slice-write-out c = let s = c .before .before .before .before .args in
-    let x = vectorSurfaceNumbers (now (s .a)) in
-    let p = c .before .before .loop in
-    let h : p .l + 2 < length (p .out) = three-in-list (flat (surfaceEntries x (s .n))) (p .inv .0) (surface-next x (s .n) (p .i) (p .j) (p .inv .1 .1 (c .before .loop-test .taken))) in
-    omega arith
-
-add-out : tie.Need-add-out Inv-loop μ-loop
-add-out c = let s = c .before .before .before .before .args in
-    let x = vectorSurfaceNumbers (now (s .a)) in
-    let p = c .before .before .loop in
-    let h : p .l + 2 < length (p .out) = three-in-list (flat (surfaceEntries x (s .n))) (p .inv .0) (surface-next x (s .n) (p .i) (p .j) (p .inv .1 .1 (c .before .loop-test .taken))) in
-    omega (arith, h, p .inv .0 .long, listed-length x (s .n), room-231 (s .n) (c .before .before .before .before .pre .0))
-
-mul-out-2 : tie.Need-mul-out-2 Inv-loop μ-loop
-mul-out-2 c = let s = c .before .before .before .before .args in
-    let x = vectorSurfaceNumbers (now (s .a)) in
-    let p = c .before .before .loop in
-    let h : p .l + 2 < length (p .out) = three-in-list (flat (surfaceEntries x (s .n))) (p .inv .0) (surface-next x (s .n) (p .i) (p .j) (p .inv .1 .1 (c .before .loop-test .taken))) in
-    omega (arith, h, p .inv .0 .long, listed-length x (s .n), room-231 (s .n) (c .before .before .before .before .pre .0))
-
-slice-write-out-2 : tie.Need-slice-write-out-2 Inv-loop μ-loop
-slice-write-out-2 c = let s = c .before .before .before .before .args in
-    let x = vectorSurfaceNumbers (now (s .a)) in
-    let p = c .before .before .loop in
-    let h : p .l + 2 < length (p .out) = three-in-list (flat (surfaceEntries x (s .n))) (p .inv .0) (surface-next x (s .n) (p .i) (p .j) (p .inv .1 .1 (c .before .loop-test .taken))) in
-    simp length-set (omega arith)
-
-add-out-2 : tie.Need-add-out-2 Inv-loop μ-loop
-add-out-2 c = let s = c .before .before .before .before .args in
-    let x = vectorSurfaceNumbers (now (s .a)) in
-    let p = c .before .before .loop in
-    let h : p .l + 2 < length (p .out) = three-in-list (flat (surfaceEntries x (s .n))) (p .inv .0) (surface-next x (s .n) (p .i) (p .j) (p .inv .1 .1 (c .before .loop-test .taken))) in
-    omega (arith, h, p .inv .0 .long, listed-length x (s .n), room-231 (s .n) (c .before .before .before .before .pre .0))
-
-mul-out-3 : tie.Need-mul-out-3 Inv-loop μ-loop
-mul-out-3 c = let s = c .before .before .before .before .args in
-    let x = vectorSurfaceNumbers (now (s .a)) in
-    let p = c .before .before .loop in
-    let h : p .l + 2 < length (p .out) = three-in-list (flat (surfaceEntries x (s .n))) (p .inv .0) (surface-next x (s .n) (p .i) (p .j) (p .inv .1 .1 (c .before .loop-test .taken))) in
-    omega (arith, h, p .inv .0 .long, listed-length x (s .n), room-231 (s .n) (c .before .before .before .before .pre .0))
-
-slice-write-out-3 : tie.Need-slice-write-out-3 Inv-loop μ-loop
-slice-write-out-3 c = let s = c .before .before .before .before .args in
-    let x = vectorSurfaceNumbers (now (s .a)) in
-    let p = c .before .before .loop in
-    let h : p .l + 2 < length (p .out) = three-in-list (flat (surfaceEntries x (s .n))) (p .inv .0) (surface-next x (s .n) (p .i) (p .j) (p .inv .1 .1 (c .before .loop-test .taken))) in
-    simp length-set (omega arith)
+    let p = c .before .before .before .loop in
+    three-in-list (flat (surfaceEntries x (s .n))) (p .l) (p .inv .0) (surface-next x (s .n) (p .i) (p .j) (p .inv .1 .1 (c .before .before .loop-test .taken)))
 
 add-l : tie.Need-add-l Inv-loop μ-loop
-add-l c = let s = c .before .before .before .before .args in
+add-l c = let s = c .before .before .before .before .before .before .before .before .args in
     let x = vectorSurfaceNumbers (now (s .a)) in
-    let p = c .before .before .loop in
-    let h : p .l + 2 < length (p .out) = three-in-list (flat (surfaceEntries x (s .n))) (p .inv .0) (surface-next x (s .n) (p .i) (p .j) (p .inv .1 .1 (c .before .loop-test .taken))) in
-    omega (arith, h, p .inv .0 .long, listed-length x (s .n), room-231 (s .n) (c .before .before .before .before .pre .0))
+    let p = c .before .before .before .before .before .before .loop in
+    let h : 3 * p .l + 2 < length (p .out) = three-in-list (flat (surfaceEntries x (s .n))) (p .l) (p .inv .0) (surface-next x (s .n) (p .i) (p .j) (p .inv .1 .1 (c .before .before .before .before .before .loop-test .taken))) in
+    omega (arith, h, p .inv .0 .long, listed-length x (s .n), room-231 (s .n) (c .before .before .before .before .before .before .before .before .pre .0))
 
 add-j : tie.Need-add-j Inv-loop μ-loop
-add-j c = omega (arith, c .before .before .loop .inv .1 .1 (c .before .loop-test .taken))
+add-j c = omega (arith, c .before .before .before .before .before .before .loop .inv .1 .1 (c .before .before .before .before .before .loop-test .taken))
 
 add-if1 : tie.Need-add-if1 Inv-loop μ-loop
-add-if1 c = omega (arith, c .before .before .loop .inv .1 .1 (c .before .loop-test .taken))
+add-if1 c = omega (arith, c .before .before .before .before .before .before .loop .inv .1 .1 (c .before .before .before .before .before .loop-test .taken))
 
 add-i : tie.Need-add-i Inv-loop μ-loop
 add-i c = search needs
 
 loop-less : tie.Need-loop-less Inv-loop μ-loop
-loop-less c = omega (arith, c .before .before .before .loop .inv .1 .1 (c .before .before .loop-test .taken))
+loop-less c = omega (arith, c .before .before .before .before .before .before .before .loop .inv .1 .1 (c .before .before .before .before .before .before .loop-test .taken))
 
 loop-again : tie.Need-loop-again Inv-loop μ-loop
-loop-again c = let s = c .before .before .before .before .before .args in
+loop-again c = let s = c .before .before .before .before .before .before .before .before .before .args in
     let x = vectorSurfaceNumbers (now (s .a)) in
-    let p = c .before .before .before .loop in
+    let p = c .before .before .before .before .before .before .before .loop in
     let a = flat (surfaceEntries x (s .n)) in
-    (writing-turns a (three-more a (p .inv .0) (surface-next x (s .n) (p .i) (p .j) (p .inv .1 .1 (c .before .before .loop-test .taken)) ∙ ap (λ (v : Vector3). v ∷ surfaceLeft x (s .n) (p .i) (p .j + 1)) (sym (c .before .surface-at .ensures)))) (ap flat (surface-row x (s .n) (p .i) (p .j + 1) (c .if1 .taken))), (omega arith, λ h. omega arith))
+    let w = three-more a (p .l) (p .inv .0) (surface-next x (s .n) (p .i) (p .j) (p .inv .1 .1 (c .before .before .before .before .before .before .loop-test .taken)) ∙ ap (λ (v : Vector3). v ∷ surfaceLeft x (s .n) (p .i) (p .j + 1)) (sym (c .before .before .before .before .before .surface-at .ensures))) (c .before .before .before .store .ensures) in
+    (writing-turns a w (ap flat (surface-row x (s .n) (p .i) (p .j + 1) (c .if1 .taken))), (omega arith, λ h. omega arith))
 
 loop-less-2 : tie.Need-loop-less-2 Inv-loop μ-loop
-loop-less-2 c = omega (arith, c .before .before .before .loop .inv .1 .1 (c .before .before .loop-test .taken))
+loop-less-2 c = omega (arith, c .before .before .before .before .before .before .before .loop .inv .1 .1 (c .before .before .before .before .before .before .loop-test .taken))
 
 loop-again-2 : tie.Need-loop-again-2 Inv-loop μ-loop
-loop-again-2 c = let s = c .before .before .before .before .before .args in
+loop-again-2 c = let s = c .before .before .before .before .before .before .before .before .before .args in
     let x = vectorSurfaceNumbers (now (s .a)) in
-    let p = c .before .before .before .loop in
+    let p = c .before .before .before .before .before .before .before .loop in
     let a = flat (surfaceEntries x (s .n)) in
-    (three-more a (p .inv .0) (surface-next x (s .n) (p .i) (p .j) (p .inv .1 .1 (c .before .before .loop-test .taken)) ∙ ap (λ (v : Vector3). v ∷ surfaceLeft x (s .n) (p .i) (p .j + 1)) (sym (c .before .surface-at .ensures))), (omega arith, λ h. c .if1 .left))
+    let w = three-more a (p .l) (p .inv .0) (surface-next x (s .n) (p .i) (p .j) (p .inv .1 .1 (c .before .before .before .before .before .before .loop-test .taken)) ∙ ap (λ (v : Vector3). v ∷ surfaceLeft x (s .n) (p .i) (p .j + 1)) (sym (c .before .before .before .before .before .surface-at .ensures))) (c .before .before .before .store .ensures) in
+    (w, (omega arith, λ h. c .if1 .left))
 
 same-length : tie.Need-same-length Inv-loop μ-loop
 same-length c = let s = c .before .before .before .args in
@@ -148,14 +98,7 @@ write-spec =
     μ-loop
     loop-holds
     surface-at-requires
-    mul-out
-    slice-write-out
-    add-out
-    mul-out-2
-    slice-write-out-2
-    add-out-2
-    mul-out-3
-    slice-write-out-3
+    store-requires
     add-l
     add-j
     add-if1

@@ -1,14 +1,9 @@
 -- `derivatives::vector_surface_norm::at_end` meets its contract. Assumes nothing.
 use mathlib.Core.Bool.{_||_}
-use borrow.Author.Needs.{needs}
 use mathlib.Core.Path.{ap₂, _∙_}
-use Prim.Native.Nat.{_-_}
+use borrow.Author.Needs.{needs}
 use Rattle.derivatives.proofs.vector_surface_norm.at_end.Statement.{statement}
 use Rattle.derivatives.proofs.vector_surface_norm.at_end.Tie as tie
-use Rattle.derivatives.proofs.vector_surface_norm.at_end.Reads as reads
-use Rattle.derivatives.proofs.vector_surface_norm.at_end.Lts as lts
-use Rattle.derivatives.proofs.vector_surface_norm.both.Reads as both-reads
-use Rattle.derivatives.proofs.vector_surface_norm.either.Reads as either-reads
 
 both-requires : tie.Need-both-requires
 both-requires c κs = search needs

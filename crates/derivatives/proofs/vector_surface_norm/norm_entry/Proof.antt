@@ -7,23 +7,12 @@ use Rattle.ieee.specs.SquareRoot.{squareRoot}
 use Rattle.vectors.specs.Vectors.{dot, magnitude}
 use Rattle.calculus.specs.Kind.{regular}
 use Rattle.calculus.specs.Surface.{productBy}
-use mathlib.Core.Bool.{_&&_}
-use lib.Dec.{eqb}
-use Rattle.derivatives.proofs.Answers.{yes, no}
+use Rattle.ieee.proofs.Tests.{first, second}
 use borrow.Author.Needs.{needs}
 use denote.Ref.{now}
 use mathlib.Core.Path.{sym, ap, ap₂, _∙_}
-use Prim.Native.Nat.{_-_}
 use Rattle.derivatives.proofs.vector_surface_norm.norm_entry.Statement.{statement}
 use Rattle.derivatives.proofs.vector_surface_norm.norm_entry.Tie as tie
-use Rattle.derivatives.proofs.vector_surface_norm.norm_entry.Reads as reads
-use Rattle.derivatives.proofs.vector_surface_norm.norm_entry.Lts as lts
-use Rattle.derivatives.proofs.vector_surface_norm.both.Reads as both-reads
-use Rattle.derivatives.proofs.vector_surface_entries.surface_at.Reads as surface-at-reads
-use Rattle.vectors.proofs.Vector3.magnitude.Reads as magnitude-reads
-use Rattle.derivatives.proofs.vector_surface_entries.dot_entry.Reads as dot-entry-reads
-use Rattle.derivatives.proofs.vector_surface_norm.others.Reads as others-reads
-use Rattle.derivatives.proofs.vector_surface_entries.number_at.Reads as number-at-reads
 
 both-requires : tie.Need-both-requires
 both-requires c κs = search needs
@@ -36,7 +25,7 @@ magnitude-requires c κs = search needs
 
 returns : tie.Need-returns
 returns c = let s = c .before .before .before .before .args in
-    c .magnitude .ensures ∙ ap magnitude (c .before .surface-at .ensures) ∙ sym (yes (eqb (s .m) 0 && eqb (s .n) 0) (squareRoot (dot ((vectorSurfaceNumbers (now (s .s))) 0 0) ((vectorSurfaceNumbers (now (s .s))) 0 0))) (real .over (real .minus (productBy (regular real) dot (vectorSurfaceNumbers (now (s .s))) (vectorSurfaceNumbers (now (s .s))) (s .m) (s .n)) (others real squareRoot dot (surfaceNumbers (now (s .q))) (s .m) (s .n))) (real .plus ((surfaceNumbers (now (s .q))) 0 0) ((surfaceNumbers (now (s .q))) 0 0))) (sym (c .before .before .before .both .ensures) ∙ c .before .before .if1 .taken))
+    c .magnitude .ensures ∙ ap magnitude (c .before .surface-at .ensures) ∙ sym (first (squareRoot (dot ((vectorSurfaceNumbers (now (s .s))) 0 0) ((vectorSurfaceNumbers (now (s .s))) 0 0))) (real .over (real .minus (productBy (regular real) dot (vectorSurfaceNumbers (now (s .s))) (vectorSurfaceNumbers (now (s .s))) (s .m) (s .n)) (others real squareRoot dot (surfaceNumbers (now (s .q))) (s .m) (s .n))) (real .plus ((surfaceNumbers (now (s .q))) 0 0) ((surfaceNumbers (now (s .q))) 0 0))) (sym (c .before .before .before .both .ensures) ∙ c .before .before .if1 .taken))
 
 dot-entry-requires : tie.Need-dot-entry-requires
 dot-entry-requires c κs = search needs
@@ -49,7 +38,7 @@ number-at-requires c κs = search needs
 
 returns-2 : tie.Need-returns-2
 returns-2 c = let s = c .before .before .before .before .before .args in
-    ap₂ (real .over) (ap₂ (real .minus) (c .before .before .dot-entry .ensures) (c .before .others .ensures)) (ap₂ (real .plus) (c .number-at .ensures) (c .number-at .ensures)) ∙ sym (no (eqb (s .m) 0 && eqb (s .n) 0) (squareRoot (dot ((vectorSurfaceNumbers (now (s .s))) 0 0) ((vectorSurfaceNumbers (now (s .s))) 0 0))) (real .over (real .minus (productBy (regular real) dot (vectorSurfaceNumbers (now (s .s))) (vectorSurfaceNumbers (now (s .s))) (s .m) (s .n)) (others real squareRoot dot (surfaceNumbers (now (s .q))) (s .m) (s .n))) (real .plus ((surfaceNumbers (now (s .q))) 0 0) ((surfaceNumbers (now (s .q))) 0 0))) (sym (c .before .before .before .before .both .ensures) ∙ c .before .before .before .if1 .left))
+    ap₂ (real .over) (ap₂ (real .minus) (c .before .before .dot-entry .ensures) (c .before .others .ensures)) (ap₂ (real .plus) (c .number-at .ensures) (c .number-at .ensures)) ∙ sym (second (squareRoot (dot ((vectorSurfaceNumbers (now (s .s))) 0 0) ((vectorSurfaceNumbers (now (s .s))) 0 0))) (real .over (real .minus (productBy (regular real) dot (vectorSurfaceNumbers (now (s .s))) (vectorSurfaceNumbers (now (s .s))) (s .m) (s .n)) (others real squareRoot dot (surfaceNumbers (now (s .q))) (s .m) (s .n))) (real .plus ((surfaceNumbers (now (s .q))) 0 0) ((surfaceNumbers (now (s .q))) 0 0))) (sym (c .before .before .before .before .both .ensures) ∙ c .before .before .before .if1 .left))
 
 pub norm-entry-spec : {M : Type 1} → statement M
 norm-entry-spec = tie.close (tie.spec both-requires surface-at-requires magnitude-requires returns dot-entry-requires others-requires number-at-requires returns-2)

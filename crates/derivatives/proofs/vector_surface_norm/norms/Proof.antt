@@ -11,11 +11,6 @@ use Prim.Native.Nat.{suc, _+_, _-_, _*_, _≤_}
 use native.Mathlib.Omega.{arith}
 use Rattle.derivatives.proofs.vector_surface_norm.norms.Statement.{statement}
 use Rattle.derivatives.proofs.vector_surface_norm.norms.Tie as tie
-use Rattle.derivatives.proofs.vector_surface_norm.norms.Reads as reads
-use Rattle.derivatives.proofs.vector_surface_norm.norms.Lts as lts
-use Rattle.calculus.proofs.binomials.Reads as binomials-reads
-use Rattle.derivatives.proofs.vector_surface_norm.norm_entry.Reads as norm-entry-reads
-use Rattle.derivatives.proofs.index.Reads as index-reads
 
 abbrev Inv-loop : tie.InvT-loop
 Inv-loop s n c r₀ i₀ j₀ r i j = (l : n ≤ 20) × SurfaceProgress (vectorSurfaceNorm (vectorSurfaceNumbers s)) l i j r

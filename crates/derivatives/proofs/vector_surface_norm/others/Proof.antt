@@ -12,9 +12,6 @@ use Prim.Native.Nat.{ℕ, suc, _-_, _≤_}
 use native.Mathlib.Omega.{arith}
 use Rattle.derivatives.proofs.vector_surface_norm.others.Statement.{statement}
 use Rattle.derivatives.proofs.vector_surface_norm.others.Tie as tie
-use Rattle.derivatives.proofs.vector_surface_norm.others.Reads as reads
-use Rattle.derivatives.proofs.vector_surface_norm.others.Lts as lts
-use Rattle.derivatives.proofs.vector_surface_norm.others_row.Reads as others-row-reads
 
 abbrev Inv-loop : tie.InvT-loop
 Inv-loop q c m n sum₀ i₀ sum i = (sum ≡ inRows (withOther (surfaceNumbers q) m n) nil (λ i j. (i, j)) i (suc n)) × (i ≤ suc m)

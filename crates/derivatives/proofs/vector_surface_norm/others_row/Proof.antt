@@ -11,9 +11,6 @@ use Prim.Native.Nat.{suc, _-_, _≤_}
 use native.Mathlib.Omega.{arith}
 use Rattle.derivatives.proofs.vector_surface_norm.others_row.Statement.{statement}
 use Rattle.derivatives.proofs.vector_surface_norm.others_row.Tie as tie
-use Rattle.derivatives.proofs.vector_surface_norm.others_row.Reads as reads
-use Rattle.derivatives.proofs.vector_surface_norm.others_row.Lts as lts
-use Rattle.derivatives.proofs.vector_surface_norm.with_other.Reads as with-other-reads
 
 abbrev Inv-loop : tie.InvT-loop
 Inv-loop start q c m n i sum₀ j₀ sum j = (sum ≡ inTurn (withOther (surfaceNumbers q) m n) start (λ j. (i, j)) j) × (j ≤ suc n)

@@ -1,15 +1,11 @@
--- `derivatives::vector_surface_entries::coefficient` meets its contract. Assumes nothing.
+-- `derivatives::surface::coefficient` meets its contract. Assumes nothing.
 use Rattle.derivatives.proofs.Terms.{small-product}
 use Rattle.derivatives.specs.Real.{real}
 use borrow.Author.Needs.{needs}
 use mathlib.Core.Path.{ap, ap₂, _∙_}
-use Prim.Native.Nat.{_-_, _*_}
-use Rattle.derivatives.proofs.vector_surface_entries.coefficient.Statement.{statement}
-use Rattle.derivatives.proofs.vector_surface_entries.coefficient.Tie as tie
-use Rattle.derivatives.proofs.vector_surface_entries.coefficient.Reads as reads
-use Rattle.derivatives.proofs.vector_surface_entries.coefficient.Lts as lts
-use Rattle.derivatives.proofs.binomial.Reads as binomial-reads
-use Rattle.derivatives.proofs.float.Reads as float-reads
+use Prim.Native.Nat.{_*_}
+use Rattle.derivatives.proofs.surface.coefficient.Statement.{statement}
+use Rattle.derivatives.proofs.surface.coefficient.Tie as tie
 
 binomial-requires : tie.Need-binomial-requires
 binomial-requires c κs = search needs

@@ -1,13 +1,9 @@
--- `derivatives::curve::division_by_zero` meets its contract. Assumes nothing.
+-- `derivatives::formula::division_by_zero` meets its contract. Assumes nothing.
 use Rattle.derivatives.specs.Formula.{divisionByZero}
-use mathlib.Core.Path.{_≡_, refl, sym, ap, ap₂, _∙_}
-use Prim.Native.Nat.{ℕ, suc, _+_, _-_, _≤_, _<_}
-use native.Mathlib.Omega.{arith}
+use mathlib.Core.Path.{sym, ap}
 use borrow.Author.Needs.{needs}
-use Rattle.derivatives.proofs.curve.division_by_zero.Statement.{statement}
-use Rattle.derivatives.proofs.curve.division_by_zero.Tie as tie
-use Rattle.derivatives.proofs.curve.division_by_zero.Reads as reads
-use Rattle.derivatives.proofs.curve.division_by_zero.Lts as lts
+use Rattle.derivatives.proofs.formula.division_by_zero.Statement.{statement}
+use Rattle.derivatives.proofs.formula.division_by_zero.Tie as tie
 
 enum-told : tie.Need-enum-told
 enum-told c = search needs

@@ -1,13 +1,11 @@
--- `derivatives::vector_surface::far_sum` meets its contract. Assumes nothing.
+-- `derivatives::orders::far_sum` meets its contract. Assumes nothing.
 use borrow.Author.Tests.{lt-ltb}
 use borrow.Author.Needs.{needs}
 use mathlib.Core.Path.{refl, sym}
-use Prim.Native.Nat.{_+_, _-_}
+use Prim.Native.Nat.{_+_}
 use native.Mathlib.Omega.{arith}
-use Rattle.derivatives.proofs.vector_surface.far_sum.Statement.{statement}
-use Rattle.derivatives.proofs.vector_surface.far_sum.Tie as tie
-use Rattle.derivatives.proofs.vector_surface.far_sum.Reads as reads
-use Rattle.derivatives.proofs.vector_surface.far_sum.Lts as lts
+use Rattle.derivatives.proofs.orders.far_sum.Statement.{statement}
+use Rattle.derivatives.proofs.orders.far_sum.Tie as tie
 
 returns : tie.Need-returns
 returns c = let s = c .before .args in
