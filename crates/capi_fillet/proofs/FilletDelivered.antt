@@ -16,7 +16,8 @@ use Rattle.calculus.specs.Order.{curveEntries}
 use Rattle.derivatives.specs.Real.{isZero}
 use Rattle.derivatives.specs.Answer.{curveNumbers, finiteCurve, pairs, parameterIntoList}
 use Rattle.derivatives.specs.Vector.{vectorNumbers, finiteVectors, flat}
-use Rattle.derivatives.specs.VectorAnswer.{far as farApart, vectorIntoList}
+use Rattle.derivatives.specs.Answer.{far as farApart}
+use Rattle.derivatives.specs.VectorAnswer.{vectorIntoList}
 use Rattle.derivatives.specs.declared.CurveDerivatives.{CurveDerivatives}
 use Rattle.derivatives.specs.declared.ParameterCurve.{ParameterCurve}
 use Rattle.derivatives.specs.declared.VectorCurveDerivatives.{VectorCurveDerivatives}

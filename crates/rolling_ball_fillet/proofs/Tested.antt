@@ -16,7 +16,7 @@ use Rattle.vectors.specs.Matrices.{determinant2, determinant3}
 use Rattle.derivatives.specs.Real.{nil, isZero}
 use Rattle.derivatives.specs.Answer.{curveNumbers, allFinite, finiteCurve}
 use Rattle.derivatives.specs.Vector.{origin, vectorNumbers, allVectorsFinite, finiteVectors}
-use Rattle.derivatives.specs.VectorAnswer.{tested, far}
+use Rattle.derivatives.specs.Answer.{tested, far}
 use Rattle.derivatives.specs.declared.CurveDerivatives.{CurveDerivatives}
 use Rattle.rolling_ball_fillet.specs.SurfaceInfo.{apart, form}
 use Rattle.rolling_ball_fillet.specs.Center.{radii, first, second, start, planes, contactsOf, answeredContacts, refusedContacts, centerContacts, farJets, beyond, short, finiteGiven, returnedContacts, centerContactAnswer}

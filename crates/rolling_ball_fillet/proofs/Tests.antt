@@ -4,7 +4,7 @@ use mathlib.Core.Bool.{Bool, true, false, _||_}
 use Prim.Native.Nat.{ℕ, _≤_}
 use borrow.Author.Tests.{ltb-false}
 use lib.Dec.{ltb}
-use Rattle.derivatives.specs.VectorAnswer.{tested, far}
+use Rattle.derivatives.specs.Answer.{tested, far}
 
 -- the tests before the work, each with what is known of it
 pub as-tested : {A : Type 0} (refused : ℕ → A) (r : A) (far unfit finite : Bool) {p q s : Bool} → far ≡ p → unfit ≡ q → finite ≡ s →

@@ -15,7 +15,7 @@ use Rattle.calculus.specs.Curve.{derivative, difference, productBy}
 use Rattle.derivatives.specs.Real.{real, isZero}
 use Rattle.derivatives.specs.Answer.{curveNumbers, finiteCurve}
 use Rattle.derivatives.specs.Vector.{vectors, vectorNumbers, vectorSurfaceNumbers, finiteVectors, finiteVectorSurface}
-use Rattle.derivatives.specs.VectorAnswer.{tested, far}
+use Rattle.derivatives.specs.Answer.{tested, far}
 use Rattle.rolling_ball_fillet.specs.Answers.{finiteCircle}
 use Rattle.rolling_ball_fillet.specs.Jets.{noDers, finiteJet, finiteParameter}
 use Rattle.rolling_ball_fillet.specs.SurfaceInfo.{put, begun, initial, apart, form, routine}

@@ -11,7 +11,7 @@ use Rattle.vectors.specs.declared.VectorAnswer.the-variants.{Refused}
 use Rattle.vectors.specs.Answers.{returnedVector}
 use Rattle.derivatives.specs.Real.{nil}
 use Rattle.derivatives.specs.Answer.{curveNumbers}
-use Rattle.derivatives.specs.VectorAnswer.{tested}
+use Rattle.derivatives.specs.Answer.{tested}
 use Rattle.derivatives.specs.declared.CurveDerivatives.{CurveDerivatives}
 use Rattle.rolling_ball_fillet.specs.Center.{finiteContacts}
 use Rattle.rolling_ball_fillet.specs.Jets.{noVectors, noNumbers, noDers, farContacts, shortContacts, finiteJet, finiteNumbers}

@@ -9,7 +9,7 @@ use Rattle.vectors.specs.declared.Vector3.{Vector3}
 use Rattle.vectors.specs.declared.VectorAnswer.{VectorAnswer}
 use Rattle.vectors.specs.declared.VectorAnswer.the-variants.{Refused}
 use Rattle.vectors.specs.Answers.{returnedVector, vectorFrom}
-use Rattle.derivatives.specs.VectorAnswer.{far}
+use Rattle.derivatives.specs.Answer.{far}
 use Rattle.rolling_ball_fillet.specs.Circle.{derivative}
 use Rattle.rolling_ball_fillet.specs.Center.{radii, centerContacts, farJets, short, finiteGiven, finiteWhole}
 use Rattle.rolling_ball_fillet.specs.Partials.{derivativeV, derivativeUV, derivativeVV}

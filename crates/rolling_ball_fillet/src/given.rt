@@ -2,7 +2,7 @@
 ghost use mathlib.Core.Path.{_≡_};
 ghost use mathlib.Core.Bool.{false};
 ghost use Prim.Native.Nat.{_≤_, _<_};
-ghost use Rattle.derivatives.specs.VectorAnswer.{far as farOf};
+ghost use Rattle.derivatives.specs.Answer.{far as farOf};
 ghost use Rattle.rolling_ball_fillet.specs.Center.{farJets, beyond as beyondOf, short as shortOf, finiteUpTo, finiteGiven, finiteWhole, finiteContacts, returnedContacts};
 use crate::CenterContactAnswer;
 use crate::CenterContactDers;

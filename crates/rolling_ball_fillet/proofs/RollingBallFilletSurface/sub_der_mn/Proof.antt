@@ -4,7 +4,7 @@ use Rattle.vectors.specs.declared.VectorAnswer.the-variants.{Refused}
 use Rattle.rolling_ball_fillet.specs.declared.sub_der.Decision.{Decision}
 use Rattle.rolling_ball_fillet.specs.SubDer.{decided, byDecision}
 use Rattle.rolling_ball_fillet.specs.Center.{farJets}
-use Rattle.derivatives.specs.VectorAnswer.{far}
+use Rattle.derivatives.specs.Answer.{far}
 use Rattle.rolling_ball_fillet.proofs.Tests.{or-right}
 use borrow.Author.Needs.{needs}
 use mathlib.Core.Path.{sym, ap, _∙_}
