@@ -6,7 +6,7 @@ Run in the repository's root:  python3 tools/replay_sqrt.py   (writes crates/rep
 Nothing here is taken from the library. A case is a line of words (cases.py): a float's bits, those of its square root, and what square_root
 answers: 0 and the bits, or a refusal of document 01 (5 an input that is not finite, 10 a returned float that is not) and 0. The roots are
 found with math.isqrt on the scaled significand and compared with math.sqrt, which is rounded correctly wherever the machine's own square
-root is. A NaN is wanted as 7ff8000000000000.
+root is. Published decimal expansions, rounded to a float, are wanted where there are any. A NaN is wanted as 7ff8000000000000.
 """
 import math
 import random
@@ -17,6 +17,15 @@ import cases
 NAN = 0x7FF8000000000000
 INFINITY = 0x7FF0000000000000
 SIGN = 1 << 63
+
+# The On-Line Encyclopedia of Integer Sequences: A002193, A002194, A002163, A010464, A010465.
+PUBLISHED = {
+    2: '1.41421356237309504880168872420969807856967187537694',
+    3: '1.73205080756887729352744634150587236694280525381038',
+    5: '2.23606797749978969640917366873127623544061835961152',
+    6: '2.44948974278317809819728407470589139196594748065667',
+    7: '2.64575131106459059050161575363926042571025918308245',
+}
 
 
 def to_float(bits):
@@ -54,6 +63,8 @@ def expected(bits):
         return NAN
     found = root(bits)
     assert found == to_bits(math.sqrt(to_float(bits))), hex(bits)
+    published = PUBLISHED.get(to_float(bits))
+    assert published is None or found == to_bits(float(published)), published
     return found
 
 
@@ -88,7 +99,7 @@ def near_middles():
 
 def vectors():
     out = [0, SIGN, 1, 2, 3, 4, SIGN | 1, INFINITY, SIGN | INFINITY, NAN, NAN | SIGN, INFINITY | 1]
-    out += [to_bits(v) for v in (1.0, 2.0, 3.0, 4.0, 0.25, 0.5, 0.1, 1e308, 1e-308, -1.0, -2.0, -1e-320, 25.0)]
+    out += [to_bits(v) for v in (1.0, 2.0, 3.0, 4.0, 5.0, 6.0, 7.0, 0.25, 0.5, 0.1, 1e308, 1e-308, -1.0, -2.0, -1e-320, 25.0)]
     # the largest and the smallest of each kind, and their neighbours
     for edge in (1 << 52, (1 << 52) - 1, INFINITY - 1, 0x3FF << 52, 0x400 << 52, 0x3FE << 52):
         out += [edge - 1, edge, edge + 1]
