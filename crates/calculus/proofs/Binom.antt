@@ -8,12 +8,16 @@ use lib.IntN.{ℤ, pos}
 use Rattle.calculus.proofs.Ints.{_⊕_, _⊗_, sum}
 use Rattle.calculus.specs.Choose.{choose as binom}
 use Rattle.calculus.proofs.Ring.{sums, zeros, mul-add, mul-one, add-comm, add-left-comm, pos-add}
-use Rattle.calculus.proofs.Rows.{choose-first}
 use Rattle.calculus.proofs.Sums.{sum-cong, sum-front, sum-linear, Linear}
 
 unfoldable pub leib : (ℕ → ℕ → ℤ) → ℕ → ℤ
 leib X zero = X 0 0
 leib X (suc m) = leib (λ i j. X (suc i) j) m ⊕ leib (λ i j. X i (suc j)) m
+
+pub choose-first : (m : ℕ) → binom m 0 ≡ 1
+unfolding binom
+choose-first zero = refl
+choose-first (suc m) = refl
 
 pub binom-above : (n k : ℕ) → n < k → binom n k ≡ 0
 unfolding binom

@@ -7,12 +7,12 @@ pub mod Rising
 pub mod Alike
 pub mod CarryAlike
 pub mod UpTo
--- the graded index; arrays that are filled in turn; binomial coefficients, by rows and in their table
+-- the graded index; arrays that are filled in turn; the table of binomial coefficients
 pub mod Layers
 pub mod Graded
 pub mod Filling
+pub mod Same
 pub mod SurfaceFilling
-pub mod Rows
 pub mod Pascal
 pub mod Table
 -- the integers: a ring, finite sums, exact division

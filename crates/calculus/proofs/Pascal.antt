@@ -2,18 +2,25 @@
 -- Assumes nothing.
 use mathlib.Core.Path.{_≡_, refl, sym, ap, ap₂, _∙_, subst}
 use mathlib.Core.List.{List, [], _∷_, _++_}
-use Prim.Native.Nat.{ℕ, zero, suc, _+_, _-_, _*_, _≤_, _<_}
-use native.Mathlib.Nat.{add-zero, add-suc, suc-add, zero-add, le-trans, mul-le-mul}
+use Prim.Native.Nat.{ℕ, zero, suc, _+_, _-_, _*_, _^_, _≤_, _<_}
+use native.Mathlib.Nat.{add-zero, add-suc, suc-add, zero-add, le-trans, mul-le-mul, pow-suc}
 use native.Mathlib.Omega.{arith}
 use lib.ListN.{getD}
-use lib.Pow.{pow-mono, pow-add}
+use lib.Pow.{pow-mono, pow-add, pow-pos}
 use Rattle.calculus.specs.Array.{listed}
 use Rattle.calculus.specs.Graded.{triangle, index, graded}
 use Rattle.calculus.specs.Choose.{choose, binomialTable}
 use Rattle.calculus.proofs.Binom.{binom-above}
 use Rattle.calculus.proofs.Graded.{triangle-suc, index-is, index-231, place-first, place-second}
 use Rattle.calculus.proofs.Filling.{listed-same, listed-at}
-use Rattle.calculus.proofs.Rows.{choose-bounded}
+
+-- ---- how large a coefficient is
+choose-bounded : (m i : ℕ) → choose m i ≤ 2 ^ m
+unfolding choose
+choose-bounded zero zero = omega arith
+choose-bounded zero (suc i) = omega arith
+choose-bounded (suc m) zero = pow-pos (suc m)
+choose-bounded (suc m) (suc i) = omega (arith, choose-bounded m i, choose-bounded m (suc i), pow-suc 2 m)
 
 -- ---- a list of values in two parts
 module _ {X : Type 0} where

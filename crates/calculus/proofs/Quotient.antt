@@ -14,7 +14,7 @@ use Rattle.calculus.specs.Surface
 use Rattle.calculus.proofs.Ints.{_⊕_, _⊗_, neg, sum}
 use Rattle.calculus.proofs.Ring.{add-assoc, add-comm, add-neg, add-zero, mul-one, mul-comm, neg-add}
 use Rattle.calculus.proofs.Sums.{sum-front}
-use Rattle.calculus.proofs.Rows.{choose-first}
+use Rattle.calculus.proofs.Binom.{choose-first}
 use Rattle.calculus.proofs.Related.{same}
 use Rattle.calculus.proofs.Rising.{before-below, rising-alike, earlier-row, same-row, risingRows-alike}
 use Rattle.calculus.proofs.Alike.{owed-alike, surface-owed-alike}

@@ -3,7 +3,7 @@ ghost use mathlib.Core.Path.{_≡_};
 ghost use mathlib.Core.Bool.{cond};
 ghost use Prim.Native.Nat.{suc, min};
 ghost use lib.Dec.{ltb};
-ghost use Rattle.calculus.specs.Choose.{pascal, binomialTable};
+ghost use Rattle.calculus.specs.Choose.{binomialTable};
 ghost use Rattle.calculus.specs.Graded.{triangle};
 
 // A derivative by which of a surface's parameters.
@@ -27,20 +27,6 @@ pub fn surface_count(n: usize) -> usize
         return 0;
     }
     (n + 1) * (n + 2) / 2
-}
-
-// From the binomial coefficients C(m, 0) .. C(m, 20) to those of m + 1, from the right. Those of the orders to 31 fit.
-pub fn next_row(c: &mut [u32; 21])
-    ensures { λ _. ⌜ now (c .exit) ≡ pascal (now (c .entry)) 20 ⌝ }
-{
-    let mut i = 20;
-    while 0 < i {
-        let k = i - 1;
-        let x = c[i];
-        let y = c[k];
-        c[i] = std::num::wrapping_add_u32(x, y);
-        i = k;
-    }
 }
 
 // Pascal's triangle.

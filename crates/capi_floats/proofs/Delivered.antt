@@ -14,7 +14,7 @@ use Rattle.calculus.specs.Graded.{triangle}
 use Rattle.calculus.specs.Order.{curveEntries, surfaceEntries}
 use Rattle.calculus.proofs.Filling.{filled-at}
 use Rattle.calculus.proofs.SurfaceFilling.{array-at}
-use Rattle.exact.proofs.Same.{curve-entries-same, surface-entries-same}
+use Rattle.calculus.proofs.Same.{curve-entries-same, surface-entries-same}
 use Rattle.derivatives.specs.Real.{nil}
 use Rattle.derivatives.specs.Answer.{finiteCurve, finiteSurface, answeredCurve, answeredSurface}
 use Rattle.derivatives.proofs.Answers.{filled-finite, array-finite, into-is, surface-into-is}

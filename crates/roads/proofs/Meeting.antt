@@ -32,7 +32,7 @@ use Rattle.exact.specs.Judged.{histories}
 use Rattle.exact.specs.Composite.{alongCurve}
 use Rattle.exact.proofs.Judged.{Settled, settled, Valued, valued, Sound, curve-exact, surface-answered}
 use Rattle.exact.proofs.Orders.{within}
-use Rattle.exact.proofs.Same.{curve-entries-same}
+use Rattle.calculus.proofs.Same.{curve-entries-same}
 use Rattle.exact.proofs.CarryJudged.{carry-in-range}
 use Rattle.roads.specs.declared.Operation.{Operation}
 use Rattle.roads.specs.Operation.{curveOperation, surfaceOperation}

@@ -30,7 +30,8 @@ use Rattle.derivatives.proofs.Upto.{rational-upto, norm-upto}
 use Rattle.rolling_ball_fillet.specs.Rotation.{two}
 use Rattle.rolling_ball_fillet.specs.AxisAngle.{crosses, lengths, axes, dots, rateEntry, rates, turnEntry, turns, angles, cosine, divisionByZero}
 use Rattle.rolling_ball_fillet.proofs.Entries.{served, numbers-agree, vectors-agree}
-use Rattle.rolling_ball_fillet.proofs.Filled.{filled-upto, vectors-upto}
+use Rattle.calculus.proofs.Same.{filled-same}
+use Rattle.rolling_ball_fillet.proofs.Filled.{vectors-upto}
 
 -- ---- from the entries before
 rate-reads : (r p q : ℕ → Float) (m : ℕ) → CurvesAgree m p q → rateEntry r p m ≡ rateEntry r q m
@@ -112,7 +113,7 @@ module _ (p q : ℕ → Vector3) (n : ℕ) (h : n ≤ 20) {pa qa xa la : List Fl
       let g = turns rate (dots p q) (lengths p q) in
       let t = turns-upto rate rate (dots (vectorNumbers pa) (vectorNumbers qa)) (dots p q) (curveNumbers la) (lengths p q) n (λ i l. refl)
       (productBy-upto (regular real) n dot first-arm second-arm) lengths-held in
-      e ∙ filled-upto 21 nil (angles angle f) (angles angle g) (suc n) (λ k l. angles-upto angle n f g t k (omega arith))
+      e ∙ filled-same 21 (suc n) nil (angles angle f) (angles angle g) (λ k l. angles-upto angle n f g t k (omega arith))
 
   pub cosine-is : (r : Float) → cosine (vectorNumbers pa 0) (vectorNumbers qa 0) r ≡ cosine (p 0) (q 0) r
   cosine-is r = ap₂ (λ (x y : Vector3). cosine x y r) (first-arm 0 zero-le) (second-arm 0 zero-le)

@@ -10,6 +10,7 @@ use lib.ListN.{set, replicate}
 use lib.Ieee.{Float, nan}
 use Rattle.calculus.specs.Array.{listed, filled}
 use Rattle.calculus.proofs.Filling.{curve-none, curve-more, curve-all}
+use Rattle.calculus.proofs.Same.{filled-same}
 use Rattle.calculus.proofs.UpTo.{CurvesAgree}
 use Rattle.vectors.specs.declared.Vector3.{Vector3}
 use Rattle.derivatives.specs.Real.{nil}
@@ -34,15 +35,8 @@ module _ (f : ℕ → Float) where
   numbers-all = curve-all 21 nan nil (λ k v. f k ≡ v) f (λ k v e. sym e)
 
 -- ---- entries that agree up to an order
-pub filled-upto : {X : Type 0} (w : ℕ) (blank : X) (f g : ℕ → X) (n : ℕ) → ((k : ℕ) → k < n → f k ≡ g k) → filled w blank f n ≡ filled w blank g n
-filled-upto {X} w blank f g n h = ap (λ (x : ℕ → X). listed x 0 w) (fun-ext (λ k. go k (ltb k n) refl))
-  where
-    go : (k : ℕ) (t : Bool) → ltb k n ≡ t → cond t (f k) blank ≡ cond t (g k) blank
-    go k true e = h k (ltb-true k n e)
-    go k false e = refl
-
 pub vectors-upto : (f g : ℕ → Vector3) (n : ℕ) → CurvesAgree n f g → vectorArray f n ≡ vectorArray g n
-vectors-upto f g n h = ap flat (filled-upto 21 origin f g (suc n) (λ k l. h k (omega arith)))
+vectors-upto f g n h = ap flat (filled-same 21 (suc n) origin f g (λ k l. h k (omega arith)))
 
 -- ---- records of jets whose parts are the same
 abbrev pub vectorJet : ℕ → List Float → VectorCurveDerivatives
