@@ -32,8 +32,7 @@ use Rattle.vectors.specs.Vectors.{vector}
 use Rattle.vectors.specs.Matrices.{columns}
 use Rattle.vectors.proofs.Floats.{minusOne, one, three, four, five, seven}
 use Rattle.derivatives.specs.Real.{nil}
-use Rattle.derivatives.specs.Vector.{allVectorsFinite}
-use Rattle.derivatives.specs.Answer.{allFinite}
+use Rattle.derivatives.specs.Answer.{allPass}
 use Rattle.derivatives.specs.VectorAnswer.{vectorAbsolute}
 use Rattle.rolling_ball_fillet.specs.Answers.{rotationAnswer}
 
@@ -134,7 +133,7 @@ carried-608 = refl
 -- the vectors (3,4,0), (5,5,0) have the norm jet (5, 7)
 pub norm-5-7 : vectorAbsolute (record { order = 1; entries = three ∷ four ∷ nil ∷ five ∷ five ∷ nil ∷ replicate 57 nil })
     ≡ record { refusal = 0; jet = record { order = 1; entries = five ∷ seven ∷ replicate 19 nil } }
-unfolding squareRoot add sub mul div ofBits ofInt before inTurn choose allFinite allVectorsFinite eq listed
+unfolding squareRoot add sub mul div ofBits ofInt before inTurn choose allPass eq listed
 norm-5-7 = refl
 
 -- axis (0,0,1), s = 1, c = 0: columns (0,1,0), (−1,0,0), (0,0,1)

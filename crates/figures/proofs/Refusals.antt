@@ -65,7 +65,7 @@ abbrev single : Float → CurveDerivatives
 single x = record { order = 0; entries = x ∷ replicate 20 nil }
 
 pub overflow : floats.onCurves (floats.byFormula (product real)) (single huge) (single huge) ≡ floats.refusedCurve 10
-unfolding choose inTurn add mul ofBits ofInt floats.allFinite
+unfolding choose inTurn add mul ofBits ofInt floats.allPass
 overflow = refl
 
 -- 11 is `pair-2-1` of rolling_ball_fillet/proofs/PartialFigures.antt

@@ -24,7 +24,7 @@ use Rattle.rolling_ball_fillet.proofs.Tested.{solved, asked, within, re
 pub radius-nan : (f : RollingBallFilletSurface) (cc : ContactCircle) (n k : ℕ) → beyond f n ≡ false → short f (n + 1) ≡ false →
     k ≤ n + 1 → radii f k ≡ nan → centerContactAnswer f cc n ≡ refusedContacts 5
 radius-nan f cc n k b s l e =
-    let r : finiteCurve (radii f) (n + 1) ≡ false = sym (stop (radii f) (suc (n + 1)) (omega arith) (ap finite e)) in
+    let r : finiteCurve (radii f) (n + 1) ≡ false = sym (stop finite (radii f) (suc (n + 1)) (omega arith) (ap finite e)) in
     let g : finiteGiven f cc (n + 1) ≡ false = simp (r, and-false) in
     sym (asked f cc n b s g)
 

@@ -14,7 +14,7 @@ use Rattle.vectors.specs.Answers.{finiteVector, returnedVector}
 use Rattle.vectors.specs.declared.VectorAnswer.the-variants.{Refused}
 use Rattle.vectors.specs.Matrices.{determinant2, determinant3}
 use Rattle.derivatives.specs.Real.{nil, isZero}
-use Rattle.derivatives.specs.Answer.{curveNumbers, allFinite, finiteCurve}
+use Rattle.derivatives.specs.Answer.{curveNumbers, allPass, allFinite, finiteCurve}
 use Rattle.derivatives.specs.Vector.{origin, vectorNumbers, allVectorsFinite, finiteVectors}
 use Rattle.derivatives.specs.Answer.{tested, far}
 use Rattle.derivatives.specs.declared.CurveDerivatives.{CurveDerivatives}
@@ -103,7 +103,7 @@ unfolding ofBits
 finite-nil = refl
 
 zeros-finite : (n : ℕ) → n ≤ 21 → allFinite (curveNumbers (replicate 21 nil)) n ≡ true
-unfolding allFinite
+unfolding allPass
 zeros-finite zero h = refl
 zeros-finite (suc n) h = ap₂ _&&_ (zeros-finite n (omega arith)) (ap finite (getD-replicate 21 n nil nan h) ∙ finite-nil)
 
@@ -116,7 +116,7 @@ unfolding ofBits
 origin-finite = refl
 
 origins-finite : (n : ℕ) → n ≤ 21 → allVectorsFinite (vectorNumbers (replicate 63 nil)) n ≡ true
-unfolding allVectorsFinite
+unfolding allPass
 origins-finite zero h = refl
 origins-finite (suc n) h = ap₂ _&&_ (origins-finite n (omega arith)) (ap finiteVector (origins n h) ∙ origin-finite)
 
