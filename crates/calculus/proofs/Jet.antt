@@ -1,5 +1,5 @@
--- Jets of fields of any number of variables: entry i₁ .. i_d is the derivative i₁ times by the first, .. i_d times by the last. A curve's are at 1, a surface's at 2.
--- Assumes nothing.
+-- Jets of fields of any number of variables: entry i₁ .. i_d is the derivative i₁ times by the first, .. i_d times by the
+-- last. A curve's are at 1, a surface's at 2. Assumes nothing.
 use mathlib.Core.Path.{_≡_}
 use Prim.Native.Nat.{ℕ, zero, suc, _-_, _≤_}
 use lib.IntN.{ℤ, pos}

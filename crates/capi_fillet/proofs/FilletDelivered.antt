@@ -1,10 +1,9 @@
 -- What the fillet's functions answer is delivered whole: the functions that write its jets refuse none of them, where each list lent has just
 -- the length that is due. Assumes nothing.
-use mathlib.Core.Path.{_≡_, refl, sym, ap, subst, _∙_}
+use mathlib.Core.Path.{_≡_, refl, sym, ap, subst}
 use mathlib.Core.Bool.{Bool, true, false, cond, _&&_, _||_}
 use mathlib.Core.List.{List, [], _∷_}
 use Prim.Native.Nat.{ℕ, suc, _+_, _*_, _≤_}
-use native.Mathlib.Numerals.{add-one}
 use native.Mathlib.Omega.{arith}
 use lib.Dec.{ltb, eqb}
 use lib.ListN.{length}
@@ -15,9 +14,9 @@ use Rattle.calculus.specs.Array.{listed}
 use Rattle.calculus.specs.Order.{curveEntries}
 use Rattle.derivatives.specs.Real.{isZero}
 use Rattle.derivatives.specs.Answer.{curveNumbers, finiteCurve, pairs, parameterIntoList}
-use Rattle.derivatives.specs.Vector.{vectorNumbers, finiteVectors, flat}
+use Rattle.derivatives.specs.Vector.{vectorNumbers, finiteVectorCurve, flat}
 use Rattle.derivatives.specs.Answer.{far as farApart}
-use Rattle.derivatives.specs.VectorAnswer.{vectorIntoList}
+use Rattle.derivatives.specs.VectorAnswer.{vectorCurveIntoList}
 use Rattle.derivatives.specs.declared.CurveDerivatives.{CurveDerivatives}
 use Rattle.derivatives.specs.declared.ParameterCurve.{ParameterCurve}
 use Rattle.derivatives.specs.declared.VectorCurveDerivatives.{VectorCurveDerivatives}
@@ -148,9 +147,9 @@ abbrev list : ℕ × List Float → List Float
 list r = r .1
 
 vector-left : (a : VectorCurveDerivatives) (out : List Float) (k : ℕ) → k ≤ 20 → a .order ≡ k → length out ≡ 3 * suc k →
-    finiteVectors (vectorNumbers (a .entries)) k ≡ true → vectorList a ≡ vectorIntoList a out .1
+    finiteVectorCurve (vectorNumbers (a .entries)) k ≡ true → vectorList a ≡ vectorCurveIntoList a out .1
 vector-left a out k h o e p =
-    ap list (vectors.into-is a out (omega (arith, o, h)) (omega (arith, o, e)) (subst (λ (j : ℕ). finiteVectors (vectorNumbers (a .entries)) j ≡ true) (sym o) p))
+    ap list (vectors.into-is a out (omega (arith, o, h)) (omega (arith, o, e)) (subst (λ (j : ℕ). finiteVectorCurve (vectorNumbers (a .entries)) j ≡ true) (sym o) p))
 
 parameter-left : (a : ParameterCurve) (out : List Float) (k : ℕ) → k ≤ 20 → a .order ≡ k → length out ≡ 2 * suc k →
     finiteCurve (curveNumbers (a .u)) k ≡ true → finiteCurve (curveNumbers (a .v)) k ≡ true → parameterList a ≡ parameterIntoList a out .1
@@ -218,9 +217,9 @@ module _ (f : RollingBallFilletSurface) (cc : ContactCircle) (n : ℕ) where
       let o = m .1 .0 in
       let g = m .1 .1 in
       let b : n ≤ 19 = m .0 in
-      let fx = finiteVectors (vectorNumbers (d .«center_ders» .entries)) n in
-      let fp = finiteVectors (vectorNumbers (d .«contact0_ders» .entries)) (n + 1) in
-      let fq = finiteVectors (vectorNumbers (d .«contact1_ders» .entries)) (n + 1) in
+      let fx = finiteVectorCurve (vectorNumbers (d .«center_ders» .entries)) n in
+      let fp = finiteVectorCurve (vectorNumbers (d .«contact0_ders» .entries)) (n + 1) in
+      let fq = finiteVectorCurve (vectorNumbers (d .«contact1_ders» .entries)) (n + 1) in
       let fu = finiteCurve (curveNumbers (d .«uv0_ders» .u)) (n + 1) in
       let fv = finiteCurve (curveNumbers (d .«uv0_ders» .v)) (n + 1) in
       let gu = finiteCurve (curveNumbers (d .«uv1_ders» .u)) (n + 1) in

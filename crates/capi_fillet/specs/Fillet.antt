@@ -13,8 +13,8 @@ use Rattle.derivatives.specs.declared.CurveDerivatives.{CurveDerivatives}
 use Rattle.derivatives.specs.declared.VectorCurveDerivatives.{VectorCurveDerivatives}
 use Rattle.derivatives.specs.declared.VectorSurfaceDerivatives.{VectorSurfaceDerivatives}
 use Rattle.derivatives.specs.Answer.{curveIntoList, parameterIntoList}
-use Rattle.derivatives.specs.VectorAnswer.{vectorIntoList}
-use Rattle.derivatives.specs.Lists.{curveOfList, parameterOfList, vectorsOfList, vectorSurfaceOfList}
+use Rattle.derivatives.specs.VectorAnswer.{vectorCurveIntoList}
+use Rattle.derivatives.specs.Lists.{curveOfList, parameterOfList, vectorCurveOfList, vectorSurfaceOfList}
 use Rattle.rolling_ball_fillet.specs.Answers.{rotationAnswer, derivativeAnswer}
 use Rattle.rolling_ball_fillet.specs.Center.{centerContactAnswer}
 use Rattle.rolling_ball_fillet.specs.Partials.{derivativeV, derivativeUV, derivativeVV}
@@ -88,7 +88,7 @@ filletWith e r p q l =
 
 abbrev pub filletOf : (normals : List Float) → (edge radius surface0 surface1 : Listed) → RollingBallFilletSurface
 filletOf normals edge radius surface0 surface1 =
-    filletWith (vectorsOfList (edge .0) (edge .1)) (curveOfList (radius .0) (radius .1)) (vectorSurfaceOfList (surface0 .0) (surface0 .1))
+    filletWith (vectorCurveOfList (edge .0) (edge .1)) (curveOfList (radius .0) (radius .1)) (vectorSurfaceOfList (surface0 .0) (surface0 .1))
     (vectorSurfaceOfList (surface1 .0) (surface1 .1)) normals
 
 -- ---- the centre, the contacts and their parameters along the edge. Each list is what the jet's `into_list` leaves there
@@ -108,11 +108,11 @@ deliverContacts a out =
     admitted (a .refusal) out (
       0,
       (
-        vectorIntoList (d .«center_ders») (out .0) .1,
+        vectorCurveIntoList (d .«center_ders») (out .0) .1,
         (
-          vectorIntoList (d .«contact0_ders») (out .1 .0) .1,
+          vectorCurveIntoList (d .«contact0_ders») (out .1 .0) .1,
           (
-            vectorIntoList (d .«contact1_ders») (out .1 .1 .0) .1,
+            vectorCurveIntoList (d .«contact1_ders») (out .1 .1 .0) .1,
             (parameterIntoList (d .«uv0_ders») (out .1 .1 .1 .0) .1, parameterIntoList (d .«uv1_ders») (out .1 .1 .1 .1) .1),
           ),
         ),
@@ -135,9 +135,9 @@ dersGiven center contact0 contact1 uv0 uv1 =
 abbrev pub dersOf : (center contact0 contact1 uv0 uv1 : Listed) → CenterContactDers
 dersOf center contact0 contact1 uv0 uv1 =
     record {
-      «center_ders» = vectorsOfList (center .0) (center .1);
-      «contact0_ders» = vectorsOfList (contact0 .0) (contact0 .1);
-      «contact1_ders» = vectorsOfList (contact1 .0) (contact1 .1);
+      «center_ders» = vectorCurveOfList (center .0) (center .1);
+      «contact0_ders» = vectorCurveOfList (contact0 .0) (contact0 .1);
+      «contact1_ders» = vectorCurveOfList (contact1 .0) (contact1 .1);
       «uv0_ders» = parameterOfList (uv0 .0) (uv0 .1);
       «uv1_ders» = parameterOfList (uv1 .0) (uv1 .1);
     }
@@ -149,7 +149,7 @@ Three = List Float × (List Float × List Float)
 unfoldable pub deliverInfo : VderInfoAnswer → Three → ℕ × Three
 deliverInfo a out =
     admitted (a .refusal) out
-    (0, (vectorIntoList (a .info .«axis_ders») (out .0) .1, (curveIntoList (a .info .«angle_ders») (out .1 .0) .1, written (a .cosine ∷ []) (out .1 .1) .1)))
+    (0, (vectorCurveIntoList (a .info .«axis_ders») (out .0) .1, (curveIntoList (a .info .«angle_ders») (out .1 .0) .1, written (a .cosine ∷ []) (out .1 .1) .1)))
 
 -- the contacts and the radius have one order more than the centre
 unfoldable pub vderInfoInto : (center contact0 contact1 uv0 uv1 radius : Listed) → Float → Three → ℕ × Three
@@ -162,11 +162,11 @@ vderInfoInto center contact0 contact1 uv0 uv1 radius t out =
 -- ---- the partials, from these jets, the axis' and the angle's
 abbrev pub partialBy : Partial → VderInfo → (u s c : Float) → VectorAnswer
 partialBy partial.V = partialAnswer derivativeV 1
-partialBy partial.UV = partialAnswer derivativeUV 1
-partialBy partial.VV = partialAnswer derivativeVV 2
+partialBy partial.Uv = partialAnswer derivativeUV 1
+partialBy partial.Vv = partialAnswer derivativeVV 2
 
 abbrev pub infoOf : CenterContactDers → (axis angle : Listed) → VderInfo
-infoOf d axis angle = record { «cc_ders» = d; «axis_ders» = vectorsOfList (axis .0) (axis .1); «angle_ders» = curveOfList (angle .0) (angle .1) }
+infoOf d axis angle = record { «cc_ders» = d; «axis_ders» = vectorCurveOfList (axis .0) (axis .1); «angle_ders» = curveOfList (angle .0) (angle .1) }
 
 unfoldable pub partialInto :
     (VderInfo → (u s c : Float) → VectorAnswer) → (center contact0 contact1 uv0 uv1 axis angle : Listed) → (u s c : Float) → List Float → ℕ × List Float

@@ -22,8 +22,8 @@ use vectors::VectorAnswer;
 // By v, by u and v, twice by v.
 pub enum Partial {
     V,
-    UV,
-    VV,
+    Uv,
+    Vv,
 }
 
 fn work(op: Partial, i: VderInfo, u: f64, s: f64, c: f64) -> VectorAnswer
@@ -31,8 +31,8 @@ fn work(op: Partial, i: VderInfo, u: f64, s: f64, c: f64) -> VectorAnswer
 {
     match op {
         Partial::V => i.derivative_v(u, s, c),
-        Partial::UV => i.derivative_uv(u, s, c),
-        Partial::VV => i.derivative_vv(u, s, c),
+        Partial::Uv => i.derivative_uv(u, s, c),
+        Partial::Vv => i.derivative_vv(u, s, c),
     }
 }
 
@@ -605,7 +605,7 @@ pub extern "C" fn sugamdely_derivative_uv(
     ensures { λ r. ⌜ _≡_ {A = ℕ × List Float} (r, now (out .exit)) (partialInto (partialAnswer derivativeUV 1) («center_order», now (center .entry)) («contact0_order», now (contact0 .entry)) («contact1_order», now (contact1 .entry)) («uv0_order», now (uv0 .entry)) («uv1_order», now (uv1 .entry)) («axis_order», now (axis .entry)) («angle_order», now (angle .entry)) u s c (now (out .entry))) ⌝ }
 {
     on_info(
-        Partial::UV,
+        Partial::Uv,
         center_order,
         center,
         contact0_order,
@@ -651,7 +651,7 @@ pub extern "C" fn sugamdely_derivative_vv(
     ensures { λ r. ⌜ _≡_ {A = ℕ × List Float} (r, now (out .exit)) (partialInto (partialAnswer derivativeVV 2) («center_order», now (center .entry)) («contact0_order», now (contact0 .entry)) («contact1_order», now (contact1 .entry)) («uv0_order», now (uv0 .entry)) («uv1_order», now (uv1 .entry)) («axis_order», now (axis .entry)) («angle_order», now (angle .entry)) u s c (now (out .entry))) ⌝ }
 {
     on_info(
-        Partial::VV,
+        Partial::Vv,
         center_order,
         center,
         contact0_order,

@@ -3,10 +3,9 @@
 use mathlib.Core.Path.{_≡_, sym, ap, _∙_}
 use mathlib.Core.Bool.{Bool, true, cond}
 use mathlib.Core.List.{List}
-use Prim.Native.Nat.{ℕ, suc, _+_, _≤_}
+use Prim.Native.Nat.{ℕ, suc, _≤_}
 use native.Mathlib.Numerals.{add-one}
 use native.Mathlib.Omega.{arith}
-use lib.Dec.{ltb}
 use lib.ListN.{length}
 use lib.Ieee.{Float, nan}
 use borrow.Author.Tests.{lt-ltb}
@@ -15,7 +14,7 @@ use Rattle.calculus.specs.Order.{curveEntries, surfaceEntries}
 use Rattle.calculus.proofs.Filling.{filled-at}
 use Rattle.calculus.proofs.SurfaceFilling.{array-at}
 use Rattle.calculus.proofs.Same.{curve-entries-same, surface-entries-same}
-use Rattle.derivatives.specs.Real.{nil}
+use Rattle.vectors.specs.Answers.{nought}
 use Rattle.derivatives.specs.Answer.{finiteCurve, finiteSurface, answeredCurve, answeredSurface}
 use Rattle.derivatives.proofs.Answers.{filled-finite, array-finite, into-is, surface-into-is}
 use Rattle.capi_floats.specs.Delivery.{deliverCurve, deliverSurface}
@@ -28,11 +27,11 @@ module _ (n : ℕ) (h : n ≤ 20) (out : List Float) where
       sym (into-is (answeredCurve n f .jet) out h (e ∙ sym (add-one n)) (filled-finite 21 f (suc n) (omega arith) ∙ p))
       ∙ ap (pair 0)
       (curve-entries-same n
-      (λ m l. filled-at 21 nan nil f (suc n) m (omega arith) ∙ ap (λ (t : Bool). cond t (f m) nil) (lt-ltb m (suc n) (omega arith))))
+      (λ m l. filled-at 21 nan nought f (suc n) m (omega arith) ∙ ap (λ (t : Bool). cond t (f m) nought) (lt-ltb m (suc n) (omega arith))))
 
   pub surface-delivered : (s : ℕ → ℕ → Float) → finiteSurface s n ≡ true → length out ≡ triangle (suc n) →
       deliverSurface (answeredSurface n s) out ≡ pair 0 (surfaceEntries s n)
   unfolding deliverSurface
   surface-delivered s p e =
       sym (surface-into-is (answeredSurface n s .jet) out h e (array-finite s n h ∙ p))
-      ∙ ap (pair 0) (surface-entries-same n (λ i j l. array-at nan nil s n i j h l))
+      ∙ ap (pair 0) (surface-entries-same n (λ i j l. array-at nan nought s n i j h l))

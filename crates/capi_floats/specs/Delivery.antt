@@ -16,7 +16,7 @@ use Rattle.derivatives.specs.declared.SurfaceAnswer.{SurfaceAnswer}
 use Rattle.derivatives.specs.declared.VectorCurveAnswer.{VectorCurveAnswer}
 use Rattle.derivatives.specs.declared.VectorSurfaceAnswer.{VectorSurfaceAnswer}
 use Rattle.derivatives.specs.Answer.{curveIntoList, surfaceIntoList}
-use Rattle.derivatives.specs.VectorAnswer.{vectorIntoList}
+use Rattle.derivatives.specs.VectorAnswer.{vectorCurveIntoList}
 use Rattle.derivatives.specs.VectorSurfaceAnswer.{vectorSurfaceIntoList}
 use Rattle.given.specs.Lists.{admitted}
 
@@ -28,7 +28,7 @@ unfoldable pub deliverSurface : SurfaceAnswer → List Float → ℕ × List Flo
 deliverSurface a out = admitted (a .refusal) out (surfaceIntoList (a .jet) out)
 
 unfoldable pub deliverVectorCurve : VectorCurveAnswer → List Float → ℕ × List Float
-deliverVectorCurve a out = admitted (a .refusal) out (vectorIntoList (a .jet) out)
+deliverVectorCurve a out = admitted (a .refusal) out (vectorCurveIntoList (a .jet) out)
 
 unfoldable pub deliverVectorSurface : VectorSurfaceAnswer → List Float → ℕ × List Float
 deliverVectorSurface a out = admitted (a .refusal) out (vectorSurfaceIntoList (a .jet) out)

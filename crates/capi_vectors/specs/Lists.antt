@@ -4,13 +4,13 @@ use Rattle.derivatives.specs.declared.VectorCurveDerivatives.{VectorCurveDeriva
 use Rattle.derivatives.specs.declared.VectorSurfaceDerivatives.{VectorSurfaceDerivatives}
 use Rattle.derivatives.specs.declared.VectorCurveAnswer.{VectorCurveAnswer}
 use Rattle.derivatives.specs.declared.VectorSurfaceAnswer.{VectorSurfaceAnswer}
-use Rattle.derivatives.specs.Lists.{vectorsOfList, vectorSurfaceOfList}
+use Rattle.derivatives.specs.Lists.{vectorCurveOfList, vectorSurfaceOfList}
 use Rattle.given.specs.Given.{vectorCurveGiven, vectorSurfaceGiven}
 use Rattle.given.specs.Lists.{Input, Output}
 use Rattle.capi_floats.specs.Delivery.{deliverVectorCurve, deliverVectorSurface}
 
 abbrev pub vectorCurve : Input Float VectorCurveDerivatives
-vectorCurve = record { given = vectorCurveGiven; jet = vectorsOfList }
+vectorCurve = record { given = vectorCurveGiven; jet = vectorCurveOfList }
 
 abbrev pub vectorSurface : Input Float VectorSurfaceDerivatives
 vectorSurface = record { given = vectorSurfaceGiven; jet = vectorSurfaceOfList }

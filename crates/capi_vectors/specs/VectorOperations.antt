@@ -9,8 +9,8 @@ use Rattle.derivatives.specs.declared.SurfaceDerivatives.{SurfaceDerivatives}
 use Rattle.derivatives.specs.declared.VectorSurfaceDerivatives.{VectorSurfaceDerivatives}
 use Rattle.derivatives.specs.declared.VectorSurfaceAnswer.{VectorSurfaceAnswer}
 use Rattle.derivatives.specs.Vector.{vectors}
-use Rattle.derivatives.specs.VectorAnswer.{refusedVectors, onVectors, onWeighted, byVectorFormula, byWeights, vectorQuotient}
-use Rattle.derivatives.specs.VectorSurfaceAnswer.{onVectorSurfaces, onWeightedSurface, bySurfaceVectors, bySurfaceWeights, vectorSurfaceQuotient}
+use Rattle.derivatives.specs.VectorAnswer.{refusedVectorCurve, onVectors, onWeighted, byVectorFormula, byWeights, vectorQuotient}
+use Rattle.derivatives.specs.VectorSurfaceAnswer.{onVectorSurfaces, onWeightedSurface, byVectorSurfaceFormula, bySurfaceWeights, vectorSurfaceQuotient}
 use Rattle.capi_floats.specs.declared.operations.VectorOperation.{VectorOperation}
 use Rattle.capi_floats.specs.declared.operations.VectorOperation.the-variants as jets
 use Rattle.capi_floats.specs.declared.operations.ScalarOperation.{ScalarOperation}
@@ -18,9 +18,9 @@ use Rattle.capi_floats.specs.declared.operations.ScalarOperation.the-variants a
 
 -- ---- curves
 abbrev pub vectorCurveOperation : VectorOperation → VectorCurveDerivatives → VectorCurveDerivatives → VectorCurveAnswer
-vectorCurveOperation jets.Sum = onVectors refusedVectors (byVectorFormula (Curve.sum vectors))
-vectorCurveOperation jets.Difference = onVectors refusedVectors (byVectorFormula (Curve.difference vectors))
-vectorCurveOperation jets.Cross = onVectors refusedVectors (byVectorFormula (Curve.productBy vectors cross))
+vectorCurveOperation jets.Sum = onVectors refusedVectorCurve (byVectorFormula (Curve.sum vectors))
+vectorCurveOperation jets.Difference = onVectors refusedVectorCurve (byVectorFormula (Curve.difference vectors))
+vectorCurveOperation jets.Cross = onVectors refusedVectorCurve (byVectorFormula (Curve.productBy vectors cross))
 
 abbrev pub weightedCurveOperation : ScalarOperation → VectorCurveDerivatives → CurveDerivatives → VectorCurveAnswer
 weightedCurveOperation weighted.Multiple = onWeighted (byWeights (Curve.productBy vectors multiple))
@@ -28,9 +28,9 @@ weightedCurveOperation weighted.Quotient = onWeighted vectorQuotient
 
 -- ---- surfaces
 abbrev pub vectorSurfaceOperation : VectorOperation → VectorSurfaceDerivatives → VectorSurfaceDerivatives → VectorSurfaceAnswer
-vectorSurfaceOperation jets.Sum = onVectorSurfaces (bySurfaceVectors (Surface.sum vectors))
-vectorSurfaceOperation jets.Difference = onVectorSurfaces (bySurfaceVectors (Surface.difference vectors))
-vectorSurfaceOperation jets.Cross = onVectorSurfaces (bySurfaceVectors (Surface.productBy vectors cross))
+vectorSurfaceOperation jets.Sum = onVectorSurfaces (byVectorSurfaceFormula (Surface.sum vectors))
+vectorSurfaceOperation jets.Difference = onVectorSurfaces (byVectorSurfaceFormula (Surface.difference vectors))
+vectorSurfaceOperation jets.Cross = onVectorSurfaces (byVectorSurfaceFormula (Surface.productBy vectors cross))
 
 abbrev pub weightedSurfaceOperation : ScalarOperation → VectorSurfaceDerivatives → SurfaceDerivatives → VectorSurfaceAnswer
 weightedSurfaceOperation weighted.Multiple = onWeightedSurface (bySurfaceWeights (Surface.productBy vectors multiple))

@@ -13,7 +13,7 @@ ghost use Rattle.calculus.specs.Curve.{sum, difference, productBy};
 ghost use Rattle.derivatives.specs.Real.{real};
 ghost use Rattle.derivatives.specs.Answer.{refusedCurve};
 ghost use Rattle.derivatives.specs.Vector.{vectors};
-ghost use Rattle.derivatives.specs.VectorAnswer.{refusedVectors, onVectors, onWeighted, byVectorFormula, byNumberFormula, byWeights, vectorQuotient, onVectorsAt, onWeightedAt, vectorAbsolute, vectorDerivative};
+ghost use Rattle.derivatives.specs.VectorAnswer.{refusedVectorCurve, onVectors, onWeighted, byVectorFormula, byNumberFormula, byWeights, vectorQuotient, onVectorsAt, onWeightedAt, vectorCurveAbsolute, vectorCurveDerivative};
 ghost use Rattle.given.specs.Lists.{onTwo, onTwoAt, onOne};
 ghost use Rattle.capi_floats.specs.Lists.{curve as curves, toCurve, toFloat, toVector};
 ghost use Rattle.capi_vectors.specs.Lists.{vectorCurve as vectorCurves, toVectorCurve};
@@ -120,7 +120,7 @@ pub extern "C" fn sugamdely_vector_curve_sum(
     b: &[f64],
     out: &mut [f64],
 ) -> u8
-    ensures { λ r. ⌜ _≡_ {A = ℕ × List Float} (r, now (out .exit)) (onTwo vectorCurves vectorCurves toVectorCurve (onVectors refusedVectors (byVectorFormula (sum vectors))) «a_order» (now (a .entry)) «b_order» (now (b .entry)) (now (out .entry))) ⌝ }
+    ensures { λ r. ⌜ _≡_ {A = ℕ × List Float} (r, now (out .exit)) (onTwo vectorCurves vectorCurves toVectorCurve (onVectors refusedVectorCurve (byVectorFormula (sum vectors))) «a_order» (now (a .entry)) «b_order» (now (b .entry)) (now (out .entry))) ⌝ }
 {
     on_two(VectorOperation::Sum, a_order, a, b_order, b, out)
 }
@@ -133,7 +133,7 @@ pub extern "C" fn sugamdely_vector_curve_difference(
     b: &[f64],
     out: &mut [f64],
 ) -> u8
-    ensures { λ r. ⌜ _≡_ {A = ℕ × List Float} (r, now (out .exit)) (onTwo vectorCurves vectorCurves toVectorCurve (onVectors refusedVectors (byVectorFormula (difference vectors))) «a_order» (now (a .entry)) «b_order» (now (b .entry)) (now (out .entry))) ⌝ }
+    ensures { λ r. ⌜ _≡_ {A = ℕ × List Float} (r, now (out .exit)) (onTwo vectorCurves vectorCurves toVectorCurve (onVectors refusedVectorCurve (byVectorFormula (difference vectors))) «a_order» (now (a .entry)) «b_order» (now (b .entry)) (now (out .entry))) ⌝ }
 {
     on_two(VectorOperation::Difference, a_order, a, b_order, b, out)
 }
@@ -144,7 +144,7 @@ pub extern "C" fn sugamdely_vector_curve_derivative(
     a: &[f64],
     out: &mut [f64],
 ) -> u8
-    ensures { λ r. ⌜ _≡_ {A = ℕ × List Float} (r, now (out .exit)) (onOne vectorCurves toVectorCurve («a_order» - 1) vectorDerivative «a_order» (now (a .entry)) (now (out .entry))) ⌝ }
+    ensures { λ r. ⌜ _≡_ {A = ℕ × List Float} (r, now (out .exit)) (onOne vectorCurves toVectorCurve («a_order» - 1) vectorCurveDerivative «a_order» (now (a .entry)) (now (out .entry))) ⌝ }
 {
     let t = given::lowered(Shape::VectorCurve, a_order, a.len(), out.len());
     if t != 0 {
@@ -321,7 +321,7 @@ pub extern "C" fn sugamdely_curve_combinatorial_derivatives_cross(
     b: &[f64],
     out: &mut [f64],
 ) -> u8
-    ensures { λ r. ⌜ _≡_ {A = ℕ × List Float} (r, now (out .exit)) (onTwo vectorCurves vectorCurves toVectorCurve (onVectors refusedVectors (byVectorFormula (productBy vectors cross))) «a_order» (now (a .entry)) «b_order» (now (b .entry)) (now (out .entry))) ⌝ }
+    ensures { λ r. ⌜ _≡_ {A = ℕ × List Float} (r, now (out .exit)) (onTwo vectorCurves vectorCurves toVectorCurve (onVectors refusedVectorCurve (byVectorFormula (productBy vectors cross))) «a_order» (now (a .entry)) «b_order» (now (b .entry)) (now (out .entry))) ⌝ }
 {
     on_two(VectorOperation::Cross, a_order, a, b_order, b, out)
 }
@@ -333,7 +333,7 @@ pub extern "C" fn sugamdely_curve_absolute_derivatives(
     a: &[f64],
     out: &mut [f64],
 ) -> u8
-    ensures { λ r. ⌜ _≡_ {A = ℕ × List Float} (r, now (out .exit)) (onOne vectorCurves toCurve «a_order» vectorAbsolute «a_order» (now (a .entry)) (now (out .entry))) ⌝ }
+    ensures { λ r. ⌜ _≡_ {A = ℕ × List Float} (r, now (out .exit)) (onOne vectorCurves toCurve «a_order» vectorCurveAbsolute «a_order» (now (a .entry)) (now (out .entry))) ⌝ }
 {
     let t = given::one(
         Shape::VectorCurve,

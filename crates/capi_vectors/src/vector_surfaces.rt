@@ -12,9 +12,9 @@ ghost use Rattle.calculus.specs.Kind.{regular};
 ghost use Rattle.calculus.specs.Surface.{sum, difference, productBy, derivativeU, derivativeV, derivativeBy};
 ghost use Rattle.derivatives.specs.Real.{real};
 ghost use Rattle.derivatives.specs.Vector.{vectors};
-ghost use Rattle.derivatives.specs.VectorSurfaceAnswer.{onVectorSurfaces, onWeightedSurface, bySurfaceVectors, bySurfaceWeights, vectorSurfaceQuotient, vectorSurfaceDot, onVectorSurfacesAt, onWeightedSurfaceAt, vectorSurfaceDerivative};
+ghost use Rattle.derivatives.specs.VectorSurfaceAnswer.{onVectorSurfaces, onWeightedSurface, byVectorSurfaceFormula, bySurfaceWeights, vectorSurfaceQuotient, vectorSurfaceDot, onVectorSurfacesAt, onWeightedSurfaceAt, vectorSurfaceDerivative};
 ghost use Rattle.derivatives.specs.VectorSurfaceNorm.{vectorSurfaceAbsolute};
-ghost use Rattle.derivatives.specs.VectorComposite.{carriedVector, carriedVectors};
+ghost use Rattle.derivatives.specs.VectorComposite.{vectorAlongCurveAt, vectorAlongCurve};
 ghost use Rattle.given.specs.Lists.{onTwo, onTwoAt, onOne};
 ghost use Rattle.capi_floats.specs.Lists.{surface as surfaces, parameter as parameters, toSurface, toFloat, toVector};
 ghost use Rattle.capi_vectors.specs.Lists.{vectorSurface as vectorSurfaces, toVectorCurve, toVectorSurface};
@@ -143,7 +143,7 @@ pub extern "C" fn sugamdely_vector_surface_sum(
     b: &[f64],
     out: &mut [f64],
 ) -> u8
-    ensures { λ r. ⌜ _≡_ {A = ℕ × List Float} (r, now (out .exit)) (onTwo vectorSurfaces vectorSurfaces toVectorSurface (onVectorSurfaces (bySurfaceVectors (sum vectors))) «a_order» (now (a .entry)) «b_order» (now (b .entry)) (now (out .entry))) ⌝ }
+    ensures { λ r. ⌜ _≡_ {A = ℕ × List Float} (r, now (out .exit)) (onTwo vectorSurfaces vectorSurfaces toVectorSurface (onVectorSurfaces (byVectorSurfaceFormula (sum vectors))) «a_order» (now (a .entry)) «b_order» (now (b .entry)) (now (out .entry))) ⌝ }
 {
     on_two(VectorOperation::Sum, a_order, a, b_order, b, out)
 }
@@ -156,7 +156,7 @@ pub extern "C" fn sugamdely_vector_surface_difference(
     b: &[f64],
     out: &mut [f64],
 ) -> u8
-    ensures { λ r. ⌜ _≡_ {A = ℕ × List Float} (r, now (out .exit)) (onTwo vectorSurfaces vectorSurfaces toVectorSurface (onVectorSurfaces (bySurfaceVectors (difference vectors))) «a_order» (now (a .entry)) «b_order» (now (b .entry)) (now (out .entry))) ⌝ }
+    ensures { λ r. ⌜ _≡_ {A = ℕ × List Float} (r, now (out .exit)) (onTwo vectorSurfaces vectorSurfaces toVectorSurface (onVectorSurfaces (byVectorSurfaceFormula (difference vectors))) «a_order» (now (a .entry)) «b_order» (now (b .entry)) (now (out .entry))) ⌝ }
 {
     on_two(VectorOperation::Difference, a_order, a, b_order, b, out)
 }
@@ -352,7 +352,7 @@ pub extern "C" fn sugamdely_surface_combinatorial_derivatives_cross(
     b: &[f64],
     out: &mut [f64],
 ) -> u8
-    ensures { λ r. ⌜ _≡_ {A = ℕ × List Float} (r, now (out .exit)) (onTwo vectorSurfaces vectorSurfaces toVectorSurface (onVectorSurfaces (bySurfaceVectors (productBy vectors cross))) «a_order» (now (a .entry)) «b_order» (now (b .entry)) (now (out .entry))) ⌝ }
+    ensures { λ r. ⌜ _≡_ {A = ℕ × List Float} (r, now (out .exit)) (onTwo vectorSurfaces vectorSurfaces toVectorSurface (onVectorSurfaces (byVectorSurfaceFormula (productBy vectors cross))) «a_order» (now (a .entry)) «b_order» (now (b .entry)) (now (out .entry))) ⌝ }
 {
     on_two(VectorOperation::Cross, a_order, a, b_order, b, out)
 }
@@ -392,7 +392,7 @@ pub extern "C" fn sugamdely_vector_composite_derivative(
     n: usize,
     out: &mut [f64],
 ) -> u8
-    ensures { λ r. ⌜ _≡_ {A = ℕ × List Float} (r, now (out .exit)) (onTwoAt vectorSurfaces parameters toVector n (λ x y. carriedVector x y n) «a_order» (now (a .entry)) «c_order» (now (c .entry)) (now (out .entry))) ⌝ }
+    ensures { λ r. ⌜ _≡_ {A = ℕ × List Float} (r, now (out .exit)) (onTwoAt vectorSurfaces parameters toVector n (λ x y. vectorAlongCurveAt x y n) «a_order» (now (a .entry)) «c_order» (now (c .entry)) (now (out .entry))) ⌝ }
 {
     let asked = given::order(n);
     let t = given::two_at(
@@ -426,7 +426,7 @@ pub extern "C" fn sugamdely_vector_composite_derivatives(
     n: usize,
     out: &mut [f64],
 ) -> u8
-    ensures { λ r. ⌜ _≡_ {A = ℕ × List Float} (r, now (out .exit)) (onTwoAt vectorSurfaces parameters toVectorCurve n (λ x y. carriedVectors x y n) «a_order» (now (a .entry)) «c_order» (now (c .entry)) (now (out .entry))) ⌝ }
+    ensures { λ r. ⌜ _≡_ {A = ℕ × List Float} (r, now (out .exit)) (onTwoAt vectorSurfaces parameters toVectorCurve n (λ x y. vectorAlongCurve x y n) «a_order» (now (a .entry)) «c_order» (now (c .entry)) (now (out .entry))) ⌝ }
 {
     let asked = given::order(n);
     let t = given::two_at(

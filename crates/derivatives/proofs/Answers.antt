@@ -19,32 +19,32 @@ use Rattle.calculus.proofs.Filling.{filled-at}
 use Rattle.calculus.proofs.Graded.{room-231}
 use Rattle.derivatives.specs.declared.CurveDerivatives.{CurveDerivatives}
 use Rattle.derivatives.specs.declared.SurfaceDerivatives.{SurfaceDerivatives}
-use Rattle.derivatives.specs.Real.{nil}
+use Rattle.vectors.specs.Answers.{nought}
 use Rattle.derivatives.specs.Answer.{curveNumbers, surfaceNumbers, allFinite, finiteCurve, finiteSurface, refusedCurve, refusedSurface, madeCurve, madeSurface, returnedCurve, returnedSurface, curves, surfaces, curveIntoList, surfaceIntoList}
 use Rattle.derivatives.proofs.Finite.{same, surface-finite}
 use Rattle.derivatives.proofs.Tested.{returned-as, pair, into-worked}
 
 -- ---- the array is finite as far as it is filled where its entries are
 module _ (w : ℕ) (f : ℕ → Float) (n : ℕ) where
-  pub filled-finite : n ≤ w → allFinite (curveNumbers (filled w nil f n)) n ≡ allFinite f n
+  pub filled-finite : n ≤ w → allFinite (curveNumbers (filled w nought f n)) n ≡ allFinite f n
   filled-finite l =
-      same finite (curveNumbers (filled w nil f n)) f n
-      (λ k h. filled-at w nan nil f n k (omega arith) ∙ first (f k) nil (lt-ltb k n h))
+      same finite (curveNumbers (filled w nought f n)) f n
+      (λ k h. filled-at w nan nought f n k (omega arith) ∙ first (f k) nought (lt-ltb k n h))
 
 -- a surface's array
-pub array-finite : (f : ℕ → ℕ → Float) (n : ℕ) → n ≤ 20 → finiteSurface (surfaceNumbers (surfaceArray nil f n)) n ≡ finiteSurface f n
+pub array-finite : (f : ℕ → ℕ → Float) (n : ℕ) → n ≤ 20 → finiteSurface (surfaceNumbers (surfaceArray nought f n)) n ≡ finiteSurface f n
 array-finite f n l =
-    sym (surface-finite (surfaceArray nil f n) n)
+    sym (surface-finite (surfaceArray nought f n) n)
     ∙ filled-finite 231 (graded f) (triangle (suc n)) (room-231 n l)
 
 -- ---- what has been computed
 module _ (n : ℕ) (l : n ≤ 20) {r : List Float} where
-  pub curve-returned : (f : ℕ → Float) → r ≡ curveArray nil f n →
+  pub curve-returned : (f : ℕ → Float) → r ≡ curveArray nought f n →
       cond (finiteCurve (curveNumbers r) n) (madeCurve n r) (refusedCurve 10) ≡ returnedCurve n f
   curve-returned f e =
       returned-as (λ x. finiteCurve (curveNumbers x) n) (madeCurve n) (refusedCurve 10) e (filled-finite 21 f (suc n) (omega arith))
 
-  pub surface-returned : (s : ℕ → ℕ → Float) → r ≡ surfaceArray nil s n →
+  pub surface-returned : (s : ℕ → ℕ → Float) → r ≡ surfaceArray nought s n →
       cond (finiteSurface (surfaceNumbers r) n) (madeSurface n r) (refusedSurface 10) ≡ returnedSurface n s
   surface-returned s e = returned-as (λ x. finiteSurface (surfaceNumbers x) n) (madeSurface n) (refusedSurface 10) e (array-finite s n l)
 

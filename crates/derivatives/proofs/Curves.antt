@@ -16,7 +16,8 @@ use Rattle.calculus.proofs.Related.{sameModule}
 use Rattle.calculus.proofs.Filling.{CurveStored, curve-earlier}
 use Rattle.derivatives.specs.declared.formula.Formula.{Formula}
 use Rattle.derivatives.specs.declared.formula.Formula.the-variants
-use Rattle.derivatives.specs.Real.{nil, real}
+use Rattle.vectors.specs.Answers.{nought}
+use Rattle.derivatives.specs.Real.{real}
 use Rattle.derivatives.specs.Answer.{curveNumbers}
 use Rattle.derivatives.specs.Formula.{curveFormula}
 use Rattle.derivatives.proofs.Quotients.{rationalEntry-alike}
@@ -34,16 +35,16 @@ curve-reads the-variants.Quotient a b p q m h =
 
 -- the entries of the jet that a formula forms, of which the array holds those before m
 abbrev pub curveOf : Formula → (ℕ → Float) → (ℕ → Float) → ℕ → Float
-curveOf f a b = rising nil (curveFormula f a b)
+curveOf f a b = rising nought (curveFormula f a b)
 
 abbrev pub CurveFilled : (ℕ → Float) → ℕ → List Float → Type 0
-CurveFilled f = CurveStored 21 nan nil (λ k v. f k ≡ v)
+CurveFilled f = CurveStored 21 nan nought (λ k v. f k ≡ v)
 
 pub curve-formed : (f : Formula) (a b : ℕ → Float) {r : List Float} {m : ℕ} → CurveFilled (curveOf f a b) m r → m ≤ 20 →
     curveOf f a b m ≡ curveFormula f a b (curveNumbers r) m
 curve-formed f a b {r} {m} s l =
-    curve-reads f a b (before nil (curveFormula f a b) m) (curveNumbers r) m
-    (λ i h. curve-earlier 21 nan nil (λ (x : Float). x) (curveFormula f a b) s i (omega arith))
+    curve-reads f a b (before nought (curveFormula f a b) m) (curveNumbers r) m
+    (λ i h. curve-earlier 21 nan nought (λ (x : Float). x) (curveFormula f a b) s i (omega arith))
 
 -- ---- a list of n entries, of which the first m are written
 pub record Written (f : ℕ → Float) (n m : ℕ) (out : List Float) : Type 0 where

@@ -9,7 +9,7 @@ pub mod Parameters
 pub mod Counts
 pub mod Carries
 pub mod Norms
-pub mod Upto
+pub mod UpTo
 pub mod Vectors
 pub mod VectorAnswers
 pub mod VectorCurves

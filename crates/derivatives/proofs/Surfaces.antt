@@ -15,7 +15,8 @@ use Rattle.calculus.proofs.SurfaceFilling.{SurfaceStored, surface-none, surface
 use Rattle.calculus.proofs.Left.{Inside}
 use Rattle.derivatives.specs.declared.formula.Formula.{Formula}
 use Rattle.derivatives.specs.declared.formula.Formula.the-variants
-use Rattle.derivatives.specs.Real.{nil, real}
+use Rattle.vectors.specs.Answers.{nought}
+use Rattle.derivatives.specs.Real.{real}
 use Rattle.derivatives.specs.Answer.{surfaceNumbers}
 use Rattle.derivatives.specs.Formula.{surfaceFormula}
 use Rattle.derivatives.proofs.Curves.{Eq}
@@ -23,30 +24,30 @@ use Rattle.derivatives.proofs.Quotients.{surfaceRationalEntry-alike}
 
 module _ (f : ℕ → ℕ → Float) {n : ℕ} (b : n ≤ 20) where
   abbrev pub SurfaceFilled : ℕ → ℕ → List Float → Type 0
-  SurfaceFilled = SurfaceStored 231 nan nil n (room-231 n b) (λ i j v. f i j ≡ v)
+  SurfaceFilled = SurfaceStored 231 nan nought n (room-231 n b) (λ i j v. f i j ≡ v)
 
   pub record SurfaceProgress (i j : ℕ) (r : List Float) : Type 0 where
     pub stored : SurfaceFilled i j r
     pub inside : Inside n i j
 
-  pub surface-begins : SurfaceProgress 0 0 (replicate 231 nil)
-  surface-begins = record { stored = surface-none 231 nan nil n (room-231 n b) (λ i j v. f i j ≡ v); inside = (omega arith, λ h. omega arith) }
+  pub surface-begins : SurfaceProgress 0 0 (replicate 231 nought)
+  surface-begins = record { stored = surface-none 231 nan nought n (room-231 n b) (λ i j v. f i j ≡ v); inside = (omega arith, λ h. omega arith) }
 
   module _ {i j : ℕ} {r : List Float} (p : SurfaceProgress i j r) where
     module _ {v : Float} (h : i ≤ n) (e : f i j ≡ v) where
       kept : SurfaceFilled i (j + 1) (set r (index i j) v)
-      kept = surface-more 231 nan nil n (room-231 n b) (λ i j v. f i j ≡ v) v (p .stored) (p .inside .1 h) e
+      kept = surface-more 231 nan nought n (room-231 n b) (λ i j v. f i j ≡ v) v (p .stored) (p .inside .1 h) e
 
       pub surface-goes-on : i + (j + 1) ≤ n → SurfaceProgress i (j + 1) (set r (index i j) v)
       surface-goes-on l = record { stored = kept; inside = (omega arith, λ k. l) }
 
       pub surface-turns : n < i + (j + 1) → SurfaceProgress (i + 1) 0 (set r (index i j) v)
-      surface-turns l = record { stored = surface-next 231 nan nil n (room-231 n b) (λ i j v. f i j ≡ v) kept l; inside = (omega arith, λ k. omega arith) }
+      surface-turns l = record { stored = surface-next 231 nan nought n (room-231 n b) (λ i j v. f i j ≡ v) kept l; inside = (omega arith, λ k. omega arith) }
 
-    pub surface-ends : n < i → r ≡ surfaceArray nil f n
+    pub surface-ends : n < i → r ≡ surfaceArray nought f n
     surface-ends l =
         let e : j ≡ 0 = omega (arith, p .inside .0) in
-        surface-all 231 nan nil n (room-231 n b) (λ i j v. f i j ≡ v) f (λ i j v q. sym q) {m = i} (subst (λ (x : ℕ). SurfaceFilled i x r) e (p .stored)) l
+        surface-all 231 nan nought n (room-231 n b) (λ i j v. f i j ≡ v) f (λ i j v q. sym q) {m = i} (subst (λ (x : ℕ). SurfaceFilled i x r) e (p .stored)) l
 
 -- ---- a formula reads only entries that are formed, or that it forms
 surface-reads : (f : Formula) (a b p q : ℕ → ℕ → Float) (N m n : ℕ) → m + n ≤ N → ((i j : ℕ) → i + j ≤ N → p i j ≡ q i j) →
@@ -59,10 +60,10 @@ surface-reads the-variants.Quotient a b p q N m n l h =
     a a b b (λ i j l. refl) (λ i j l. refl) m n l p q (λ i j c d. h i j (omega arith))
 
 abbrev pub surfaceOf : Formula → (ℕ → ℕ → Float) → (ℕ → ℕ → Float) → ℕ → ℕ → Float
-surfaceOf f a b = risingRows nil (surfaceFormula f a b)
+surfaceOf f a b = risingRows nought (surfaceFormula f a b)
 
 pub surface-formed : (f : Formula) (a b : ℕ → ℕ → Float) {N : ℕ} (l : N ≤ 20) {r : List Float} {m n : ℕ} → SurfaceFilled (surfaceOf f a b) l m n r → m + n ≤ N →
     surfaceOf f a b m n ≡ surfaceFormula f a b (surfaceNumbers r) m n
 surface-formed f a b {N} l {r} {m} {n} s h =
-    surface-reads f a b (beforeEntry nil (surfaceFormula f a b) m n) (surfaceNumbers r) N m n h
-    (λ i j e. surface-earlier 231 nan nil N (room-231 N l) (λ (x : Float). x) (surfaceFormula f a b) s i j e)
+    surface-reads f a b (beforeEntry nought (surfaceFormula f a b) m n) (surfaceNumbers r) N m n h
+    (λ i j e. surface-earlier 231 nan nought N (room-231 N l) (λ (x : Float). x) (surfaceFormula f a b) s i j e)

@@ -12,27 +12,27 @@ use Rattle.vectors.specs.declared.Vector3.{Vector3}
 use Rattle.calculus.specs.Array.{listed, curveArray}
 use Rattle.calculus.proofs.Filling.{filled-at}
 use Rattle.derivatives.specs.declared.VectorCurveDerivatives.{VectorCurveDerivatives}
-use Rattle.derivatives.specs.Real.{nil}
+use Rattle.vectors.specs.Answers.{nought}
 use Rattle.derivatives.specs.Answer.{curveNumbers}
-use Rattle.derivatives.specs.Vector.{vectorNumbers, flat, vectorArray, finiteVectors}
-use Rattle.derivatives.specs.VectorAnswer.{refusedVectors, madeVectors, returnedVectors, vectorCurves, vectorIntoList}
+use Rattle.derivatives.specs.Vector.{vectorNumbers, flat, vectorArray, finiteVectorCurve}
+use Rattle.derivatives.specs.VectorAnswer.{refusedVectorCurve, madeVectorCurve, returnedVectorCurve, vectorCurves, vectorCurveIntoList}
 use Rattle.derivatives.proofs.Tested.{returned-as, pair, into-worked}
 use Rattle.derivatives.proofs.Vectors.{filled-finite}
 
 pub vectors-returned : (n : ℕ) → n ≤ 20 → {r : List Float} (f : ℕ → Vector3) → r ≡ vectorArray f n →
-    cond (finiteVectors (vectorNumbers r) n) (madeVectors n r) (refusedVectors 10) ≡ returnedVectors n f
+    cond (finiteVectorCurve (vectorNumbers r) n) (madeVectorCurve n r) (refusedVectorCurve 10) ≡ returnedVectorCurve n f
 vectors-returned n l f e =
-    returned-as (λ x. finiteVectors (vectorNumbers x) n) (madeVectors n) (refusedVectors 10) e (filled-finite 21 f (suc n) (omega arith))
+    returned-as (λ x. finiteVectorCurve (vectorNumbers x) n) (madeVectorCurve n) (refusedVectorCurve 10) e (filled-finite 21 f (suc n) (omega arith))
 
 pub into-is : (a : VectorCurveDerivatives) (out : List Float) → a .order ≤ 20 → length out ≡ 3 * (a .order + 1) →
-    finiteVectors (vectorNumbers (a .entries)) (a .order) ≡ true → pair 0 (flat (listed (vectorNumbers (a .entries)) 0 (suc (a .order)))) ≡ vectorIntoList a out
+    finiteVectorCurve (vectorNumbers (a .entries)) (a .order) ≡ true → pair 0 (flat (listed (vectorNumbers (a .entries)) 0 (suc (a .order)))) ≡ vectorCurveIntoList a out
 into-is a out h e p =
     into-worked vectorCurves (λ n. 3 * suc n) (λ x n. flat (listed x 0 (suc n))) a out h (ap (_*_ 3) (add-one (a .order))) e refl (ap not p)
 
-pub first-entry : (f : ℕ → Float) (n : ℕ) {r : List Float} → r ≡ curveArray nil f n → curveNumbers r 0 ≡ f 0
+pub first-entry : (f : ℕ → Float) (n : ℕ) {r : List Float} → r ≡ curveArray nought f n → curveNumbers r 0 ≡ f 0
 first-entry f n e =
-    ap (λ (x : List Float). curveNumbers x 0) e ∙ filled-at 21 nan nil f (suc n) 0 (omega arith)
-    ∙ ap (λ (b : Bool). cond b (f 0) nil) (lt-ltb 0 (suc n) (omega arith))
+    ap (λ (x : List Float). curveNumbers x 0) e ∙ filled-at 21 nan nought f (suc n) 0 (omega arith)
+    ∙ ap (λ (b : Bool). cond b (f 0) nought) (lt-ltb 0 (suc n) (omega arith))
 
 -- ---- an array of other entries that are the same
 pub same-array : (f g : ℕ → Vector3) (n : ℕ) → ((k : ℕ) → f k ≡ g k) → vectorArray f n ≡ vectorArray g n

@@ -17,7 +17,8 @@ use Rattle.derivatives.specs.declared.vector_entries.VectorFormula.{Vect
 use Rattle.derivatives.specs.declared.vector_entries.VectorFormula.the-variants as vector
 use Rattle.derivatives.specs.declared.vector_entries.NumberFormula.{NumberFormula}
 use Rattle.derivatives.specs.declared.vector_entries.NumberFormula.the-variants as number
-use Rattle.derivatives.specs.Real.{nil, real}
+use Rattle.vectors.specs.Answers.{nought}
+use Rattle.derivatives.specs.Real.{real}
 use Rattle.derivatives.specs.Norm.{normTerm, normEntry}
 use Rattle.derivatives.specs.Answer.{curveNumbers}
 use Rattle.derivatives.specs.Vector.{origin, vectors, vectorNumbers}
@@ -66,10 +67,10 @@ vectors-formed f a b w {r} {m} s l =
     (λ i h. vectors-earlier (vectorFormula f a b w) s i (omega arith))
 
 abbrev pub numbersOf : NumberFormula → (ℕ → Vector3) → (ℕ → Vector3) → ℕ → Float
-numbersOf f a b = rising nil (numberFormula f a b)
+numbersOf f a b = rising nought (numberFormula f a b)
 
 pub numbers-formed : (f : NumberFormula) (a b : ℕ → Vector3) {r : List Float} {m : ℕ} → CurveFilled (numbersOf f a b) m r → m ≤ 20 →
     numbersOf f a b m ≡ numberFormula f a b (curveNumbers r) m
 numbers-formed f a b {r} {m} s l =
-    numbers-read f a b (before nil (numberFormula f a b) m) (curveNumbers r) m
-    (λ i h. curve-earlier 21 nan nil (λ (x : Float). x) (numberFormula f a b) s i (omega arith))
+    numbers-read f a b (before nought (numberFormula f a b) m) (curveNumbers r) m
+    (λ i h. curve-earlier 21 nan nought (λ (x : Float). x) (numberFormula f a b) s i (omega arith))

@@ -14,7 +14,8 @@ use Rattle.calculus.specs.Array.{surfaceArray}
 use Rattle.calculus.proofs.Related.{same}
 use Rattle.calculus.proofs.Graded.{room-231}
 use Rattle.calculus.proofs.SurfaceFilling.{surface-earlier, array-at}
-use Rattle.derivatives.specs.Real.{nil, real}
+use Rattle.vectors.specs.Answers.{nought}
+use Rattle.derivatives.specs.Real.{real}
 use Rattle.derivatives.specs.Norm.{surfaceNormEntry}
 use Rattle.derivatives.specs.Answer.{surfaceNumbers}
 use Rattle.derivatives.specs.VectorSurfaceNorm.{vectorSurfaceNorm}
@@ -29,9 +30,9 @@ pub norm-formed : (s : ℕ → ℕ → Vector3) {N : ℕ} (l : N ≤ 20) {r : Li
     vectorSurfaceNorm s m n ≡ surfaceNormEntry real squareRoot dot s (surfaceNumbers r) m n
 norm-formed s {N} l {r} {m} {n} p h =
     surfaceNormEntry-alike Eq Same real real (same real) squareRoot squareRoot (λ a b e. ap squareRoot e) dot dot (λ a c b d e f. ap₂ dot e f) N s s (λ i j e. refl)
-    m n h (beforeEntry nil (surfaceNormEntry real squareRoot dot s) m n) (surfaceNumbers r)
-    (λ i j e. surface-earlier 231 nan nil N (room-231 N l) (λ (x : Float). x) (surfaceNormEntry real squareRoot dot s) p i j e)
+    m n h (beforeEntry nought (surfaceNormEntry real squareRoot dot s) m n) (surfaceNumbers r)
+    (λ i j e. surface-earlier 231 nan nought N (room-231 N l) (λ (x : Float). x) (surfaceNormEntry real squareRoot dot s) p i j e)
 
-pub first-entry : (f : ℕ → ℕ → Float) (n : ℕ) → n ≤ 20 → {r : List Float} → r ≡ surfaceArray nil f n → getD r 0 nan ≡ f 0 0
+pub first-entry : (f : ℕ → ℕ → Float) (n : ℕ) → n ≤ 20 → {r : List Float} → r ≡ surfaceArray nought f n → getD r 0 nan ≡ f 0 0
 unfolding index
-first-entry f n l e = ap (λ (x : List Float). getD x 0 nan) e ∙ array-at nan nil f n 0 0 l (omega arith)
+first-entry f n l e = ap (λ (x : List Float). getD x 0 nan) e ∙ array-at nan nought f n 0 0 l (omega arith)

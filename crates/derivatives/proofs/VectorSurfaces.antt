@@ -17,7 +17,7 @@ use Rattle.calculus.proofs.Left.{Inside}
 use Rattle.calculus.proofs.Writing.{Writing, writing-goes-on}
 use Rattle.derivatives.specs.declared.vector_entries.VectorFormula.{VectorFormula}
 use Rattle.derivatives.specs.declared.vector_entries.VectorFormula.the-variants as vector
-use Rattle.derivatives.specs.Real.{nil}
+use Rattle.vectors.specs.Answers.{nought}
 use Rattle.derivatives.specs.Vector.{put, origin, vectors, vectorSurfaceNumbers, flat, vectorSurfaceArray}
 use Rattle.derivatives.specs.VectorSurfaceAnswer.{vectorSurfaceFormula}
 use Rattle.derivatives.proofs.Curves.{Eq}
@@ -32,7 +32,7 @@ module _ (f : ℕ → ℕ → Vector3) {n : ℕ} (b : n ≤ 20) where
     pub stored : Held (Stored i j) r
     pub inside : Inside n i j
 
-  pub surface-begins : SurfaceProgress 0 0 (replicate 693 nil)
+  pub surface-begins : SurfaceProgress 0 0 (replicate 693 nought)
   surface-begins = record {
     stored = record { list = replicate 231 origin; is = flat-zeros 231; holds = surface-none 231 nowhere origin n (room-231 n b) (λ i j v. f i j ≡ v) };
     inside = (omega arith, λ h. omega arith);

@@ -9,13 +9,12 @@ use lib.Ieee.{Float, nan}
 use borrow.Author.Tests.{lt-ltb}
 use Rattle.vectors.specs.declared.Vector3.{Vector3}
 use Rattle.vectors.specs.Vectors.{vector}
-use Rattle.vectors.specs.Answers.{finiteVector}
+use Rattle.vectors.specs.Answers.{nought, finiteVector}
 use Rattle.calculus.specs.Array.{listed, filled}
 use Rattle.calculus.specs.Rising.{before, rising}
 use Rattle.calculus.proofs.Filling.{CurveStored, curve-none, curve-more, curve-all, curve-earlier, filled-at}
 use Rattle.calculus.specs.Graded.{triangle, graded}
 use Rattle.calculus.proofs.Graded.{index-place}
-use Rattle.derivatives.specs.Real.{nil}
 use Rattle.derivatives.specs.Vector.{origin, put, vectorNumbers, flat, vectorSurfaceNumbers, vectorArray, allVectorsFinite, finiteVectorSurface}
 use Rattle.derivatives.proofs.Finite.{same}
 
@@ -57,10 +56,10 @@ flat-put (a ∷ l) (suc k) v =
     ap (λ (i : ℕ). put (a .x ∷ a .y ∷ a .z ∷ flat l) i v) (three k) ∙ put-on (a .x) (a .y) (a .z) (flat l) (3 * k) v
     ∙ ap (λ (r : List Float). a .x ∷ a .y ∷ a .z ∷ r) (flat-put l k v)
 
-pub flat-zeros : (w : ℕ) → replicate (3 * w) nil ≡ flat (replicate w origin)
+pub flat-zeros : (w : ℕ) → replicate (3 * w) nought ≡ flat (replicate w origin)
 unfolding flat
 flat-zeros zero = refl
-flat-zeros (suc w) = ap (λ (k : ℕ). replicate k nil) (three w) ∙ ap (λ (r : List Float). nil ∷ nil ∷ nil ∷ r) (flat-zeros w)
+flat-zeros (suc w) = ap (λ (k : ℕ). replicate k nought) (three w) ∙ ap (λ (r : List Float). nought ∷ nought ∷ nought ∷ r) (flat-zeros w)
 
 pub flat-length : (l : List Vector3) → length (flat l) ≡ 3 * length l
 unfolding flat
@@ -99,7 +98,7 @@ module _ (f : ℕ → Vector3) where
   abbrev pub VectorsFilled : ℕ → List Float → Type 0
   VectorsFilled m = Held (VectorsStored m)
 
-  pub vectors-none : VectorsFilled 0 (replicate 63 nil)
+  pub vectors-none : VectorsFilled 0 (replicate 63 nought)
   vectors-none = record { list = replicate 21 origin; is = flat-zeros 21; holds = curve-none 21 nowhere origin (λ k v. f k ≡ v) }
 
   pub vectors-more : {r : List Float} {m : ℕ} (v : Vector3) → VectorsFilled m r → m < 21 → f m ≡ v → VectorsFilled (m + 1) (put r (3 * m) v)

@@ -20,7 +20,8 @@ use Rattle.derivatives.specs.declared.CurveAnswer.{CurveAnswer}
 use Rattle.derivatives.specs.declared.SurfaceAnswer.{SurfaceAnswer}
 use Rattle.derivatives.specs.declared.ParameterAnswer.{ParameterAnswer}
 use Rattle.calculus.specs.Order.{curveEntries, surfaceEntries, listPlace}
-use Rattle.derivatives.specs.Real.{nil, isZero}
+use Rattle.vectors.specs.Answers.{nought}
+use Rattle.derivatives.specs.Real.{isZero}
 
 -- ---- the entries of an array as a jet. No formula reads past the array's end, where the logic has a NaN
 abbrev pub curveNumbers : List Float → ℕ → Float
@@ -58,22 +59,22 @@ abbrev pub madeParameter : ℕ → List Float → List Float → ParameterAnswer
 madeParameter n u v = record { refusal = 0; jet = record { order = n; u = u; v = v } }
 
 abbrev pub refusedCurve : ℕ → CurveAnswer
-refusedCurve c = record { refusal = c; jet = record { order = 0; entries = replicate 21 nil } }
+refusedCurve c = record { refusal = c; jet = record { order = 0; entries = replicate 21 nought } }
 
 abbrev pub refusedSurface : ℕ → SurfaceAnswer
-refusedSurface c = record { refusal = c; jet = record { order = 0; entries = replicate 231 nil } }
+refusedSurface c = record { refusal = c; jet = record { order = 0; entries = replicate 231 nought } }
 
 abbrev pub refusedParameter : ℕ → ParameterAnswer
-refusedParameter c = record { refusal = c; jet = record { order = 0; u = replicate 21 nil; v = replicate 21 nil } }
+refusedParameter c = record { refusal = c; jet = record { order = 0; u = replicate 21 nought; v = replicate 21 nought } }
 
 abbrev pub answeredCurve : ℕ → (ℕ → Float) → CurveAnswer
-answeredCurve n a = madeCurve n (curveArray nil a n)
+answeredCurve n a = madeCurve n (curveArray nought a n)
 
 abbrev pub answeredSurface : ℕ → (ℕ → ℕ → Float) → SurfaceAnswer
-answeredSurface n s = madeSurface n (surfaceArray nil s n)
+answeredSurface n s = madeSurface n (surfaceArray nought s n)
 
 abbrev pub answeredParameter : ℕ → (ℕ → Float) → (ℕ → Float) → ParameterAnswer
-answeredParameter n u v = madeParameter n (curveArray nil u n) (curveArray nil v n)
+answeredParameter n u v = madeParameter n (curveArray nought u n) (curveArray nought v n)
 
 -- ---- what has been computed: 10 where an entry is not finite
 abbrev pub returnedCurve : ℕ → (ℕ → Float) → CurveAnswer

@@ -10,7 +10,8 @@ use Rattle.derivatives.specs.declared.CurveAnswer.{CurveAnswer}
 use Rattle.derivatives.specs.declared.SurfaceAnswer.{SurfaceAnswer}
 use Rattle.derivatives.specs.declared.formula.Formula.{Formula}
 use Rattle.derivatives.specs.declared.formula.Formula.the-variants.{Sum, Difference, Product, Quotient}
-use Rattle.derivatives.specs.Real.{nil, real, isZero}
+use Rattle.vectors.specs.Answers.{nought}
+use Rattle.derivatives.specs.Real.{real, isZero}
 use Rattle.derivatives.specs.Rational.{rationalEntry, surfaceRationalEntry}
 use Rattle.derivatives.specs.Answer.{refusedCurve, refusedSurface, returnedCurve, returnedSurface}
 
@@ -27,8 +28,8 @@ divisionByZero Difference y = false
 divisionByZero Product y = false
 divisionByZero Quotient y = isZero y
 
-abbrev pub byCurveFormula : Formula → (ℕ → Float) → (ℕ → Float) → ℕ → CurveAnswer
-byCurveFormula f x y n = cond (divisionByZero f (y 0)) (refusedCurve 7) (returnedCurve n (rising nil (curveFormula f x y)))
+abbrev pub byCurveEntries : Formula → (ℕ → Float) → (ℕ → Float) → ℕ → CurveAnswer
+byCurveEntries f x y n = cond (divisionByZero f (y 0)) (refusedCurve 7) (returnedCurve n (rising nought (curveFormula f x y)))
 
 -- ---- surfaces
 abbrev pub surfaceFormula : Formula → (ℕ → ℕ → Float) → (ℕ → ℕ → Float) → (ℕ → ℕ → Float) → ℕ → ℕ → Float
@@ -37,5 +38,5 @@ surfaceFormula Difference x y q m n = Surface.difference (regular real) x y m n
 surfaceFormula Product x y q m n = Surface.product real x y m n
 surfaceFormula Quotient x y q m n = surfaceRationalEntry (regular real) (real .over) x y q m n
 
-abbrev pub byFormulaOnSurfaces : Formula → (ℕ → ℕ → Float) → (ℕ → ℕ → Float) → ℕ → SurfaceAnswer
-byFormulaOnSurfaces f x y n = cond (divisionByZero f (y 0 0)) (refusedSurface 7) (returnedSurface n (risingRows nil (surfaceFormula f x y)))
+abbrev pub bySurfaceEntries : Formula → (ℕ → ℕ → Float) → (ℕ → ℕ → Float) → ℕ → SurfaceAnswer
+bySurfaceEntries f x y n = cond (divisionByZero f (y 0 0)) (refusedSurface 7) (returnedSurface n (risingRows nought (surfaceFormula f x y)))

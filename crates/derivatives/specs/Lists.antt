@@ -1,6 +1,6 @@
 -- A list as a jet of its order, whatever its floats are: the entries, and zeros past the order. Where the order is above 20, or the count of
 -- floats is not that of the order, the zero jet of order 0. Assumes nothing.
-use mathlib.Core.Bool.{Bool, cond}
+use mathlib.Core.Bool.{cond}
 use mathlib.Core.List.{List}
 use Prim.Native.Nat.{ℕ, suc, _+_, _*_}
 use lib.Dec.{ltb, eqb}
@@ -15,7 +15,7 @@ use Rattle.derivatives.specs.declared.VectorCurveDerivatives.{VectorCurv
 use Rattle.derivatives.specs.declared.VectorSurfaceDerivatives.{VectorSurfaceDerivatives}
 use Rattle.derivatives.specs.Answer.{curveNumbers, refusedCurve, refusedSurface, refusedParameter, answeredCurve, answeredSurface, answeredParameter}
 use Rattle.derivatives.specs.Vector.{vectorNumbers}
-use Rattle.derivatives.specs.VectorAnswer.{refusedVectors, answeredVectors}
+use Rattle.derivatives.specs.VectorAnswer.{refusedVectorCurve, answeredVectorCurve}
 use Rattle.derivatives.specs.VectorSurfaceAnswer.{refusedVectorSurface, answeredVectorSurface}
 
 -- the jet of a list of so many floats, of which the order n has `count`
@@ -34,8 +34,8 @@ parameterOfList n l =
     ofList (refusedParameter 0 .jet) n (length l) (2 * suc n)
     (answeredParameter n (λ m. getD l (2 * m) nan) (λ m. getD l (2 * m + 1) nan) .jet)
 
-abbrev pub vectorsOfList : ℕ → List Float → VectorCurveDerivatives
-vectorsOfList n l = ofList (refusedVectors 0 .jet) n (length l) (3 * suc n) (answeredVectors n (vectorNumbers l) .jet)
+abbrev pub vectorCurveOfList : ℕ → List Float → VectorCurveDerivatives
+vectorCurveOfList n l = ofList (refusedVectorCurve 0 .jet) n (length l) (3 * suc n) (answeredVectorCurve n (vectorNumbers l) .jet)
 
 abbrev pub vectorSurfaceOfList : ℕ → List Float → VectorSurfaceDerivatives
 vectorSurfaceOfList n l =

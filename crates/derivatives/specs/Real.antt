@@ -3,15 +3,12 @@ use mathlib.Core.Bool.{Bool}
 use lib.IntN.{pos}
 use lib.Ieee
 use lib.Ieee.{Float, binary64, ofBits, ofInt}
+use Rattle.vectors.specs.Answers.{nought}
 use Rattle.calculus.specs.Kind.{Kind}
-
--- +0
-abbrev pub nil : Float
-nil = ofBits binary64 0
 
 abbrev pub real : Kind Float
 real = record {
-  nought = nil;
+  nought = nought;
   one = ofBits binary64 0x3ff0_0000_0000_0000;
   plus = Ieee.add binary64;
   minus = Ieee.sub binary64;
@@ -22,4 +19,4 @@ real = record {
 
 -- a zero of either sign
 abbrev pub isZero : Float → Bool
-isZero x = Ieee.eq x nil
+isZero x = Ieee.eq x nought

@@ -6,15 +6,15 @@ use lib.ListN.{getD, set}
 use lib.Ieee.{Float, nan}
 use Rattle.vectors.specs.declared.Vector3.{Vector3}
 use Rattle.vectors.specs.Vectors.{vector, sum, difference, multiple}
-use Rattle.vectors.specs.Answers.{finiteVector}
+use Rattle.vectors.specs.Answers.{nought, finiteVector}
 use Rattle.calculus.specs.Kind.{Module}
 use Rattle.calculus.specs.Graded.{triangle, index, graded}
 use Rattle.calculus.specs.Array.{curveArray, surfaceArray}
-use Rattle.derivatives.specs.Real.{nil, real}
+use Rattle.derivatives.specs.Real.{real}
 use Rattle.derivatives.specs.Answer.{allPass}
 
 abbrev pub origin : Vector3
-origin = vector nil nil nil
+origin = vector nought nought nought
 
 -- component by component, each rounded
 abbrev pub vectors : Module Float Vector3
@@ -47,8 +47,8 @@ vectorSurfaceArray s n = flat (surfaceArray origin s n)
 abbrev pub allVectorsFinite : (ℕ → Vector3) → ℕ → Bool
 allVectorsFinite = allPass finiteVector
 
-abbrev pub finiteVectors : (ℕ → Vector3) → ℕ → Bool
-finiteVectors a n = allVectorsFinite a (suc n)
+abbrev pub finiteVectorCurve : (ℕ → Vector3) → ℕ → Bool
+finiteVectorCurve a n = allVectorsFinite a (suc n)
 
 abbrev pub finiteVectorSurface : (ℕ → ℕ → Vector3) → ℕ → Bool
 finiteVectorSurface s n = allVectorsFinite (graded s) (triangle (suc n))

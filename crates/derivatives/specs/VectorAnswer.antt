@@ -11,54 +11,54 @@ use Rattle.vectors.specs.declared.Vector3.{Vector3}
 use Rattle.vectors.specs.declared.VectorAnswer.{VectorAnswer}
 use Rattle.vectors.specs.declared.VectorAnswer.the-variants.{Refused}
 use Rattle.vectors.specs.Vectors.{quotient, dot}
-use Rattle.vectors.specs.Answers.{returnedVector}
+use Rattle.vectors.specs.Answers.{nought, returnedVector}
 use Rattle.calculus.specs.Array.{listed}
 use Rattle.calculus.specs.Curve.{derivative}
 use Rattle.derivatives.specs.declared.CurveDerivatives.{CurveDerivatives}
 use Rattle.derivatives.specs.declared.CurveAnswer.{CurveAnswer}
 use Rattle.derivatives.specs.declared.VectorCurveDerivatives.{VectorCurveDerivatives}
 use Rattle.derivatives.specs.declared.VectorCurveAnswer.{VectorCurveAnswer}
-use Rattle.derivatives.specs.Real.{nil, real, isZero}
+use Rattle.derivatives.specs.Real.{real, isZero}
 use Rattle.derivatives.specs.Rational.{rational}
 use Rattle.derivatives.specs.Norm.{norm}
 use Rattle.derivatives.specs.Answer.{Reading, refusedCurve, returnedCurve, curves, onOne, onOneLess, onTwo, onTwoAt, fromList, intoList}
-use Rattle.derivatives.specs.Vector.{vectors, vectorNumbers, flat, vectorArray, finiteVectors}
+use Rattle.derivatives.specs.Vector.{vectors, vectorNumbers, flat, vectorArray, finiteVectorCurve}
 
 -- ---- a refusal's number beside the zero jet of order 0, a jet beside 0, and a jet that has been computed: 10 where it is not finite
-abbrev pub refusedVectors : ℕ → VectorCurveAnswer
-refusedVectors c = record { refusal = c; jet = record { order = 0; entries = replicate 63 nil } }
+abbrev pub refusedVectorCurve : ℕ → VectorCurveAnswer
+refusedVectorCurve c = record { refusal = c; jet = record { order = 0; entries = replicate 63 nought } }
 
-abbrev pub madeVectors : ℕ → List Float → VectorCurveAnswer
-madeVectors n l = record { refusal = 0; jet = record { order = n; entries = l } }
+abbrev pub madeVectorCurve : ℕ → List Float → VectorCurveAnswer
+madeVectorCurve n l = record { refusal = 0; jet = record { order = n; entries = l } }
 
-abbrev pub answeredVectors : ℕ → (ℕ → Vector3) → VectorCurveAnswer
-answeredVectors n a = madeVectors n (vectorArray a n)
+abbrev pub answeredVectorCurve : ℕ → (ℕ → Vector3) → VectorCurveAnswer
+answeredVectorCurve n a = madeVectorCurve n (vectorArray a n)
 
-abbrev pub returnedVectors : ℕ → (ℕ → Vector3) → VectorCurveAnswer
-returnedVectors n a = cond (finiteVectors a n) (answeredVectors n a) (refusedVectors 10)
+abbrev pub returnedVectorCurve : ℕ → (ℕ → Vector3) → VectorCurveAnswer
+returnedVectorCurve n a = cond (finiteVectorCurve a n) (answeredVectorCurve n a) (refusedVectorCurve 10)
 
 -- ---- two jets, a formula worked at the smaller order; the second has vectors, or floats
 abbrev pub vectorCurves : Reading VectorCurveDerivatives (ℕ → Vector3)
-vectorCurves = record { order = λ a. a .order; numbers = λ a. vectorNumbers (a .entries); finite = finiteVectors }
+vectorCurves = record { order = λ a. a .order; numbers = λ a. vectorNumbers (a .entries); finite = finiteVectorCurve }
 
 abbrev pub onVectors : {R : Type 0} → (ℕ → R) → ((ℕ → Vector3) → (ℕ → Vector3) → ℕ → R) → VectorCurveDerivatives → VectorCurveDerivatives → R
 onVectors = onTwo vectorCurves vectorCurves
 
 abbrev pub onWeighted : ((ℕ → Vector3) → (ℕ → Float) → ℕ → VectorCurveAnswer) → VectorCurveDerivatives → CurveDerivatives → VectorCurveAnswer
-onWeighted = onTwo vectorCurves curves refusedVectors
+onWeighted = onTwo vectorCurves curves refusedVectorCurve
 
 abbrev pub byVectorFormula : ((ℕ → Vector3) → (ℕ → Vector3) → ℕ → Vector3) → (ℕ → Vector3) → (ℕ → Vector3) → ℕ → VectorCurveAnswer
-byVectorFormula f x y n = returnedVectors n (f x y)
+byVectorFormula f x y n = returnedVectorCurve n (f x y)
 
 abbrev pub byNumberFormula : ((ℕ → Vector3) → (ℕ → Vector3) → ℕ → Float) → (ℕ → Vector3) → (ℕ → Vector3) → ℕ → CurveAnswer
 byNumberFormula f x y n = returnedCurve n (f x y)
 
 abbrev pub byWeights : ((ℕ → Vector3) → (ℕ → Float) → ℕ → Vector3) → (ℕ → Vector3) → (ℕ → Float) → ℕ → VectorCurveAnswer
-byWeights f x w n = returnedVectors n (f x w)
+byWeights f x w n = returnedVectorCurve n (f x w)
 
 -- the quotient: 7 where the weights' first entry is zero
 abbrev pub vectorQuotient : (ℕ → Vector3) → (ℕ → Float) → ℕ → VectorCurveAnswer
-vectorQuotient x w n = cond (isZero (w 0)) (refusedVectors 7) (returnedVectors n (rational vectors quotient x w))
+vectorQuotient x w n = cond (isZero (w 0)) (refusedVectorCurve 7) (returnedVectorCurve n (rational vectors quotient x w))
 
 -- one entry of a formula, of the order m, worked at that order
 abbrev pub onVectorsAt : {R : Type 0} → (ℕ → R) → ((ℕ → Vector3) → (ℕ → Vector3) → ℕ → R) → VectorCurveDerivatives → VectorCurveDerivatives → ℕ → R
@@ -71,18 +71,18 @@ onWeightedAt op a b m = onTwoAt vectorCurves curves Refused (λ x y. returnedVec
 abbrev pub vectorNorm : (ℕ → Vector3) → ℕ → Float
 vectorNorm = norm real squareRoot dot
 
-abbrev pub vectorAbsolute : VectorCurveDerivatives → CurveAnswer
-vectorAbsolute =
+abbrev pub vectorCurveAbsolute : VectorCurveDerivatives → CurveAnswer
+vectorCurveAbsolute =
     onOne vectorCurves refusedCurve
     (λ x n. cond (ltb 0 n && isZero (vectorNorm x 0)) (refusedCurve 7) (returnedCurve n (vectorNorm x)))
 
 -- ---- derivatives
-abbrev pub vectorDerivative : VectorCurveDerivatives → VectorCurveAnswer
-vectorDerivative = onOneLess vectorCurves refusedVectors (λ x n. answeredVectors n (derivative x))
+abbrev pub vectorCurveDerivative : VectorCurveDerivatives → VectorCurveAnswer
+vectorCurveDerivative = onOneLess vectorCurves refusedVectorCurve (λ x n. answeredVectorCurve n (derivative x))
 
 -- ---- from a list, x0 y0 z0 x1 y1 z1 .., and into one
-abbrev pub vectorFromList : ℕ → List Float → VectorCurveAnswer
-vectorFromList n l = fromList refusedVectors n (3 * suc n) l (answeredVectors n (vectorNumbers l))
+abbrev pub vectorCurveFromList : ℕ → List Float → VectorCurveAnswer
+vectorCurveFromList n l = fromList refusedVectorCurve n (3 * suc n) l (answeredVectorCurve n (vectorNumbers l))
 
-abbrev pub vectorIntoList : VectorCurveDerivatives → List Float → ℕ × List Float
-vectorIntoList = intoList vectorCurves (λ n. 3 * suc n) (λ x n. flat (listed x 0 (suc n)))
+abbrev pub vectorCurveIntoList : VectorCurveDerivatives → List Float → ℕ × List Float
+vectorCurveIntoList = intoList vectorCurves (λ n. 3 * suc n) (λ x n. flat (listed x 0 (suc n)))

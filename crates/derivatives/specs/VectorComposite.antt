@@ -9,12 +9,12 @@ use Rattle.derivatives.specs.declared.ParameterCurve.{ParameterCurve}
 use Rattle.derivatives.specs.declared.VectorCurveAnswer.{VectorCurveAnswer}
 use Rattle.derivatives.specs.Answer.{parameters, onTwoAt}
 use Rattle.derivatives.specs.Vector.{vectors}
-use Rattle.derivatives.specs.VectorAnswer.{refusedVectors, returnedVectors}
+use Rattle.derivatives.specs.VectorAnswer.{refusedVectorCurve, returnedVectorCurve}
 use Rattle.derivatives.specs.VectorSurfaceAnswer.{vectorSurfaces}
 
-abbrev pub carriedVector : VectorSurfaceDerivatives → ParameterCurve → ℕ → VectorAnswer
-carriedVector a c n = onTwoAt vectorSurfaces parameters Refused (λ s w. returnedVector (compositeDerivative vectors (w .0) (w .1) s n)) a c n
+abbrev pub vectorAlongCurveAt : VectorSurfaceDerivatives → ParameterCurve → ℕ → VectorAnswer
+vectorAlongCurveAt a c n = onTwoAt vectorSurfaces parameters Refused (λ s w. returnedVector (compositeDerivative vectors (w .0) (w .1) s n)) a c n
 
-abbrev pub carriedVectors : VectorSurfaceDerivatives → ParameterCurve → ℕ → VectorCurveAnswer
-carriedVectors a c n =
-    onTwoAt vectorSurfaces parameters refusedVectors (λ s w. returnedVectors n (compositeDerivatives vectors (w .0) (w .1) s)) a c n
+abbrev pub vectorAlongCurve : VectorSurfaceDerivatives → ParameterCurve → ℕ → VectorCurveAnswer
+vectorAlongCurve a c n =
+    onTwoAt vectorSurfaces parameters refusedVectorCurve (λ s w. returnedVectorCurve n (compositeDerivatives vectors (w .0) (w .1) s)) a c n

@@ -14,12 +14,13 @@ use Rattle.derivatives.specs.declared.vector_entries.VectorFormula.{Vect
 use Rattle.derivatives.specs.declared.vector_entries.VectorFormula.the-variants as vector
 use Rattle.derivatives.specs.declared.vector_entries.NumberFormula.{NumberFormula}
 use Rattle.derivatives.specs.declared.vector_entries.NumberFormula.the-variants as number
-use Rattle.derivatives.specs.Real.{nil, real, isZero}
+use Rattle.vectors.specs.Answers.{nought}
+use Rattle.derivatives.specs.Real.{real, isZero}
 use Rattle.derivatives.specs.Rational.{rationalEntry}
 use Rattle.derivatives.specs.Norm.{normEntry}
 use Rattle.derivatives.specs.Answer.{curveNumbers}
 use Rattle.derivatives.specs.Vector.{origin, vectors}
-use Rattle.derivatives.specs.VectorAnswer.{refusedVectors, returnedVectors}
+use Rattle.derivatives.specs.VectorAnswer.{refusedVectorCurve, returnedVectorCurve}
 
 -- of x and y, or of x and the floats w
 abbrev pub vectorFormula : VectorFormula → (ℕ → Vector3) → (ℕ → Vector3) → (ℕ → Float) → (ℕ → Vector3) → ℕ → Vector3
@@ -44,8 +45,8 @@ vectorDivisionByZero vector.Rational y = isZero y
 
 -- the answers by these formulas: no floats beside two jets of vectors, and no second jet of vectors beside floats
 abbrev pub byVectorEntries : VectorFormula → (ℕ → Vector3) → (ℕ → Vector3) → ℕ → VectorCurveAnswer
-byVectorEntries f x y n = returnedVectors n (rising origin (vectorFormula f x y (curveNumbers (replicate 21 nil))))
+byVectorEntries f x y n = returnedVectorCurve n (rising origin (vectorFormula f x y (curveNumbers (replicate 21 nought))))
 
 abbrev pub byWeightedEntries : VectorFormula → (ℕ → Vector3) → (ℕ → Float) → ℕ → VectorCurveAnswer
 byWeightedEntries f x w n =
-    cond (vectorDivisionByZero f (w 0)) (refusedVectors 7) (returnedVectors n (rising origin (vectorFormula f x x w)))
+    cond (vectorDivisionByZero f (w 0)) (refusedVectorCurve 7) (returnedVectorCurve n (rising origin (vectorFormula f x x w)))

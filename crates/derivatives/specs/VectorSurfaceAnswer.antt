@@ -7,7 +7,7 @@ use lib.Ieee.{Float}
 use Rattle.vectors.specs.declared.Vector3.{Vector3}
 use Rattle.vectors.specs.declared.VectorAnswer.{VectorAnswer}
 use Rattle.vectors.specs.declared.VectorAnswer.the-variants.{Refused}
-use Rattle.vectors.specs.Answers.{returnedVector}
+use Rattle.vectors.specs.Answers.{nought, returnedVector}
 use Rattle.vectors.specs.Vectors.{multiple, quotient, dot, cross}
 use Rattle.calculus.specs.Kind.{regular}
 use Rattle.calculus.specs.Rising.{risingRows}
@@ -20,7 +20,7 @@ use Rattle.derivatives.specs.declared.VectorSurfaceDerivatives.{VectorSu
 use Rattle.derivatives.specs.declared.VectorSurfaceAnswer.{VectorSurfaceAnswer}
 use Rattle.derivatives.specs.declared.vector_entries.VectorFormula.{VectorFormula}
 use Rattle.derivatives.specs.declared.vector_entries.VectorFormula.the-variants as vector
-use Rattle.derivatives.specs.Real.{nil, real, isZero}
+use Rattle.derivatives.specs.Real.{real, isZero}
 use Rattle.derivatives.specs.Rational.{surfaceRational, surfaceRationalEntry}
 use Rattle.derivatives.specs.Answer.{Reading, surfaceNumbers, refusedSurface, returnedSurface, surfaces, onOneLess, onTwo, onTwoAt, fromList, intoList}
 use Rattle.derivatives.specs.Vector.{origin, vectors, vectorNumbers, flat, vectorSurfaceNumbers, vectorSurfaceArray, finiteVectorSurface}
@@ -28,7 +28,7 @@ use Rattle.derivatives.specs.VectorFormula.{vectorDivisionByZero}
 
 -- ---- a refusal's number beside the zero jet of order 0, a jet beside 0, and a jet that has been computed: 10 where it is not finite
 abbrev pub refusedVectorSurface : ℕ → VectorSurfaceAnswer
-refusedVectorSurface c = record { refusal = c; jet = record { order = 0; entries = replicate 693 nil } }
+refusedVectorSurface c = record { refusal = c; jet = record { order = 0; entries = replicate 693 nought } }
 
 abbrev pub madeVectorSurface : ℕ → List Float → VectorSurfaceAnswer
 madeVectorSurface n l = record { refusal = 0; jet = record { order = n; entries = l } }
@@ -49,8 +49,8 @@ onVectorSurfaces = onTwo vectorSurfaces vectorSurfaces refusedVectorSurface
 abbrev pub onWeightedSurface : ((ℕ → ℕ → Vector3) → (ℕ → ℕ → Float) → ℕ → VectorSurfaceAnswer) → VectorSurfaceDerivatives → SurfaceDerivatives → VectorSurfaceAnswer
 onWeightedSurface = onTwo vectorSurfaces surfaces refusedVectorSurface
 
-abbrev pub bySurfaceVectors : ((ℕ → ℕ → Vector3) → (ℕ → ℕ → Vector3) → ℕ → ℕ → Vector3) → (ℕ → ℕ → Vector3) → (ℕ → ℕ → Vector3) → ℕ → VectorSurfaceAnswer
-bySurfaceVectors f x y n = returnedVectorSurface n (f x y)
+abbrev pub byVectorSurfaceFormula : ((ℕ → ℕ → Vector3) → (ℕ → ℕ → Vector3) → ℕ → ℕ → Vector3) → (ℕ → ℕ → Vector3) → (ℕ → ℕ → Vector3) → ℕ → VectorSurfaceAnswer
+byVectorSurfaceFormula f x y n = returnedVectorSurface n (f x y)
 
 abbrev pub bySurfaceWeights : ((ℕ → ℕ → Vector3) → (ℕ → ℕ → Float) → ℕ → ℕ → Vector3) → (ℕ → ℕ → Vector3) → (ℕ → ℕ → Float) → ℕ → VectorSurfaceAnswer
 bySurfaceWeights f x w n = returnedVectorSurface n (f x w)
@@ -68,8 +68,8 @@ vectorSurfaceFormula vector.Cross x y w q m n = Surface.productBy vectors cross 
 vectorSurfaceFormula vector.Scaled x y w q m n = Surface.productBy vectors multiple x w m n
 vectorSurfaceFormula vector.Rational x y w q m n = surfaceRationalEntry vectors quotient x w q m n
 
-abbrev pub bySurfaceVectorEntries : VectorFormula → (ℕ → ℕ → Vector3) → (ℕ → ℕ → Vector3) → ℕ → VectorSurfaceAnswer
-bySurfaceVectorEntries f x y n = returnedVectorSurface n (risingRows origin (vectorSurfaceFormula f x y (surfaceNumbers (replicate 231 nil))))
+abbrev pub byVectorSurfaceEntries : VectorFormula → (ℕ → ℕ → Vector3) → (ℕ → ℕ → Vector3) → ℕ → VectorSurfaceAnswer
+byVectorSurfaceEntries f x y n = returnedVectorSurface n (risingRows origin (vectorSurfaceFormula f x y (surfaceNumbers (replicate 231 nought))))
 
 abbrev pub bySurfaceWeightedEntries : VectorFormula → (ℕ → ℕ → Vector3) → (ℕ → ℕ → Float) → ℕ → VectorSurfaceAnswer
 bySurfaceWeightedEntries f x w n =

@@ -1,15 +1,16 @@
 // The loops of the carry. Each `requires` is met by the public methods in composite.rt.
 ghost use mathlib.Core.Path.{_≡_};
 ghost use mathlib.Core.Bool.{true};
-ghost use Prim.Native.Nat.{ℕ, _+_, _≤_, _<_};
-ghost use lib.ListN.{length, getD};
+ghost use Prim.Native.Nat.{_≤_, _<_};
+ghost use lib.ListN.{length};
 ghost use Rattle.calculus.specs.Kind.{regular};
 ghost use Rattle.calculus.specs.Carry.{factors as Factors, tensor as Tensor, summand as Summand, coordinates, surfaceEntry, compositeDerivative, compositeDerivatives};
 ghost use Rattle.calculus.specs.InTurn.{alongList};
 ghost use Rattle.calculus.specs.Array.{curveArray};
 ghost use Rattle.partitions.specs.Parts.{total, lists};
 ghost use Rattle.partitions.specs.Count.{isList};
-ghost use Rattle.derivatives.specs.Real.{nil, real};
+ghost use Rattle.vectors.specs.Answers.{nought};
+ghost use Rattle.derivatives.specs.Real.{real};
 ghost use Rattle.derivatives.specs.Answer.{curveNumbers, surfaceNumbers};
 use partitions::CompositionIter;
 use partitions::Count;
@@ -119,7 +120,7 @@ fn entry(entries: &[f64; 231], u: &[f64; 21], v: &[f64; 21], m: usize) -> f64
 
 pub fn derivatives(entries: &[f64; 231], u: &[f64; 21], v: &[f64; 21], order: usize) -> [f64; 21]
     requires { ⌜ order ≤ 20 ⌝ }
-    ensures { λ r. ⌜ r ≡ curveArray nil (compositeDerivatives (regular real) (curveNumbers (now (u .entry))) (curveNumbers (now (v .entry))) (surfaceNumbers (now (entries .entry)))) order ⌝ }
+    ensures { λ r. ⌜ r ≡ curveArray nought (compositeDerivatives (regular real) (curveNumbers (now (u .entry))) (curveNumbers (now (v .entry))) (surfaceNumbers (now (entries .entry)))) order ⌝ }
 {
     let mut r = [0.0f64; 21];
     let mut m = 0;

@@ -9,11 +9,12 @@ ghost use Rattle.calculus.specs.Rising.{rising};
 ghost use Rattle.calculus.specs.Array.{curveArray};
 ghost use Rattle.calculus.specs.Choose.{binomialTable};
 ghost use Rattle.calculus.specs.Curve.{sum as sums, difference as differences, product, leibniz, derivative as derivativeOf};
-ghost use Rattle.derivatives.specs.Real.{nil, real};
+ghost use Rattle.vectors.specs.Answers.{nought};
+ghost use Rattle.derivatives.specs.Real.{real};
 ghost use Rattle.derivatives.specs.Rational.{rational, rationalTerm, rationalEntry};
 ghost use Rattle.calculus.specs.Order.{curveEntries};
-ghost use Rattle.derivatives.specs.Answer.{curveNumbers, answeredCurve, returnedCurve, onCurves, byFormula, byDivision, onCurvesAt, curveDerivative, curveFromList, curveIntoList};
-ghost use Rattle.derivatives.specs.Formula.{curveFormula, byCurveFormula};
+ghost use Rattle.derivatives.specs.Answer.{curveNumbers, answeredCurve, onCurves, byFormula, byDivision, onCurvesAt, curveDerivative, curveFromList, curveIntoList};
+ghost use Rattle.derivatives.specs.Formula.{curveFormula, byCurveEntries};
 use crate::CurveAnswer;
 use crate::CurveDerivatives;
 use crate::formula;
@@ -81,7 +82,7 @@ fn entry(f: Formula, a: &[f64; 21], b: &[f64; 21], q: &[f64; 21], c: &[u32; 231]
 // The entries up to the order n, and zeros past them.
 fn entries(f: Formula, a: &[f64; 21], b: &[f64; 21], n: usize) -> [f64; 21]
     requires { ⌜ n ≤ 20 ⌝ }
-    ensures { λ r. ⌜ r ≡ curveArray nil (rising nil (curveFormula f (curveNumbers (now (a .entry))) (curveNumbers (now (b .entry))))) n ⌝ }
+    ensures { λ r. ⌜ r ≡ curveArray nought (rising nought (curveFormula f (curveNumbers (now (a .entry))) (curveNumbers (now (b .entry))))) n ⌝ }
 {
     let c = calculus::binomials();
     let mut r = [0.0f64; 21];
@@ -95,7 +96,7 @@ fn entries(f: Formula, a: &[f64; 21], b: &[f64; 21], n: usize) -> [f64; 21]
 }
 
 fn on_two(f: Formula, a: CurveDerivatives, b: CurveDerivatives) -> CurveAnswer
-    ensures { λ r. ⌜ r ≡ onCurves (byCurveFormula f) a b ⌝ }
+    ensures { λ r. ⌜ r ≡ onCurves (byCurveEntries f) a b ⌝ }
 {
     let m = a.order;
     let n = b.order;

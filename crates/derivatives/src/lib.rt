@@ -1,4 +1,4 @@
-// Jets of floats: the derivatives of a curve or of a surface, each rounded as the source rounds it. A function answers in full, or refuses
+// Jets of floats and of vectors: the derivatives of a curve or of a surface, each rounded as the source rounds it. A function answers in full, or refuses
 // with a number of document 01's table. Anybody may write the fields: every function tests the orders, and that what it reads is finite.
 ghost use mathlib.Core.Path.{_≡_};
 ghost use mathlib.Core.Bool.{cond, _&&_};
@@ -64,16 +64,6 @@ pub struct CurveAnswer {
     pub jet: CurveDerivatives,
 }
 
-pub struct VectorCurveAnswer {
-    pub refusal: u8,
-    pub jet: VectorCurveDerivatives,
-}
-
-pub struct VectorSurfaceAnswer {
-    pub refusal: u8,
-    pub jet: VectorSurfaceDerivatives,
-}
-
 pub struct SurfaceAnswer {
     pub refusal: u8,
     pub jet: SurfaceDerivatives,
@@ -82,6 +72,16 @@ pub struct SurfaceAnswer {
 pub struct ParameterAnswer {
     pub refusal: u8,
     pub jet: ParameterCurve,
+}
+
+pub struct VectorCurveAnswer {
+    pub refusal: u8,
+    pub jet: VectorCurveDerivatives,
+}
+
+pub struct VectorSurfaceAnswer {
+    pub refusal: u8,
+    pub jet: VectorSurfaceDerivatives,
 }
 
 fn refused_curve(c: u8) -> CurveAnswer

@@ -2,9 +2,9 @@
 // not that of the order, gives the zero jet of order 0.
 ghost use mathlib.Core.Path.{_≡_};
 ghost use Rattle.derivatives.specs.Answer.{refusedCurve, refusedSurface, refusedParameter};
-ghost use Rattle.derivatives.specs.VectorAnswer.{refusedVectors};
+ghost use Rattle.derivatives.specs.VectorAnswer.{refusedVectorCurve};
 ghost use Rattle.derivatives.specs.VectorSurfaceAnswer.{refusedVectorSurface};
-ghost use Rattle.derivatives.specs.Lists.{curveOfList, surfaceOfList, parameterOfList, vectorsOfList, vectorSurfaceOfList};
+ghost use Rattle.derivatives.specs.Lists.{curveOfList, surfaceOfList, parameterOfList, vectorCurveOfList, vectorSurfaceOfList};
 use crate::CurveDerivatives;
 use crate::ParameterCurve;
 use crate::SurfaceDerivatives;
@@ -34,7 +34,7 @@ fn zero_parameter() -> ParameterCurve
 }
 
 fn zero_vector_curve() -> VectorCurveDerivatives
-    ensures { λ r. ⌜ r ≡ refusedVectors 0 .jet ⌝ }
+    ensures { λ r. ⌜ r ≡ refusedVectorCurve 0 .jet ⌝ }
 {
     let a = crate::vector_array::refused(0);
     a.jet
@@ -89,7 +89,7 @@ pub fn parameter(order: usize, list: &[f64]) -> ParameterCurve
 }
 
 pub fn vector_curve(order: usize, list: &[f64]) -> VectorCurveDerivatives
-    ensures { λ r. ⌜ r ≡ vectorsOfList order (now (list .entry)) ⌝ }
+    ensures { λ r. ⌜ r ≡ vectorCurveOfList order (now (list .entry)) ⌝ }
 {
     if 20 < order {
         return zero_vector_curve();

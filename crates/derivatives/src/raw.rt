@@ -10,10 +10,11 @@ ghost use Rattle.calculus.specs.Array.{curveArray};
 ghost use Rattle.calculus.specs.Curve.{productBy, product as productOf, difference as differences, derivative as derivativeOf};
 ghost use Rattle.calculus.specs.Surface.{derivativeU, derivativeV};
 ghost use Rattle.calculus.specs.Carry.{compositeDerivative};
-ghost use Rattle.derivatives.specs.Real.{nil, real};
+ghost use Rattle.vectors.specs.Answers.{nought};
+ghost use Rattle.derivatives.specs.Real.{real};
 ghost use Rattle.derivatives.specs.Rational.{rational as rationalOf};
 ghost use Rattle.derivatives.specs.Answer.{curveNumbers, finiteCurve};
-ghost use Rattle.derivatives.specs.Vector.{origin, vectors, vectorNumbers, vectorSurfaceNumbers, vectorArray, vectorSurfaceArray, finiteVectors, finiteVectorSurface};
+ghost use Rattle.derivatives.specs.Vector.{origin, vectors, vectorNumbers, vectorSurfaceNumbers, vectorArray, vectorSurfaceArray, finiteVectorCurve, finiteVectorSurface};
 ghost use Rattle.derivatives.specs.VectorAnswer.{vectorNorm};
 use crate::vector_array;
 use crate::vector_carry;
@@ -23,9 +24,9 @@ use crate::vector_entries::VectorFormula;
 use crate::vector_surface_entries;
 use vectors::Vector3;
 
-// One entry of a product: of vectors, of vectors by floats, and of floats.
+// One entry of a product: of vectors by dot and by cross, and of floats.
 pub fn dot(a: &[f64; 63], b: &[f64; 63], m: usize) -> f64
-    ensures { λ r. ⌜ r ≡ cond (ltb 20 m) nil (productBy (regular real) dotOf (vectorNumbers (now (a .entry))) (vectorNumbers (now (b .entry))) m) ⌝ }
+    ensures { λ r. ⌜ r ≡ cond (ltb 20 m) nought (productBy (regular real) dotOf (vectorNumbers (now (a .entry))) (vectorNumbers (now (b .entry))) m) ⌝ }
 {
     if 20 < m {
         return 0.0;
@@ -44,18 +45,8 @@ pub fn cross(a: &[f64; 63], b: &[f64; 63], m: usize) -> Vector3
     vector_entries::cross_entry(a, b, &c, m)
 }
 
-pub fn scaled(a: &[f64; 63], b: &[f64; 21], m: usize) -> Vector3
-    ensures { λ r. ⌜ r ≡ cond (ltb 20 m) origin (productBy vectors multiple (vectorNumbers (now (a .entry))) (curveNumbers (now (b .entry))) m) ⌝ }
-{
-    if 20 < m {
-        return vector_array::zero();
-    }
-    let c = calculus::binomials();
-    vector_entries::scaled_entry(a, b, &c, m)
-}
-
 pub fn product(a: &[f64; 21], b: &[f64; 21], m: usize) -> f64
-    ensures { λ r. ⌜ r ≡ cond (ltb 20 m) nil (productOf real (curveNumbers (now (a .entry))) (curveNumbers (now (b .entry))) m) ⌝ }
+    ensures { λ r. ⌜ r ≡ cond (ltb 20 m) nought (productOf real (curveNumbers (now (a .entry))) (curveNumbers (now (b .entry))) m) ⌝ }
 {
     if 20 < m {
         return 0.0;
@@ -66,7 +57,7 @@ pub fn product(a: &[f64; 21], b: &[f64; 21], m: usize) -> f64
 
 // The entries up to the order n of a difference, and of a quotient by floats.
 pub fn difference(a: &[f64; 63], b: &[f64; 63], n: usize) -> [f64; 63]
-    ensures { λ r. ⌜ r ≡ cond (ltb 20 n) (replicate 63 nil) (vectorArray (differences vectors (vectorNumbers (now (a .entry))) (vectorNumbers (now (b .entry)))) n) ⌝ }
+    ensures { λ r. ⌜ r ≡ cond (ltb 20 n) (replicate 63 nought) (vectorArray (differences vectors (vectorNumbers (now (a .entry))) (vectorNumbers (now (b .entry)))) n) ⌝ }
 {
     if 20 < n {
         return [0.0f64; 63];
@@ -76,7 +67,7 @@ pub fn difference(a: &[f64; 63], b: &[f64; 63], n: usize) -> [f64; 63]
 }
 
 pub fn rational(a: &[f64; 63], w: &[f64; 21], n: usize) -> [f64; 63]
-    ensures { λ r. ⌜ r ≡ cond (ltb 20 n) (replicate 63 nil) (vectorArray (rationalOf vectors quotient (vectorNumbers (now (a .entry))) (curveNumbers (now (w .entry)))) n) ⌝ }
+    ensures { λ r. ⌜ r ≡ cond (ltb 20 n) (replicate 63 nought) (vectorArray (rationalOf vectors quotient (vectorNumbers (now (a .entry))) (curveNumbers (now (w .entry)))) n) ⌝ }
 {
     if 20 < n {
         return [0.0f64; 63];
@@ -86,7 +77,7 @@ pub fn rational(a: &[f64; 63], w: &[f64; 21], n: usize) -> [f64; 63]
 
 // Those of the derivative, of which the last reads the order n + 1: zeros from the order 20 on.
 pub fn derivative(a: &[f64; 63], n: usize) -> [f64; 63]
-    ensures { λ r. ⌜ r ≡ cond (ltb 19 n) (replicate 63 nil) (vectorArray (derivativeOf (vectorNumbers (now (a .entry)))) n) ⌝ }
+    ensures { λ r. ⌜ r ≡ cond (ltb 19 n) (replicate 63 nought) (vectorArray (derivativeOf (vectorNumbers (now (a .entry)))) n) ⌝ }
 {
     if 19 < n {
         return [0.0f64; 63];
@@ -96,7 +87,7 @@ pub fn derivative(a: &[f64; 63], n: usize) -> [f64; 63]
 
 // Those of the norm.
 pub fn norm(a: &[f64; 63], n: usize) -> [f64; 21]
-    ensures { λ r. ⌜ r ≡ cond (ltb 20 n) (replicate 21 nil) (curveArray nil (vectorNorm (vectorNumbers (now (a .entry)))) n) ⌝ }
+    ensures { λ r. ⌜ r ≡ cond (ltb 20 n) (replicate 21 nought) (curveArray nought (vectorNorm (vectorNumbers (now (a .entry)))) n) ⌝ }
 {
     if 20 < n {
         return [0.0f64; 21];
@@ -116,7 +107,7 @@ pub fn composite(entries: &[f64; 693], u: &[f64; 21], v: &[f64; 21], m: usize) -
 
 // Those of the derivatives by u and by v of a surface, and of the derivative of a curve of floats: zeros from the order 20 on.
 pub fn derivative_u(a: &[f64; 693], n: usize) -> [f64; 693]
-    ensures { λ r. ⌜ r ≡ cond (ltb 19 n) (replicate 693 nil) (vectorSurfaceArray (derivativeU (vectorSurfaceNumbers (now (a .entry)))) n) ⌝ }
+    ensures { λ r. ⌜ r ≡ cond (ltb 19 n) (replicate 693 nought) (vectorSurfaceArray (derivativeU (vectorSurfaceNumbers (now (a .entry)))) n) ⌝ }
 {
     if 19 < n {
         return [0.0f64; 693];
@@ -125,7 +116,7 @@ pub fn derivative_u(a: &[f64; 693], n: usize) -> [f64; 693]
 }
 
 pub fn derivative_v(a: &[f64; 693], n: usize) -> [f64; 693]
-    ensures { λ r. ⌜ r ≡ cond (ltb 19 n) (replicate 693 nil) (vectorSurfaceArray (derivativeV (vectorSurfaceNumbers (now (a .entry)))) n) ⌝ }
+    ensures { λ r. ⌜ r ≡ cond (ltb 19 n) (replicate 693 nought) (vectorSurfaceArray (derivativeV (vectorSurfaceNumbers (now (a .entry)))) n) ⌝ }
 {
     if 19 < n {
         return [0.0f64; 693];
@@ -134,7 +125,7 @@ pub fn derivative_v(a: &[f64; 693], n: usize) -> [f64; 693]
 }
 
 pub fn number_derivative(a: &[f64; 21], n: usize) -> [f64; 21]
-    ensures { λ r. ⌜ r ≡ cond (ltb 19 n) (replicate 21 nil) (curveArray nil (derivativeOf (curveNumbers (now (a .entry)))) n) ⌝ }
+    ensures { λ r. ⌜ r ≡ cond (ltb 19 n) (replicate 21 nought) (curveArray nought (derivativeOf (curveNumbers (now (a .entry)))) n) ⌝ }
 {
     if 19 < n {
         return [0.0f64; 21];
@@ -154,7 +145,7 @@ pub fn finite_numbers(a: &[f64; 21], n: usize) -> bool
 }
 
 pub fn finite_vectors(a: &[f64; 63], n: usize) -> bool
-    ensures { λ r. ⌜ r ≡ cond (ltb 20 n) false (finiteVectors (vectorNumbers (now (a .entry))) n) ⌝ }
+    ensures { λ r. ⌜ r ≡ cond (ltb 20 n) false (finiteVectorCurve (vectorNumbers (now (a .entry))) n) ⌝ }
 {
     if 20 < n {
         return false;

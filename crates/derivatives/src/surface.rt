@@ -1,7 +1,7 @@
 // Jets of surfaces.
 ghost use mathlib.Core.Path.{_≡_};
 ghost use mathlib.Core.List.{List};
-ghost use Prim.Native.Nat.{ℕ, suc, _+_, _-_, _*_, _≤_};
+ghost use Prim.Native.Nat.{ℕ, suc, _+_, _*_, _≤_};
 ghost use lib.Ieee.{Float, nan};
 ghost use lib.ListN.{length, getD};
 ghost use Rattle.calculus.specs.Kind.{regular};
@@ -12,10 +12,11 @@ ghost use Rattle.calculus.specs.Choose.{choose, binomialTable};
 ghost use Rattle.calculus.specs.Graded.{triangle};
 ghost use Rattle.calculus.specs.Order.{surfaceEntries, listPlace};
 ghost use Rattle.calculus.specs.Surface.{derivativeU, derivativeV, sum as sums, difference as differences, product, leibniz};
-ghost use Rattle.derivatives.specs.Real.{nil, real};
+ghost use Rattle.vectors.specs.Answers.{nought};
+ghost use Rattle.derivatives.specs.Real.{real};
 ghost use Rattle.derivatives.specs.Rational.{surfaceRational, surfaceRationalTerm, surfaceRationalEntry};
 ghost use Rattle.derivatives.specs.Answer.{surfaceNumbers, answeredSurface, onSurfaces, bySurfaceFormula, bySurfaceDivision, onSurfacesAt, surfaceDerivative, surfaceFromList, surfaceIntoList};
-ghost use Rattle.derivatives.specs.Formula.{surfaceFormula, byFormulaOnSurfaces};
+ghost use Rattle.derivatives.specs.Formula.{surfaceFormula, bySurfaceEntries};
 use crate::SurfaceAnswer;
 use crate::SurfaceDerivatives;
 use crate::formula;
@@ -184,7 +185,7 @@ fn entry(
 // The entries up to the order n, with i rising, then j; and zeros past them.
 fn entries(f: Formula, a: &[f64; 231], b: &[f64; 231], n: usize) -> [f64; 231]
     requires { ⌜ n ≤ 20 ⌝ }
-    ensures { λ r. ⌜ r ≡ surfaceArray nil (risingRows nil (surfaceFormula f (surfaceNumbers (now (a .entry))) (surfaceNumbers (now (b .entry))))) n ⌝ }
+    ensures { λ r. ⌜ r ≡ surfaceArray nought (risingRows nought (surfaceFormula f (surfaceNumbers (now (a .entry))) (surfaceNumbers (now (b .entry))))) n ⌝ }
 {
     let c = calculus::binomials();
     let mut r = [0.0f64; 231];
@@ -204,7 +205,7 @@ fn entries(f: Formula, a: &[f64; 231], b: &[f64; 231], n: usize) -> [f64; 231]
 }
 
 fn on_two(f: Formula, a: SurfaceDerivatives, b: SurfaceDerivatives) -> SurfaceAnswer
-    ensures { λ r. ⌜ r ≡ onSurfaces (byFormulaOnSurfaces f) a b ⌝ }
+    ensures { λ r. ⌜ r ≡ onSurfaces (bySurfaceEntries f) a b ⌝ }
 {
     let m = a.order;
     let n = b.order;

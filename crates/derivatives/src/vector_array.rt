@@ -6,8 +6,8 @@ ghost use lib.Dec.{ltb};
 ghost use lib.ListN.{length};
 ghost use Rattle.derivatives.specs.Real.{isZero};
 ghost use Rattle.derivatives.specs.Answer.{curveNumbers, finiteCurve};
-ghost use Rattle.derivatives.specs.Vector.{origin, put, vectorNumbers, vectorSurfaceNumbers, allVectorsFinite, finiteVectors, finiteVectorSurface};
-ghost use Rattle.derivatives.specs.VectorAnswer.{refusedVectors, madeVectors};
+ghost use Rattle.derivatives.specs.Vector.{origin, put, vectorNumbers, vectorSurfaceNumbers, allVectorsFinite, finiteVectorCurve, finiteVectorSurface};
+ghost use Rattle.derivatives.specs.VectorAnswer.{refusedVectorCurve, madeVectorCurve};
 use crate::VectorCurveAnswer;
 use crate::VectorCurveDerivatives;
 use ieee::both;
@@ -74,7 +74,7 @@ pub fn norm_divides(n: usize, q: f64) -> bool
 // Whether the entries up to the order n are finite, of one jet, of a surface, and of two jets.
 pub fn curve_finite(a: &[f64; 63], n: usize) -> bool
     requires { ⌜ n ≤ 20 ⌝ }
-    ensures { λ r. ⌜ r ≡ finiteVectors (vectorNumbers (now (a .entry))) n ⌝ }
+    ensures { λ r. ⌜ r ≡ finiteVectorCurve (vectorNumbers (now (a .entry))) n ⌝ }
 {
     all_finite(a, n + 1)
 }
@@ -88,20 +88,20 @@ pub fn surface_finite(a: &[f64; 693], n: usize) -> bool
 
 pub fn both_finite(a: &[f64; 63], b: &[f64; 63], n: usize) -> bool
     requires { ⌜ n ≤ 20 ⌝ }
-    ensures { λ r. ⌜ r ≡ (finiteVectors (vectorNumbers (now (a .entry))) n && finiteVectors (vectorNumbers (now (b .entry))) n) ⌝ }
+    ensures { λ r. ⌜ r ≡ (finiteVectorCurve (vectorNumbers (now (a .entry))) n && finiteVectorCurve (vectorNumbers (now (b .entry))) n) ⌝ }
 {
     both(curve_finite(a, n), curve_finite(b, n))
 }
 
 pub fn weighted_finite(a: &[f64; 63], w: &[f64; 21], n: usize) -> bool
     requires { ⌜ n ≤ 20 ⌝ }
-    ensures { λ r. ⌜ r ≡ (finiteVectors (vectorNumbers (now (a .entry))) n && finiteCurve (curveNumbers (now (w .entry))) n) ⌝ }
+    ensures { λ r. ⌜ r ≡ (finiteVectorCurve (vectorNumbers (now (a .entry))) n && finiteCurve (curveNumbers (now (w .entry))) n) ⌝ }
 {
     both(curve_finite(a, n), crate::finite_curve(w, n))
 }
 
 pub fn refused(c: u8) -> VectorCurveAnswer
-    ensures { λ r. ⌜ r ≡ refusedVectors c ⌝ }
+    ensures { λ r. ⌜ r ≡ refusedVectorCurve c ⌝ }
 {
     let z = [0.0f64; 63];
     VectorCurveAnswer {
@@ -116,7 +116,7 @@ pub fn refused(c: u8) -> VectorCurveAnswer
 // A jet that has been computed: 10 where it is not finite.
 pub fn returned(a: [f64; 63], n: usize) -> VectorCurveAnswer
     requires { ⌜ n ≤ 20 ⌝ }
-    ensures { λ r. ⌜ r ≡ cond (finiteVectors (vectorNumbers a) n) (madeVectors n a) (refusedVectors 10) ⌝ }
+    ensures { λ r. ⌜ r ≡ cond (finiteVectorCurve (vectorNumbers a) n) (madeVectorCurve n a) (refusedVectorCurve 10) ⌝ }
 {
     if !curve_finite(&a, n) {
         return refused(10);

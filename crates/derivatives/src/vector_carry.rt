@@ -1,7 +1,7 @@
 // The loops of the carry of vectors. Each `requires` is met by the callers.
 ghost use mathlib.Core.Path.{_≡_};
 ghost use mathlib.Core.Bool.{true};
-ghost use Prim.Native.Nat.{_+_, _≤_, _<_};
+ghost use Prim.Native.Nat.{_≤_, _<_};
 ghost use lib.ListN.{length};
 ghost use Rattle.calculus.specs.Carry.{tensor as Tensor, summand as Summand, coordinates, surfaceEntry, compositeDerivative, compositeDerivatives};
 ghost use Rattle.calculus.specs.InTurn.{alongList};

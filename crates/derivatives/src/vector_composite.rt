@@ -4,7 +4,7 @@ ghost use mathlib.Core.Bool.{_&&_};
 ghost use Prim.Native.Nat.{_≤_};
 ghost use Rattle.derivatives.specs.Answer.{curveNumbers, finiteCurve};
 ghost use Rattle.derivatives.specs.Vector.{vectorSurfaceNumbers, finiteVectorSurface};
-ghost use Rattle.derivatives.specs.VectorComposite.{carriedVector, carriedVectors};
+ghost use Rattle.derivatives.specs.VectorComposite.{vectorAlongCurveAt, vectorAlongCurve};
 use crate::ParameterCurve;
 use crate::VectorCurveAnswer;
 use crate::VectorSurfaceDerivatives;
@@ -27,7 +27,7 @@ fn all_finite(entries: &[f64; 693], u: &[f64; 21], v: &[f64; 21], n: usize) -> b
 impl VectorSurfaceDerivatives {
     // The derivative of one order, which is zero at order 0.
     pub fn composite_derivative(self, curve: ParameterCurve, order: usize) -> VectorAnswer
-        ensures { λ r. ⌜ r ≡ carriedVector self curve order ⌝ }
+        ensures { λ r. ⌜ r ≡ vectorAlongCurveAt self curve order ⌝ }
     {
         let m = self.order;
         let n = curve.order;
@@ -48,7 +48,7 @@ impl VectorSurfaceDerivatives {
 
     // The derivatives of all orders up to `order`, with the entry [0][0] at order 0.
     pub fn composite_derivatives(self, curve: ParameterCurve, order: usize) -> VectorCurveAnswer
-        ensures { λ r. ⌜ r ≡ carriedVectors self curve order ⌝ }
+        ensures { λ r. ⌜ r ≡ vectorAlongCurve self curve order ⌝ }
     {
         let m = self.order;
         let n = curve.order;

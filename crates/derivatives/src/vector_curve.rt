@@ -13,7 +13,7 @@ ghost use Rattle.calculus.specs.Curve.{sum as sums, difference as differences, 
 ghost use Rattle.derivatives.specs.Real.{real};
 ghost use Rattle.derivatives.specs.Answer.{refusedCurve};
 ghost use Rattle.derivatives.specs.Vector.{vectors};
-ghost use Rattle.derivatives.specs.VectorAnswer.{refusedVectors, onVectors, onWeighted, byVectorFormula, byNumberFormula, byWeights, vectorQuotient, onVectorsAt, onWeightedAt, vectorAbsolute, vectorDerivative, vectorFromList, vectorIntoList};
+ghost use Rattle.derivatives.specs.VectorAnswer.{refusedVectorCurve, onVectors, onWeighted, byVectorFormula, byNumberFormula, byWeights, vectorQuotient, onVectorsAt, onWeightedAt, vectorCurveAbsolute, vectorCurveDerivative, vectorCurveFromList, vectorCurveIntoList};
 ghost use Rattle.derivatives.specs.VectorFormula.{vectorDivisionByZero, byVectorEntries, byWeightedEntries};
 use crate::CurveAnswer;
 use crate::CurveDerivatives;
@@ -33,7 +33,7 @@ fn on_two(
     a: VectorCurveDerivatives,
     b: VectorCurveDerivatives,
 ) -> VectorCurveAnswer
-    ensures { λ r. ⌜ r ≡ onVectors refusedVectors (byVectorEntries f) a b ⌝ }
+    ensures { λ r. ⌜ r ≡ onVectors refusedVectorCurve (byVectorEntries f) a b ⌝ }
 {
     let m = a.order;
     let n = b.order;
@@ -93,7 +93,7 @@ fn on_weighted(
 
 impl VectorCurveDerivatives {
     pub fn from_list(order: usize, list: &[f64]) -> VectorCurveAnswer
-        ensures { λ r. ⌜ r ≡ vectorFromList order (now (list .entry)) ⌝ }
+        ensures { λ r. ⌜ r ≡ vectorCurveFromList order (now (list .entry)) ⌝ }
     {
         if 20 < order {
             return vector_array::refused(1);
@@ -112,7 +112,7 @@ impl VectorCurveDerivatives {
     }
 
     pub fn into_list(self, out: &mut [f64]) -> u8
-        ensures { λ r. ⌜ _≡_ {A = ℕ × List Float} (r, now (out .exit)) (vectorIntoList self (now (out .entry))) ⌝ }
+        ensures { λ r. ⌜ _≡_ {A = ℕ × List Float} (r, now (out .exit)) (vectorCurveIntoList self (now (out .entry))) ⌝ }
     {
         let n = self.order;
         if 20 < n {
@@ -130,19 +130,19 @@ impl VectorCurveDerivatives {
     }
 
     pub fn sum(self, other: VectorCurveDerivatives) -> VectorCurveAnswer
-        ensures { λ r. ⌜ r ≡ onVectors refusedVectors (byVectorFormula (sums vectors)) self other ⌝ }
+        ensures { λ r. ⌜ r ≡ onVectors refusedVectorCurve (byVectorFormula (sums vectors)) self other ⌝ }
     {
         on_two(VectorFormula::Sum, self, other)
     }
 
     pub fn difference(self, other: VectorCurveDerivatives) -> VectorCurveAnswer
-        ensures { λ r. ⌜ r ≡ onVectors refusedVectors (byVectorFormula (differences vectors)) self other ⌝ }
+        ensures { λ r. ⌜ r ≡ onVectors refusedVectorCurve (byVectorFormula (differences vectors)) self other ⌝ }
     {
         on_two(VectorFormula::Difference, self, other)
     }
 
     pub fn derivative(self) -> VectorCurveAnswer
-        ensures { λ r. ⌜ r ≡ vectorDerivative self ⌝ }
+        ensures { λ r. ⌜ r ≡ vectorCurveDerivative self ⌝ }
     {
         let n = self.order;
         if 20 < n {
@@ -262,7 +262,7 @@ impl VectorCurveDerivatives {
     }
 
     pub fn combinatorial_derivatives_cross(self, other: VectorCurveDerivatives) -> VectorCurveAnswer
-        ensures { λ r. ⌜ r ≡ onVectors refusedVectors (byVectorFormula (productBy vectors cross)) self other ⌝ }
+        ensures { λ r. ⌜ r ≡ onVectors refusedVectorCurve (byVectorFormula (productBy vectors cross)) self other ⌝ }
     {
         on_two(VectorFormula::Cross, self, other)
     }
@@ -276,7 +276,7 @@ impl VectorCurveDerivatives {
 
     // The norm.
     pub fn absolute_derivatives(self) -> CurveAnswer
-        ensures { λ r. ⌜ r ≡ vectorAbsolute self ⌝ }
+        ensures { λ r. ⌜ r ≡ vectorCurveAbsolute self ⌝ }
     {
         let n = self.order;
         if 20 < n {

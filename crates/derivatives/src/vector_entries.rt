@@ -1,6 +1,6 @@
 // The loops that form the entries of jets of vectors. Each `requires` is met by the callers.
 ghost use mathlib.Core.Path.{_≡_};
-ghost use Prim.Native.Nat.{suc, _+_, _-_, _*_, _≤_, _<_};
+ghost use Prim.Native.Nat.{suc, _+_, _*_, _≤_, _<_};
 ghost use lib.ListN.{length};
 ghost use Rattle.ieee.specs.SquareRoot.{squareRoot};
 ghost use Rattle.vectors.specs.Vectors.{multiple, quotient, dot, cross};
@@ -10,7 +10,8 @@ ghost use Rattle.calculus.specs.Rising.{rising};
 ghost use Rattle.calculus.specs.Array.{curveArray, listed};
 ghost use Rattle.calculus.specs.Choose.{binomialTable};
 ghost use Rattle.calculus.specs.Curve.{leibniz, productBy, derivative};
-ghost use Rattle.derivatives.specs.Real.{nil, real};
+ghost use Rattle.vectors.specs.Answers.{nought};
+ghost use Rattle.derivatives.specs.Real.{real};
 ghost use Rattle.derivatives.specs.Rational.{rationalTerm, rationalEntry};
 ghost use Rattle.derivatives.specs.Norm.{normTerm, normEntry};
 ghost use Rattle.derivatives.specs.Answer.{curveNumbers};
@@ -138,7 +139,7 @@ fn norm_term(s: &[f64; 63], q: &[f64; 21], c: &[u32; 231], m: usize, i: usize) -
 
 fn norm_sum(s: &[f64; 63], q: &[f64; 21], c: &[u32; 231], m: usize) -> f64
     requires { ⌜ (m < 20) × (now c ≡ binomialTable) ⌝ }
-    ensures { λ r. ⌜ r ≡ inTurn (real .plus) nil (normTerm real squareRoot dot (vectorNumbers (now (s .entry))) (curveNumbers (now (q .entry))) m) (suc m) ⌝ }
+    ensures { λ r. ⌜ r ≡ inTurn (real .plus) nought (normTerm real squareRoot dot (vectorNumbers (now (s .entry))) (curveNumbers (now (q .entry))) m) (suc m) ⌝ }
 {
     let mut sum = 0.0f64;
     let mut i = 0;
@@ -242,7 +243,7 @@ pub fn entries(f: VectorFormula, a: &[f64; 63], b: &[f64; 63], w: &[f64; 21], n:
 
 pub fn numbers(f: NumberFormula, a: &[f64; 63], b: &[f64; 63], n: usize) -> [f64; 21]
     requires { ⌜ n ≤ 20 ⌝ }
-    ensures { λ r. ⌜ r ≡ curveArray nil (rising nil (numberFormula f (vectorNumbers (now (a .entry))) (vectorNumbers (now (b .entry))))) n ⌝ }
+    ensures { λ r. ⌜ r ≡ curveArray nought (rising nought (numberFormula f (vectorNumbers (now (a .entry))) (vectorNumbers (now (b .entry))))) n ⌝ }
 {
     let c = calculus::binomials();
     let mut r = [0.0f64; 21];

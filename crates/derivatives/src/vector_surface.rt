@@ -12,10 +12,10 @@ ghost use Rattle.vectors.specs.Answers.{returnedVector};
 ghost use Rattle.calculus.specs.Kind.{regular};
 ghost use Rattle.derivatives.specs.Real.{real};
 ghost use Rattle.calculus.specs.Surface.{derivativeU, derivativeV, sum as sums, difference as differences, productBy};
-ghost use Rattle.derivatives.specs.Answer.{surfaceNumbers, finiteSurface, refusedSurface};
+ghost use Rattle.derivatives.specs.Answer.{surfaceNumbers, finiteSurface};
 ghost use Rattle.derivatives.specs.Vector.{vectors, vectorSurfaceNumbers, finiteVectorSurface};
 ghost use Rattle.derivatives.specs.VectorSurfaceNorm.{vectorSurfaceAbsolute};
-ghost use Rattle.derivatives.specs.VectorSurfaceAnswer.{refusedVectorSurface, madeVectorSurface, vectorSurfaceDot, vectorSurfaceDerivative, vectorSurfaceFromList, vectorSurfaceIntoList, onVectorSurfaces, onWeightedSurface, onVectorSurfacesAt, onWeightedSurfaceAt, bySurfaceVectors, bySurfaceWeights, vectorSurfaceQuotient, bySurfaceVectorEntries, bySurfaceWeightedEntries};
+ghost use Rattle.derivatives.specs.VectorSurfaceAnswer.{refusedVectorSurface, madeVectorSurface, vectorSurfaceDot, vectorSurfaceDerivative, vectorSurfaceFromList, vectorSurfaceIntoList, onVectorSurfaces, onWeightedSurface, onVectorSurfacesAt, onWeightedSurfaceAt, byVectorSurfaceFormula, bySurfaceWeights, vectorSurfaceQuotient, byVectorSurfaceEntries, bySurfaceWeightedEntries};
 use crate::SurfaceAnswer;
 use crate::SurfaceDerivatives;
 use crate::VectorSurfaceAnswer;
@@ -87,7 +87,7 @@ fn on_two(
     a: VectorSurfaceDerivatives,
     b: VectorSurfaceDerivatives,
 ) -> VectorSurfaceAnswer
-    ensures { λ r. ⌜ r ≡ onVectorSurfaces (bySurfaceVectorEntries f) a b ⌝ }
+    ensures { λ r. ⌜ r ≡ onVectorSurfaces (byVectorSurfaceEntries f) a b ⌝ }
 {
     let m = a.order;
     let n = b.order;
@@ -212,13 +212,13 @@ impl VectorSurfaceDerivatives {
     }
 
     pub fn sum(self, other: VectorSurfaceDerivatives) -> VectorSurfaceAnswer
-        ensures { λ r. ⌜ r ≡ onVectorSurfaces (bySurfaceVectors (sums vectors)) self other ⌝ }
+        ensures { λ r. ⌜ r ≡ onVectorSurfaces (byVectorSurfaceFormula (sums vectors)) self other ⌝ }
     {
         on_two(VectorFormula::Sum, self, other)
     }
 
     pub fn difference(self, other: VectorSurfaceDerivatives) -> VectorSurfaceAnswer
-        ensures { λ r. ⌜ r ≡ onVectorSurfaces (bySurfaceVectors (differences vectors)) self other ⌝ }
+        ensures { λ r. ⌜ r ≡ onVectorSurfaces (byVectorSurfaceFormula (differences vectors)) self other ⌝ }
     {
         on_two(VectorFormula::Difference, self, other)
     }
@@ -332,7 +332,7 @@ impl VectorSurfaceDerivatives {
         self,
         other: VectorSurfaceDerivatives,
     ) -> VectorSurfaceAnswer
-        ensures { λ r. ⌜ r ≡ onVectorSurfaces (bySurfaceVectors (productBy vectors cross)) self other ⌝ }
+        ensures { λ r. ⌜ r ≡ onVectorSurfaces (byVectorSurfaceFormula (productBy vectors cross)) self other ⌝ }
     {
         on_two(VectorFormula::Cross, self, other)
     }

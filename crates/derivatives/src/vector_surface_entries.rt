@@ -11,7 +11,8 @@ ghost use Rattle.calculus.specs.Rising.{risingRows};
 ghost use Rattle.calculus.specs.Array.{surfaceArray};
 ghost use Rattle.calculus.specs.Choose.{binomialTable};
 ghost use Rattle.calculus.specs.Surface.{leibniz, productBy};
-ghost use Rattle.derivatives.specs.Real.{nil, real};
+ghost use Rattle.vectors.specs.Answers.{nought};
+ghost use Rattle.derivatives.specs.Real.{real};
 ghost use Rattle.derivatives.specs.Rational.{surfaceRationalTerm, surfaceRationalEntry};
 ghost use Rattle.derivatives.specs.Answer.{surfaceNumbers};
 ghost use Rattle.derivatives.specs.Vector.{origin, vectors, vectorNumbers, flat, vectorSurfaceNumbers, vectorSurfaceArray};
@@ -325,7 +326,7 @@ pub fn dot_entry(a: &[f64; 693], b: &[f64; 693], c: &[u32; 231], m: usize, n: us
 // The dot product's entries up to the order n, and zeros past them.
 pub fn dots(a: &[f64; 693], b: &[f64; 693], n: usize) -> [f64; 231]
     requires { ⌜ n ≤ 20 ⌝ }
-    ensures { λ r. ⌜ r ≡ surfaceArray nil (productBy (regular real) dot (vectorSurfaceNumbers (now (a .entry))) (vectorSurfaceNumbers (now (b .entry)))) n ⌝ }
+    ensures { λ r. ⌜ r ≡ surfaceArray nought (productBy (regular real) dot (vectorSurfaceNumbers (now (a .entry))) (vectorSurfaceNumbers (now (b .entry)))) n ⌝ }
 {
     let c = calculus::binomials();
     let mut r = [0.0f64; 231];

@@ -8,7 +8,8 @@ ghost use Rattle.vectors.specs.Vectors.{dot};
 ghost use Rattle.calculus.specs.InTurn.{inTurn};
 ghost use Rattle.calculus.specs.Array.{surfaceArray};
 ghost use Rattle.calculus.specs.Choose.{binomialTable};
-ghost use Rattle.derivatives.specs.Real.{nil, real};
+ghost use Rattle.vectors.specs.Answers.{nought};
+ghost use Rattle.derivatives.specs.Real.{real};
 ghost use Rattle.derivatives.specs.Norm.{others as othersOf, surfaceNormEntry};
 ghost use Rattle.derivatives.specs.Answer.{surfaceNumbers};
 ghost use Rattle.derivatives.specs.Vector.{vectorSurfaceNumbers};
@@ -91,7 +92,7 @@ fn norm_entry(s: &[f64; 693], q: &[f64; 231], c: &[u32; 231], m: usize, n: usize
 // The norm's entries up to the order n, and zeros past them.
 pub fn norms(s: &[f64; 693], n: usize) -> [f64; 231]
     requires { ⌜ n ≤ 20 ⌝ }
-    ensures { λ r. ⌜ r ≡ surfaceArray nil (vectorSurfaceNorm (vectorSurfaceNumbers (now (s .entry)))) n ⌝ }
+    ensures { λ r. ⌜ r ≡ surfaceArray nought (vectorSurfaceNorm (vectorSurfaceNumbers (now (s .entry)))) n ⌝ }
 {
     let c = calculus::binomials();
     let mut r = [0.0f64; 231];

@@ -1,19 +1,13 @@
 -- Jets that agree up to the order have the same answer. Assumes nothing.
-use mathlib.Core.Path.{_≡_, refl, sym, ap, ap₂, _∙_, fun-ext}
-use mathlib.Core.Bool.{Bool, true, false, cond}
-use mathlib.Core.List.{List, _++_}
-use Prim.Native.Nat.{ℕ, zero, suc, _+_, _≤_, _<_}
-use native.Mathlib.Nat.{zero-add}
+use mathlib.Core.Path.{_≡_, ap, ap₂}
+use mathlib.Core.List.{List}
+use Prim.Native.Nat.{ℕ, suc, _+_, _≤_}
 use native.Mathlib.Omega.{arith}
-use lib.Dec.{ltb}
 use lib.IntN.{ℤ, pos}
-use borrow.Author.Tests.{ltb-true}
 use Rattle.whole.specs.declared.Whole.{Whole}
 use Rattle.calculus.specs.Graded.{triangle, place, graded}
-use Rattle.calculus.specs.Array.{listed, filled}
 use Rattle.calculus.proofs.Graded.{place-order}
 use Rattle.calculus.proofs.Same.{curve-entries-same, surface-entries-same, filled-same}
-use Rattle.calculus.specs.Order.{rows, curveEntries, surfaceEntries}
 use Rattle.exact.specs.Answer.{valueOf, refusedCurve, refusedSurface, answeredCurve, answeredSurface, unlessRefused, curveAnswer, surfaceAnswer}
 
 pub curve-same : (n : ℕ) {a b : ℕ → ℤ} → ((m : ℕ) → m ≤ n → a m ≡ b m) → answeredCurve n a ≡ answeredCurve n b

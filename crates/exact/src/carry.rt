@@ -1,8 +1,8 @@
 // The loops of the carry. Each `requires` is met by the public methods in composite.rt.
 ghost use mathlib.Core.Path.{_≡_};
 ghost use mathlib.Core.Bool.{true};
-ghost use Prim.Native.Nat.{ℕ, _+_, _≤_, _<_};
-ghost use lib.ListN.{length, getD};
+ghost use Prim.Native.Nat.{_≤_, _<_};
+ghost use lib.ListN.{length};
 ghost use Rattle.calculus.specs.Kind.{regular};
 ghost use Rattle.calculus.specs.Carry.{factors as Factors, tensor as Tensor, summand as Summand, coordinates, surfaceEntry, compositeDerivative, compositeDerivatives};
 ghost use Rattle.partitions.specs.Parts.{total, lists};

@@ -31,9 +31,9 @@ use Rattle.ieee.specs.SquareRoot.{squareRoot}
 use Rattle.vectors.specs.Vectors.{vector}
 use Rattle.vectors.specs.Matrices.{columns}
 use Rattle.vectors.proofs.Floats.{minusOne, one, three, four, five, seven}
-use Rattle.derivatives.specs.Real.{nil}
+use Rattle.vectors.specs.Answers.{nought}
 use Rattle.derivatives.specs.Answer.{allPass}
-use Rattle.derivatives.specs.VectorAnswer.{vectorAbsolute}
+use Rattle.derivatives.specs.VectorAnswer.{vectorCurveAbsolute}
 use Rattle.rolling_ball_fillet.specs.Answers.{rotationAnswer}
 
 -- ---- part lists: `CompositionIter`, `multiplicity`
@@ -131,13 +131,13 @@ carried-608 = refl
 -- ---- floats: `absolute_derivatives`, `from_axis_angle`
 
 -- the vectors (3,4,0), (5,5,0) have the norm jet (5, 7)
-pub norm-5-7 : vectorAbsolute (record { order = 1; entries = three ∷ four ∷ nil ∷ five ∷ five ∷ nil ∷ replicate 57 nil })
-    ≡ record { refusal = 0; jet = record { order = 1; entries = five ∷ seven ∷ replicate 19 nil } }
+pub norm-5-7 : vectorCurveAbsolute (record { order = 1; entries = three ∷ four ∷ nought ∷ five ∷ five ∷ nought ∷ replicate 57 nought })
+    ≡ record { refusal = 0; jet = record { order = 1; entries = five ∷ seven ∷ replicate 19 nought } }
 unfolding squareRoot add sub mul div ofBits ofInt before inTurn choose allPass eq listed
 norm-5-7 = refl
 
 -- axis (0,0,1), s = 1, c = 0: columns (0,1,0), (−1,0,0), (0,0,1)
-pub quarter-turn : rotationAnswer 0 0 0 0 (vector nil nil one) one nil ≡ record { refusal = 0; matrix = columns (vector nil one nil) (vector minusOne nil nil) (vector nil nil one) }
+pub quarter-turn : rotationAnswer 0 0 0 0 (vector nought nought one) one nought ≡ record { refusal = 0; matrix = columns (vector nought one nought) (vector minusOne nought nought) (vector nought nought one) }
 unfolding add sub mul neg ofBits
 quarter-turn = refl
 

@@ -21,7 +21,8 @@ use Rattle.roads.specs.Recipe.{namesEarlier, someAbove20}
 use Rattle.roads.specs.Roads.{builtSurface}
 use Rattle.vectors.proofs.Floats.{huge}
 use Rattle.derivatives.specs.declared.CurveDerivatives.{CurveDerivatives}
-use Rattle.derivatives.specs.Real.{nil, real}
+use Rattle.vectors.specs.Answers.{nought}
+use Rattle.derivatives.specs.Real.{real}
 use Rattle.derivatives.specs.Answer as floats
 use Rattle.figures.proofs.Figures.{jet, given, curve}
 
@@ -62,7 +63,7 @@ with-remainder = refl
 
 -- 10: 1e308 times 1e308
 abbrev single : Float → CurveDerivatives
-single x = record { order = 0; entries = x ∷ replicate 20 nil }
+single x = record { order = 0; entries = x ∷ replicate 20 nought }
 
 pub overflow : floats.onCurves (floats.byFormula (product real)) (single huge) (single huge) ≡ floats.refusedCurve 10
 unfolding choose inTurn add mul ofBits ofInt floats.allPass

@@ -2,11 +2,10 @@
 use mathlib.Core.Bool.{Bool, true, false, cond}
 use mathlib.Core.List.{List, [], _∷_, _++_}
 use Prim.Native.Nat.{ℕ, zero, suc, _-_}
-use lib.Dec.{leb, ltb, eqb}
+use lib.Dec.{ltb, eqb}
 use lib.ListN.{length, take, drop, replicate}
 use Rattle.partitions.specs.Parts.{lists}
 use Rattle.partitions.specs.declared.CompositionIter.{CompositionIter}
-use Rattle.partitions.specs.declared.Composition.{Composition}
 use Rattle.partitions.specs.declared.Started.{Started}
 use Rattle.partitions.specs.declared.Stepped.{Stepped}
 

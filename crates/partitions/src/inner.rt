@@ -1,7 +1,7 @@
-// The steps of the walk on a part of an array, and the divisions of the multiplicity. Each `requires` is met by the public functions above.
+// The steps of the walk on a part of an array, and the divisions of the multiplicity. Each `requires` is met by the public functions in lib.rt.
 ghost use mathlib.Core.Path.{_≡_};
 ghost use mathlib.Core.Bool.{true};
-ghost use Prim.Native.Nat.{_≤_, _<_, _*_, min};
+ghost use Prim.Native.Nat.{_≤_, _<_, min};
 ghost use lib.ListN.{length};
 ghost use Rattle.partitions.specs.Parts.{total as sum, fact, divide, runs};
 ghost use Rattle.partitions.specs.Count.{falls as Falls};

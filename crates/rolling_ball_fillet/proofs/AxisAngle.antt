@@ -19,14 +19,15 @@ use Rattle.calculus.specs.Curve.{product}
 use Rattle.calculus.proofs.UpTo.{CurvesAgree, productBy-upto, product-upto}
 use Rattle.calculus.proofs.Filling.{curve-earlier}
 use Rattle.ieee.specs.SquareRoot.{squareRoot}
-use Rattle.derivatives.specs.Real.{nil, real}
+use Rattle.vectors.specs.Answers.{nought}
+use Rattle.derivatives.specs.Real.{real}
 use Rattle.derivatives.specs.Answer.{curveNumbers}
 use Rattle.derivatives.specs.Rational.{rational}
 use Rattle.derivatives.specs.Vector.{vectors, vectorNumbers, vectorArray}
 use Rattle.derivatives.specs.VectorAnswer.{vectorNorm}
 use Rattle.derivatives.proofs.Curves.{Eq, CurveFilled}
 use Rattle.derivatives.proofs.Quotients.{all-alike}
-use Rattle.derivatives.proofs.Upto.{rational-upto, norm-upto}
+use Rattle.derivatives.proofs.UpTo.{rational-upto, norm-upto}
 use Rattle.rolling_ball_fillet.specs.Rotation.{two}
 use Rattle.rolling_ball_fillet.specs.AxisAngle.{crosses, lengths, axes, dots, rateEntry, rates, turnEntry, turns, angles, cosine, divisionByZero}
 use Rattle.rolling_ball_fillet.proofs.Entries.{served, numbers-agree, vectors-agree}
@@ -44,7 +45,7 @@ rate-later r q (suc m) h = ap (λ (k : ℕ). over (minus (r k) (product real r q
 
 pub rate-formed : (r : ℕ → Float) {q : List Float} {m : ℕ} → CurveFilled (rates r) m q → m ≤ 20 → rates r m ≡ rateEntry r (curveNumbers q) m
 rate-formed r {q} {m} s l =
-    rate-reads r (before nil (rateEntry r) m) (curveNumbers q) m (λ i h. curve-earlier 21 nan nil (λ (x : Float). x) (rateEntry r) s i (omega arith))
+    rate-reads r (before nought (rateEntry r) m) (curveNumbers q) m (λ i h. curve-earlier 21 nan nought (λ (x : Float). x) (rateEntry r) s i (omega arith))
 
 module _ (rate rate' dot dot' length length' : ℕ → Float) (n : ℕ) (a : CurvesAgree n rate rate') (b : CurvesAgree (suc n) dot dot') (c : CurvesAgree n length length') where
   turn-upto : (m : ℕ) → m ≤ n → (f g : ℕ → Float) → CurvesAgree n f g → turnEntry rate dot length f m ≡ turnEntry rate' dot' length' g m
@@ -54,7 +55,7 @@ module _ (rate rate' dot dot' length length' : ℕ → Float) (n : ℕ) (a : Cur
       (c 0 zero-le)
 
   turns-agree : CurvesAgree n (turns rate dot length) (turns rate' dot' length')
-  turns-agree = all-alike Eq nil nil refl (turnEntry rate dot length) (turnEntry rate' dot' length') n turn-upto
+  turns-agree = all-alike Eq nought nought refl (turnEntry rate dot length) (turnEntry rate' dot' length') n turn-upto
 
 pub turn-is : (rate dot length q : ℕ → Float) (m : ℕ) {s t : Float} → s ≡ product real q length m → t ≡ product real rate dot m →
     over (minus (minus (times two t) (dot (m + 1))) s) (length 0) ≡ turnEntry rate dot length q m
@@ -65,8 +66,8 @@ turn-is rate dot length q m e f =
 pub turn-formed : (rate dot length : ℕ → Float) {q : List Float} {m : ℕ} → CurveFilled (turns rate dot length) m q → m ≤ 20 →
     turns rate dot length m ≡ turnEntry rate dot length (curveNumbers q) m
 turn-formed rate dot length {q} {m} s l =
-    turn-upto rate rate dot dot length length m (λ i h. refl) (λ i h. refl) (λ i h. refl) m (le-refl m) (before nil (turnEntry rate dot length) m) (curveNumbers q)
-    (λ i h. curve-earlier 21 nan nil (λ (x : Float). x) (turnEntry rate dot length) s i (omega arith))
+    turn-upto rate rate dot dot length length m (λ i h. refl) (λ i h. refl) (λ i h. refl) m (le-refl m) (before nought (turnEntry rate dot length) m) (curveNumbers q)
+    (λ i h. curve-earlier 21 nan nought (λ (x : Float). x) (turnEntry rate dot length) s i (omega arith))
 
 -- ---- of other jets
 pub turns-upto : (rate rate' dot dot' length length' : ℕ → Float) (n : ℕ) → CurvesAgree n rate rate' → CurvesAgree n dot dot' → CurvesAgree n length length' →
@@ -82,7 +83,7 @@ angles-upto angle n f g h (suc m) l = h m l
 -- ---- arrays that hold the arms p and q, and what is worked out from them in turn: the crosses, their lengths, the axis and the angle
 module _ (p q : ℕ → Vector3) (n : ℕ) (h : n ≤ 20) {pa qa xa la : List Float} (ep : pa ≡ vectorArray p n) (eq : qa ≡ vectorArray q n)
     (ex : xa ≡ vectorArray (crosses (vectorNumbers pa) (vectorNumbers qa)) n)
-    (el : la ≡ cond (ltb 20 n) (replicate 21 nil) (curveArray nil (vectorNorm (vectorNumbers xa)) n)) where
+    (el : la ≡ cond (ltb 20 n) (replicate 21 nought) (curveArray nought (vectorNorm (vectorNumbers xa)) n)) where
   first-arm : CurvesAgree n (vectorNumbers pa) p
   first-arm = vectors-agree p n h ep
 
@@ -94,26 +95,26 @@ module _ (p q : ℕ → Vector3) (n : ℕ) (h : n ≤ 20) {pa qa xa la : List Fl
 
   lengths-held : CurvesAgree n (curveNumbers la) (lengths p q)
   lengths-held i l =
-      numbers-agree (vectorNorm (vectorNumbers xa)) n h (el ∙ served 20 n (replicate 21 nil) (curveArray nil (vectorNorm (vectorNumbers xa)) n) h) i l
+      numbers-agree (vectorNorm (vectorNumbers xa)) n h (el ∙ served 20 n (replicate 21 nought) (curveArray nought (vectorNorm (vectorNumbers xa)) n) h) i l
       ∙ norm-upto real squareRoot dot n crosses-held i l
 
   pub division-is : (r : Float) → divisionByZero (curveNumbers la 0) r ≡ divisionByZero (lengths p q 0) r
   division-is r = ap (λ (x : Float). divisionByZero x r) (lengths-held 0 zero-le)
 
-  pub axis-is : {a : List Float} → a ≡ cond (ltb 20 n) (replicate 63 nil) (vectorArray (rational vectors quotient (vectorNumbers xa) (curveNumbers la)) n) → a ≡ vectorArray (axes p q) n
+  pub axis-is : {a : List Float} → a ≡ cond (ltb 20 n) (replicate 63 nought) (vectorArray (rational vectors quotient (vectorNumbers xa) (curveNumbers la)) n) → a ≡ vectorArray (axes p q) n
   axis-is e =
-      e ∙ served 20 n (replicate 63 nil) (vectorArray (rational vectors quotient (vectorNumbers xa) (curveNumbers la)) n) h
+      e ∙ served 20 n (replicate 63 nought) (vectorArray (rational vectors quotient (vectorNumbers xa) (curveNumbers la)) n) h
       ∙ vectors-upto (rational vectors quotient (vectorNumbers xa) (curveNumbers la)) (axes p q) n (rational-upto vectors quotient n crosses-held lengths-held)
 
   pub angle-is : (angle : Float) (rate : ℕ → Float) {a : List Float} →
-      a ≡ curveArray nil (angles angle (turns rate (dots (vectorNumbers pa) (vectorNumbers qa)) (curveNumbers la))) n →
-      a ≡ curveArray nil (angles angle (turns rate (dots p q) (lengths p q))) n
+      a ≡ curveArray nought (angles angle (turns rate (dots (vectorNumbers pa) (vectorNumbers qa)) (curveNumbers la))) n →
+      a ≡ curveArray nought (angles angle (turns rate (dots p q) (lengths p q))) n
   angle-is angle rate e =
       let f = turns rate (dots (vectorNumbers pa) (vectorNumbers qa)) (curveNumbers la) in
       let g = turns rate (dots p q) (lengths p q) in
       let t = turns-upto rate rate (dots (vectorNumbers pa) (vectorNumbers qa)) (dots p q) (curveNumbers la) (lengths p q) n (λ i l. refl)
       (productBy-upto (regular real) n dot first-arm second-arm) lengths-held in
-      e ∙ filled-same 21 (suc n) nil (angles angle f) (angles angle g) (λ k l. angles-upto angle n f g t k (omega arith))
+      e ∙ filled-same 21 (suc n) nought (angles angle f) (angles angle g) (λ k l. angles-upto angle n f g t k (omega arith))
 
   pub cosine-is : (r : Float) → cosine (vectorNumbers pa 0) (vectorNumbers qa 0) r ≡ cosine (p 0) (q 0) r
   cosine-is r = ap₂ (λ (x y : Vector3). cosine x y r) (first-arm 0 zero-le) (second-arm 0 zero-le)

@@ -21,7 +21,8 @@ use Rattle.calculus.specs.Graded.{index}
 use Rattle.calculus.proofs.Filling.{filled-at}
 use Rattle.calculus.proofs.SurfaceFilling.{array-at}
 use Rattle.calculus.proofs.UpTo.{CurvesAgree, SurfacesAgree, productBy-upto, product-upto, compositeDerivative-upto}
-use Rattle.derivatives.specs.Real.{nil, real}
+use Rattle.vectors.specs.Answers.{nought}
+use Rattle.derivatives.specs.Real.{real}
 use Rattle.derivatives.specs.Answer.{curveNumbers}
 use Rattle.derivatives.specs.Vector.{origin, vectors, vectorNumbers, vectorSurfaceNumbers, vectorArray, vectorSurfaceArray}
 use Rattle.derivatives.proofs.Vectors.{nowhere, flat-at}
@@ -31,11 +32,11 @@ pub served : {A : Type 0} (b n : ℕ) (x y : A) → n ≤ b → cond (ltb b n) x
 served b n x y h = second x y (le-ltb b n h)
 
 -- ---- the entries of an array
-pub numbers-held : (f : ℕ → Float) (n : ℕ) → n ≤ 21 → {r : List Float} → r ≡ filled 21 nil f n → (k : ℕ) → k < n → curveNumbers r k ≡ f k
+pub numbers-held : (f : ℕ → Float) (n : ℕ) → n ≤ 21 → {r : List Float} → r ≡ filled 21 nought f n → (k : ℕ) → k < n → curveNumbers r k ≡ f k
 numbers-held f n h e k l =
-    ap (λ (x : List Float). curveNumbers x k) e ∙ filled-at 21 nan nil f n k (omega arith) ∙ first (f k) nil (lt-ltb k n l)
+    ap (λ (x : List Float). curveNumbers x k) e ∙ filled-at 21 nan nought f n k (omega arith) ∙ first (f k) nought (lt-ltb k n l)
 
-pub numbers-agree : (f : ℕ → Float) (n : ℕ) → n ≤ 20 → {r : List Float} → r ≡ curveArray nil f n → CurvesAgree n (curveNumbers r) f
+pub numbers-agree : (f : ℕ → Float) (n : ℕ) → n ≤ 20 → {r : List Float} → r ≡ curveArray nought f n → CurvesAgree n (curveNumbers r) f
 numbers-agree f n h e k l = numbers-held f (suc n) (omega arith) e k (omega arith)
 
 pub vectors-agree : (f : ℕ → Vector3) (n : ℕ) → n ≤ 20 → {r : List Float} → r ≡ vectorArray f n → CurvesAgree n (vectorNumbers r) f
@@ -55,14 +56,14 @@ module _ (m : ℕ) (h : m ≤ 20) where
   pub dot-left : (f d : ℕ → Vector3) {e : List Float} → e ≡ vectorArray f m → productBy (regular real) dot (vectorNumbers e) d m ≡ productBy (regular real) dot f d m
   dot-left f d e = productBy-upto (regular real) m dot {c = d} {d = d} (vectors-agree f m h e) (λ i l. refl) m (le-refl m)
 
-  pub product-left : (f d : ℕ → Float) {e : List Float} → e ≡ curveArray nil f m → product real (curveNumbers e) d m ≡ product real f d m
+  pub product-left : (f d : ℕ → Float) {e : List Float} → e ≡ curveArray nought f m → product real (curveNumbers e) d m ≡ product real f d m
   product-left f d e = product-upto real m {c = d} {d = d} (numbers-agree f m h e) (λ i l. refl) m (le-refl m)
 
 -- a surface's derivative, worked out up to the order m and carried
 pub along-derived : (m : ℕ) → m < 20 → (u v : ℕ → Float) (s : ℕ → ℕ → Vector3) {e : List Float} {r : Vector3} →
-    e ≡ cond (ltb 19 m) (replicate 693 nil) (vectorSurfaceArray s m) → r ≡ cond (ltb 20 m) origin (compositeDerivative vectors u v (vectorSurfaceNumbers e) m) →
+    e ≡ cond (ltb 19 m) (replicate 693 nought) (vectorSurfaceArray s m) → r ≡ cond (ltb 20 m) origin (compositeDerivative vectors u v (vectorSurfaceNumbers e) m) →
     r ≡ compositeDerivative vectors u v s m
 along-derived m h u v s {e} d c =
-    let held = d ∙ served 19 m (replicate 693 nil) (vectorSurfaceArray s m) (omega arith) in
+    let held = d ∙ served 19 m (replicate 693 nought) (vectorSurfaceArray s m) (omega arith) in
     c ∙ served 20 m origin (compositeDerivative vectors u v (vectorSurfaceNumbers e) m) (omega arith)
     ∙ compositeDerivative-upto vectors m {u = u} {v = v} {x = u} {y = v} (λ i l. refl) (λ i l. refl) (surface-agrees s m (omega arith) held) m (le-refl m)

@@ -1,19 +1,16 @@
 -- Arrays as loops fill them; entries that agree up to an order fill one the same way; and equal parts make equal records of jets. Assumes nothing.
-use mathlib.Core.Path.{_≡_, refl, sym, ap, fun-ext}
-use mathlib.Core.Bool.{Bool, true, false, cond}
+use mathlib.Core.Path.{_≡_, sym, ap}
 use mathlib.Core.List.{List}
 use Prim.Native.Nat.{ℕ, suc, _+_, _<_}
 use native.Mathlib.Omega.{arith}
-use borrow.Author.Tests.{ltb-true}
-use lib.Dec.{ltb}
 use lib.ListN.{set, replicate}
 use lib.Ieee.{Float, nan}
-use Rattle.calculus.specs.Array.{listed, filled}
+use Rattle.calculus.specs.Array.{filled}
 use Rattle.calculus.proofs.Filling.{curve-none, curve-more, curve-all}
 use Rattle.calculus.proofs.Same.{filled-same}
 use Rattle.calculus.proofs.UpTo.{CurvesAgree}
 use Rattle.vectors.specs.declared.Vector3.{Vector3}
-use Rattle.derivatives.specs.Real.{nil}
+use Rattle.vectors.specs.Answers.{nought}
 use Rattle.derivatives.specs.Vector.{origin, vectorArray, flat}
 use Rattle.derivatives.proofs.Curves.{CurveFilled}
 use Rattle.derivatives.specs.declared.CurveDerivatives.{CurveDerivatives}
@@ -25,14 +22,14 @@ use Rattle.rolling_ball_fillet.specs.declared.VderInfoAnswer.{VderInfoAn
 
 -- ---- a loop that fills an array of floats, as derivatives/proofs/Vectors.antt has it for vectors
 module _ (f : ℕ → Float) where
-  pub numbers-none : CurveFilled f 0 (replicate 21 nil)
-  numbers-none = curve-none 21 nan nil (λ k v. f k ≡ v)
+  pub numbers-none : CurveFilled f 0 (replicate 21 nought)
+  numbers-none = curve-none 21 nan nought (λ k v. f k ≡ v)
 
   pub numbers-more : {r : List Float} {m : ℕ} (v : Float) → CurveFilled f m r → m < 21 → f m ≡ v → CurveFilled f (m + 1) (set r m v)
-  numbers-more = curve-more 21 nan nil (λ k v. f k ≡ v)
+  numbers-more = curve-more 21 nan nought (λ k v. f k ≡ v)
 
-  pub numbers-all : {r : List Float} (n : ℕ) {m : ℕ} → CurveFilled f m r → m ≡ n → r ≡ filled 21 nil f n
-  numbers-all = curve-all 21 nan nil (λ k v. f k ≡ v) f (λ k v e. sym e)
+  pub numbers-all : {r : List Float} (n : ℕ) {m : ℕ} → CurveFilled f m r → m ≡ n → r ≡ filled 21 nought f n
+  numbers-all = curve-all 21 nan nought (λ k v. f k ≡ v) f (λ k v e. sym e)
 
 -- ---- entries that agree up to an order
 pub vectors-upto : (f g : ℕ → Vector3) (n : ℕ) → CurvesAgree n f g → vectorArray f n ≡ vectorArray g n
@@ -55,7 +52,7 @@ pub same-ders : {a a' b b' c c' : VectorCurveDerivatives} {u u' v v' : Parameter
 same-ders e f g h k = λ i. ders (e i) (f i) (g i) (h i) (k i)
 
 abbrev refusedWith : ℕ → CenterContactDers → VectorCurveDerivatives → VderInfoAnswer
-refusedWith n d a = record { refusal = n; info = record { «cc_ders» = d; «axis_ders» = a; «angle_ders» = noNumbers }; cosine = nil }
+refusedWith n d a = record { refusal = n; info = record { «cc_ders» = d; «axis_ders» = a; «angle_ders» = noNumbers }; cosine = nought }
 
 pub same-refused : (n : ℕ) {d d' : CenterContactDers} {a a' : VectorCurveDerivatives} → d ≡ d' → a ≡ a' → refusedWith n d a ≡ refusedWith n d' a'
 same-refused n e f = λ i. refusedWith n (e i) (f i)

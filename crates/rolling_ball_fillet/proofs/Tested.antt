@@ -10,12 +10,12 @@ use lib.Ieee.Scale.{finite}
 use borrow.Author.Tests.{ltb-false}
 use Rattle.ieee.proofs.Tests.{first as taken}
 use Rattle.vectors.specs.Vectors.{vector}
-use Rattle.vectors.specs.Answers.{finiteVector, returnedVector}
+use Rattle.vectors.specs.Answers.{nought, finiteVector, returnedVector}
 use Rattle.vectors.specs.declared.VectorAnswer.the-variants.{Refused}
 use Rattle.vectors.specs.Matrices.{determinant2, determinant3}
-use Rattle.derivatives.specs.Real.{nil, isZero}
+use Rattle.derivatives.specs.Real.{isZero}
 use Rattle.derivatives.specs.Answer.{curveNumbers, allPass, allFinite, finiteCurve}
-use Rattle.derivatives.specs.Vector.{origin, vectorNumbers, allVectorsFinite, finiteVectors}
+use Rattle.derivatives.specs.Vector.{origin, vectorNumbers, allVectorsFinite, finiteVectorCurve}
 use Rattle.derivatives.specs.Answer.{tested, far}
 use Rattle.derivatives.specs.declared.CurveDerivatives.{CurveDerivatives}
 use Rattle.rolling_ball_fillet.specs.SurfaceInfo.{apart, form}
@@ -98,31 +98,31 @@ edge-asked p f cc angle u s c =
     (finiteGiven f cc (suc (orderOf p)) && finiteFloats angle u s c) refl
 
 -- ---- a refusal is not refused once more: its jets are zero
-finite-nil : finite nil ≡ true
+finite-nought : finite nought ≡ true
 unfolding ofBits
-finite-nil = refl
+finite-nought = refl
 
-zeros-finite : (n : ℕ) → n ≤ 21 → allFinite (curveNumbers (replicate 21 nil)) n ≡ true
+zeros-finite : (n : ℕ) → n ≤ 21 → allFinite (curveNumbers (replicate 21 nought)) n ≡ true
 unfolding allPass
 zeros-finite zero h = refl
-zeros-finite (suc n) h = ap₂ _&&_ (zeros-finite n (omega arith)) (ap finite (getD-replicate 21 n nil nan h) ∙ finite-nil)
+zeros-finite (suc n) h = ap₂ _&&_ (zeros-finite n (omega arith)) (ap finite (getD-replicate 21 n nought nan h) ∙ finite-nought)
 
-pub origins : (k : ℕ) → k < 21 → vectorNumbers (replicate 63 nil) k ≡ origin
+pub origins : (k : ℕ) → k < 21 → vectorNumbers (replicate 63 nought) k ≡ origin
 origins k h =
-    λ i. vector (getD-replicate 63 (3 * k) nil nan (omega arith) i) (getD-replicate 63 (3 * k + 1) nil nan (omega arith) i) (getD-replicate 63 (3 * k + 2) nil nan (omega arith) i)
+    λ i. vector (getD-replicate 63 (3 * k) nought nan (omega arith) i) (getD-replicate 63 (3 * k + 1) nought nan (omega arith) i) (getD-replicate 63 (3 * k + 2) nought nan (omega arith) i)
 
 origin-finite : finiteVector origin ≡ true
 unfolding ofBits
 origin-finite = refl
 
-origins-finite : (n : ℕ) → n ≤ 21 → allVectorsFinite (vectorNumbers (replicate 63 nil)) n ≡ true
+origins-finite : (n : ℕ) → n ≤ 21 → allVectorsFinite (vectorNumbers (replicate 63 nought)) n ≡ true
 unfolding allPass
 origins-finite zero h = refl
 origins-finite (suc n) h = ap₂ _&&_ (origins-finite n (omega arith)) (ap finiteVector (origins n h) ∙ origin-finite)
 
 pub refused-stays : (c n : ℕ) → n ≤ 19 → returnedContacts (refusedContacts c) n ≡ refusedContacts c
 refused-stays c n h =
-    let v : finiteVectors (vectorNumbers (replicate 63 nil)) n ≡ true = origins-finite (suc n) (omega arith) in
-    let w : finiteVectors (vectorNumbers (replicate 63 nil)) (n + 1) ≡ true = origins-finite (suc (n + 1)) (omega arith) in
-    let u : finiteCurve (curveNumbers (replicate 21 nil)) (n + 1) ≡ true = zeros-finite (suc (n + 1)) (omega arith) in
+    let v : finiteVectorCurve (vectorNumbers (replicate 63 nought)) n ≡ true = origins-finite (suc n) (omega arith) in
+    let w : finiteVectorCurve (vectorNumbers (replicate 63 nought)) (n + 1) ≡ true = origins-finite (suc (n + 1)) (omega arith) in
+    let u : finiteCurve (curveNumbers (replicate 21 nought)) (n + 1) ≡ true = zeros-finite (suc (n + 1)) (omega arith) in
     taken (refusedContacts c) (refusedContacts 10) (λ i. (v i && (w i && w i)) && ((u i && u i) && (u i && u i)))

@@ -14,7 +14,8 @@ use Rattle.vectors.specs.declared.Vector3.{Vector3}
 use Rattle.vectors.specs.declared.Matrix3.{Matrix3}
 use Rattle.calculus.specs.Kind.{regular}
 use Rattle.calculus.specs.Curve.{derivative, product, productBy}
-use Rattle.derivatives.specs.Real.{nil, real}
+use Rattle.vectors.specs.Answers.{nought}
+use Rattle.derivatives.specs.Real.{real}
 use Rattle.derivatives.specs.Rational.{rational}
 use Rattle.derivatives.specs.Answer.{curveNumbers}
 use Rattle.derivatives.specs.Vector.{origin, vectors, vectorNumbers}
@@ -149,20 +150,20 @@ pub record Zero (j : ℕ) (k : Contacts) : Type 0 where
   pub center : vectorNumbers (k .ders) j ≡ origin
   pub contact0 : vectorNumbers (k .s0info .tders) j ≡ origin
   pub contact1 : vectorNumbers (k .s1info .tders) j ≡ origin
-  pub u0 : curveNumbers (k .s0info .u) j ≡ nil
-  pub v0 : curveNumbers (k .s0info .v) j ≡ nil
-  pub u1 : curveNumbers (k .s1info .u) j ≡ nil
-  pub v1 : curveNumbers (k .s1info .v) j ≡ nil
+  pub u0 : curveNumbers (k .s0info .u) j ≡ nought
+  pub v0 : curveNumbers (k .s0info .v) j ≡ nought
+  pub u1 : curveNumbers (k .s1info .u) j ≡ nought
+  pub v1 : curveNumbers (k .s1info .v) j ≡ nought
 
 module _ (j : ℕ) (h : 0 < j) (l : j ≤ 20) where
   other : ¬ (j ≡ 0)
   other q = omega arith
 
   begun-zero : (e : Vector3) → vectorNumbers (begun e) j ≡ origin
-  begun-zero e = put-other (replicate 63 nil) 0 j e other ∙ origins j (omega arith)
+  begun-zero e = put-other (replicate 63 nought) 0 j e other ∙ origins j (omega arith)
 
-  begunNumbers-zero : (x : Float) → curveNumbers (begunNumbers x) j ≡ nil
-  begunNumbers-zero x = getD-set-other (replicate 21 nil) 0 j x nan other ∙ getD-replicate 21 j nil nan (omega arith)
+  begunNumbers-zero : (x : Float) → curveNumbers (begunNumbers x) j ≡ nought
+  begunNumbers-zero x = getD-set-other (replicate 21 nought) 0 j x nan other ∙ getD-replicate 21 j nought nan (omega arith)
 
 module _ (f : RollingBallFilletSurface) (cc : ContactCircle) where
   start-zero : (j : ℕ) → 0 < j → j ≤ 20 → Zero j (start f cc)

@@ -10,7 +10,8 @@ use Rattle.calculus.specs.Kind.{regular}
 use Rattle.calculus.specs.Rising.{rising}
 use Rattle.calculus.specs.Array.{curveArray}
 use Rattle.calculus.specs.Curve.{productBy, product, difference}
-use Rattle.derivatives.specs.Real.{nil, real, isZero}
+use Rattle.vectors.specs.Answers.{nought}
+use Rattle.derivatives.specs.Real.{real, isZero}
 use Rattle.derivatives.specs.Rational.{rational}
 use Rattle.derivatives.specs.Vector.{vectors, vectorNumbers, vectorArray}
 use Rattle.derivatives.specs.VectorAnswer.{vectorNorm}
@@ -43,14 +44,14 @@ rateEntry r q zero = over (r 1) (r 0)
 rateEntry r q (suc m) = over (minus (r (suc (suc m))) (product real r q (suc m))) (r 0)
 
 abbrev pub rates : (r : ℕ → Float) → ℕ → Float
-rates r = rising nil (rateEntry r)
+rates r = rising nought (rateEntry r)
 
 -- θ', from |p × q| · θ' = 2 · (r'/r) · (p · q) − (p · q)'
 abbrev pub turnEntry : (rate dot length : ℕ → Float) → (ℕ → Float) → ℕ → Float
 turnEntry rate dot length q m = over (minus (minus (times two (product real rate dot m)) (dot (suc m))) (product real q length m)) (length 0)
 
 abbrev pub turns : (rate dot length : ℕ → Float) → ℕ → Float
-turns rate dot length = rising nil (turnEntry rate dot length)
+turns rate dot length = rising nought (turnEntry rate dot length)
 
 abbrev pub angles : Float → (ℕ → Float) → ℕ → Float
 angles angle turn zero = angle
@@ -81,5 +82,5 @@ infoOf d r angle n =
     record {
       «cc_ders» = cutDers d n;
       «axis_ders» = record { order = n; entries = vectorArray (axes p q) n };
-      «angle_ders» = record { order = n; entries = curveArray nil (angles angle (turns (rates r) (dots p q) (lengths p q))) n };
+      «angle_ders» = record { order = n; entries = curveArray nought (angles angle (turns (rates r) (dots p q) (lengths p q))) n };
     }

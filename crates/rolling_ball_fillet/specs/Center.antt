@@ -14,7 +14,7 @@ use Rattle.calculus.specs.Kind.{regular}
 use Rattle.calculus.specs.Curve.{derivative, difference, productBy}
 use Rattle.derivatives.specs.Real.{real, isZero}
 use Rattle.derivatives.specs.Answer.{curveNumbers, finiteCurve}
-use Rattle.derivatives.specs.Vector.{vectors, vectorNumbers, vectorSurfaceNumbers, finiteVectors, finiteVectorSurface}
+use Rattle.derivatives.specs.Vector.{vectors, vectorNumbers, vectorSurfaceNumbers, finiteVectorCurve, finiteVectorSurface}
 use Rattle.derivatives.specs.Answer.{tested, far}
 use Rattle.rolling_ball_fillet.specs.Answers.{finiteCircle}
 use Rattle.rolling_ball_fillet.specs.Jets.{noDers, finiteJet, finiteParameter}
@@ -125,7 +125,7 @@ short f n = (ltb (f .«edge_curve» .order) n || ltb (f .radius .order) n) || (l
 abbrev pub finiteUpTo : RollingBallFilletSurface → ContactCircle → (e r s t : ℕ) → Bool
 finiteUpTo f cc e r s t =
     (finiteCircle cc && (finiteVector (f .normal0) && finiteVector (f .normal1)))
-    && ((finiteVectors (edge f) e && finiteCurve (radii f) r) && (finiteVectorSurface (first f) s && finiteVectorSurface (second f) t))
+    && ((finiteVectorCurve (edge f) e && finiteCurve (radii f) r) && (finiteVectorSurface (first f) s && finiteVectorSurface (second f) t))
 
 abbrev pub finiteGiven : RollingBallFilletSurface → ContactCircle → ℕ → Bool
 finiteGiven f cc n = finiteUpTo f cc n n n n

@@ -4,9 +4,9 @@ use mathlib.Core.Bool.{Bool, _&&_, _||_}
 use lib.Dec.{ltb}
 use lib.ListN.{replicate}
 use Rattle.calculus.specs.Array.{curveArray}
-use Rattle.derivatives.specs.Real.{nil}
+use Rattle.vectors.specs.Answers.{nought}
 use Rattle.derivatives.specs.Answer.{curveNumbers, finiteCurve}
-use Rattle.derivatives.specs.Vector.{vectorNumbers, vectorArray, finiteVectors}
+use Rattle.derivatives.specs.Vector.{vectorNumbers, vectorArray, finiteVectorCurve}
 use Rattle.derivatives.specs.declared.CurveDerivatives.{CurveDerivatives}
 use Rattle.derivatives.specs.declared.ParameterCurve.{ParameterCurve}
 use Rattle.derivatives.specs.declared.VectorCurveDerivatives.{VectorCurveDerivatives}
@@ -14,13 +14,13 @@ use Rattle.rolling_ball_fillet.specs.declared.CenterContactDers.{CenterC
 
 -- ---- the zero jets of order 0, which stand beside a refusal
 abbrev pub noVectors : VectorCurveDerivatives
-noVectors = record { order = 0; entries = replicate 63 nil }
+noVectors = record { order = 0; entries = replicate 63 nought }
 
 abbrev pub noNumbers : CurveDerivatives
-noNumbers = record { order = 0; entries = replicate 21 nil }
+noNumbers = record { order = 0; entries = replicate 21 nought }
 
 abbrev pub noParameter : ParameterCurve
-noParameter = record { order = 0; u = replicate 21 nil; v = replicate 21 nil }
+noParameter = record { order = 0; u = replicate 21 nought; v = replicate 21 nought }
 
 abbrev pub noDers : CenterContactDers
 noDers = record { «center_ders» = noVectors; «contact0_ders» = noVectors; «contact1_ders» = noVectors; «uv0_ders» = noParameter; «uv1_ders» = noParameter }
@@ -30,7 +30,7 @@ abbrev pub cutVectors : VectorCurveDerivatives → ℕ → VectorCurveDerivative
 cutVectors a n = record { order = n; entries = vectorArray (vectorNumbers (a .entries)) n }
 
 abbrev pub cutParameter : ParameterCurve → ℕ → ParameterCurve
-cutParameter a n = record { order = n; u = curveArray nil (curveNumbers (a .u)) n; v = curveArray nil (curveNumbers (a .v)) n }
+cutParameter a n = record { order = n; u = curveArray nought (curveNumbers (a .u)) n; v = curveArray nought (curveNumbers (a .v)) n }
 
 -- the centre to the order n, and the contacts and their parameters one further
 abbrev pub cutDers : CenterContactDers → ℕ → CenterContactDers
@@ -51,7 +51,7 @@ shortContacts d n = ltb (d .«contact0_ders» .order) n || ltb (d .«contact1_de
 
 -- ---- whether the entries that are cut out are finite
 abbrev pub finiteJet : VectorCurveDerivatives → ℕ → Bool
-finiteJet a n = finiteVectors (vectorNumbers (a .entries)) n
+finiteJet a n = finiteVectorCurve (vectorNumbers (a .entries)) n
 
 abbrev pub finiteNumbers : CurveDerivatives → ℕ → Bool
 finiteNumbers a n = finiteCurve (curveNumbers (a .entries)) n

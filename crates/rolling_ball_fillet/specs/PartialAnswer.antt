@@ -8,8 +8,7 @@ use lib.Ieee.Scale.{finite}
 use Rattle.vectors.specs.declared.Vector3.{Vector3}
 use Rattle.vectors.specs.declared.VectorAnswer.{VectorAnswer}
 use Rattle.vectors.specs.declared.VectorAnswer.the-variants.{Refused}
-use Rattle.vectors.specs.Answers.{returnedVector}
-use Rattle.derivatives.specs.Real.{nil}
+use Rattle.vectors.specs.Answers.{nought, returnedVector}
 use Rattle.derivatives.specs.Answer.{curveNumbers}
 use Rattle.derivatives.specs.Answer.{tested}
 use Rattle.derivatives.specs.declared.CurveDerivatives.{CurveDerivatives}
@@ -22,7 +21,7 @@ use Rattle.rolling_ball_fillet.specs.declared.VderInfoAnswer.{VderInfoAn
 
 -- ---- axis and angle
 abbrev pub refusedInfo : ℕ → VderInfoAnswer
-refusedInfo c = record { refusal = c; info = record { «cc_ders» = noDers; «axis_ders» = noVectors; «angle_ders» = noNumbers }; cosine = nil }
+refusedInfo c = record { refusal = c; info = record { «cc_ders» = noDers; «axis_ders» = noVectors; «angle_ders» = noNumbers }; cosine = nought }
 
 abbrev pub infoAnswer : CenterContactDers → (r : ℕ → Float) → Float → ℕ → VderInfoAnswer
 infoAnswer d r angle n = record { refusal = 0; info = infoOf d r angle n; cosine = cosine (arm0 d 0) (arm1 d 0) (r 0) }

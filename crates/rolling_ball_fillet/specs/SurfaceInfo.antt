@@ -13,7 +13,8 @@ use Rattle.calculus.specs.Kind.{regular}
 use Rattle.calculus.specs.Curve.{derivative, difference, product, productBy}
 use Rattle.calculus.specs.Surface.{derivativeU, derivativeV}
 use Rattle.calculus.specs.Carry.{compositeDerivative}
-use Rattle.derivatives.specs.Real.{nil, real}
+use Rattle.vectors.specs.Answers.{nought}
+use Rattle.derivatives.specs.Real.{real}
 use Rattle.derivatives.specs.Rational.{rational}
 use Rattle.derivatives.specs.Answer.{curveNumbers}
 use Rattle.derivatives.specs.Vector.{vectors, vectorNumbers}
@@ -24,10 +25,10 @@ abbrev pub put : List Float → ℕ → Vector3 → List Float
 put l m e = set (set (set l (3 * m) (e .x)) (3 * m + 1) (e .y)) (3 * m + 2) (e .z)
 
 abbrev pub begun : Vector3 → List Float
-begun e = put (replicate 63 nil) 0 e
+begun e = put (replicate 63 nought) 0 e
 
 abbrev pub begunNumbers : Float → List Float
-begunNumbers x = set (replicate 21 nil) 0 x
+begunNumbers x = set (replicate 21 nought) 0 x
 
 -- ---- the entries of order 0, from the surface, the contact point's parameters and the surface's normal there
 unfoldable pub initial : (ℕ → ℕ → Vector3) → Vector2 → Vector3 → SurfaceInfo

@@ -3,7 +3,7 @@
 ghost use mathlib.Core.Path.{_≡_};
 ghost use Prim.Native.Nat.{_≤_, _<_};
 ghost use Rattle.calculus.specs.Array.{filled, curveArray};
-ghost use Rattle.derivatives.specs.Real.{nil};
+ghost use Rattle.vectors.specs.Answers.{nought};
 ghost use Rattle.derivatives.specs.Answer.{curveNumbers};
 ghost use Rattle.derivatives.specs.Vector.{vectorNumbers, vectorArray};
 ghost use Rattle.rolling_ball_fillet.specs.AxisAngle.{arm as armOf, crosses as crossesOf, dots as dotsOf, rateEntry, rates as ratesOf, turnEntry, turns as turnsOf, angles as anglesFrom};
@@ -47,7 +47,7 @@ fn crosses(p: &[f64; 63], q: &[f64; 63], n: usize) -> [f64; 63]
 
 fn dots(p: &[f64; 63], q: &[f64; 63], n: usize) -> [f64; 21]
     requires { ⌜ n ≤ 20 ⌝ }
-    ensures { λ r. ⌜ r ≡ curveArray nil (dotsOf (vectorNumbers (now (p .entry))) (vectorNumbers (now (q .entry)))) n ⌝ }
+    ensures { λ r. ⌜ r ≡ curveArray nought (dotsOf (vectorNumbers (now (p .entry))) (vectorNumbers (now (q .entry)))) n ⌝ }
 {
     let mut r = [0.0f64; 21];
     let mut m = 0;
@@ -73,7 +73,7 @@ fn rate(r: &[f64; 21], q: &[f64; 21], m: usize) -> f64
 
 fn rates(r: &[f64; 21], n: usize) -> [f64; 21]
     requires { ⌜ n < 20 ⌝ }
-    ensures { λ x. ⌜ x ≡ curveArray nil (ratesOf (curveNumbers (now (r .entry)))) n ⌝ }
+    ensures { λ x. ⌜ x ≡ curveArray nought (ratesOf (curveNumbers (now (r .entry)))) n ⌝ }
 {
     let mut q = [0.0f64; 21];
     let mut m = 0;
@@ -97,7 +97,7 @@ fn turn(rate: &[f64; 21], dot: &[f64; 21], length: &[f64; 21], q: &[f64; 21], m:
 
 fn turns(rate: &[f64; 21], dot: &[f64; 21], length: &[f64; 21], n: usize) -> [f64; 21]
     requires { ⌜ n ≤ 20 ⌝ }
-    ensures { λ r. ⌜ r ≡ filled 21 nil (turnsOf (curveNumbers (now (rate .entry))) (curveNumbers (now (dot .entry))) (curveNumbers (now (length .entry)))) n ⌝ }
+    ensures { λ r. ⌜ r ≡ filled 21 nought (turnsOf (curveNumbers (now (rate .entry))) (curveNumbers (now (dot .entry))) (curveNumbers (now (length .entry)))) n ⌝ }
 {
     let mut q = [0.0f64; 21];
     let mut m = 0;
@@ -112,7 +112,7 @@ fn turns(rate: &[f64; 21], dot: &[f64; 21], length: &[f64; 21], n: usize) -> [f6
 // The angle, and after it the entries of its derivative.
 fn with_angle(angle: f64, turn: &[f64; 21], n: usize) -> [f64; 21]
     requires { ⌜ n ≤ 20 ⌝ }
-    ensures { λ r. ⌜ r ≡ curveArray nil (anglesFrom angle (curveNumbers (now (turn .entry)))) n ⌝ }
+    ensures { λ r. ⌜ r ≡ curveArray nought (anglesFrom angle (curveNumbers (now (turn .entry)))) n ⌝ }
 {
     let mut r = [0.0f64; 21];
     r[0] = angle;
@@ -133,7 +133,7 @@ fn angles(
     n: usize,
 ) -> [f64; 21]
     requires { ⌜ n < 20 ⌝ }
-    ensures { λ x. ⌜ x ≡ curveArray nil (anglesFrom angle (turnsOf (ratesOf (curveNumbers (now (r .entry)))) (dotsOf (vectorNumbers (now (p .entry))) (vectorNumbers (now (q .entry)))) (curveNumbers (now (length .entry))))) n ⌝ }
+    ensures { λ x. ⌜ x ≡ curveArray nought (anglesFrom angle (turnsOf (ratesOf (curveNumbers (now (r .entry)))) (dotsOf (vectorNumbers (now (p .entry))) (vectorNumbers (now (q .entry)))) (curveNumbers (now (length .entry))))) n ⌝ }
 {
     let rate = rates(r, n);
     let dot = dots(p, q, n);

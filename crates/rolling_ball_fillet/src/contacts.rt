@@ -1,6 +1,6 @@
 // The ball's centre, its contact points and their parameters along the edge. NaN and infinities pass through. Each `requires` is met by the callers.
 ghost use mathlib.Core.Path.{_≡_};
-ghost use Prim.Native.Nat.{_+_, _<_};
+ghost use Prim.Native.Nat.{_<_};
 ghost use Rattle.vectors.specs.Matrices.{columns, transposed};
 ghost use Rattle.derivatives.specs.Answer.{curveNumbers};
 ghost use Rattle.derivatives.specs.Vector.{vectorNumbers, vectorSurfaceNumbers};

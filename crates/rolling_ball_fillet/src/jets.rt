@@ -2,7 +2,7 @@
 ghost use mathlib.Core.Path.{_≡_};
 ghost use Prim.Native.Nat.{_≤_, _<_};
 ghost use Rattle.calculus.specs.Array.{curveArray};
-ghost use Rattle.derivatives.specs.Real.{nil};
+ghost use Rattle.vectors.specs.Answers.{nought};
 ghost use Rattle.derivatives.specs.Answer.{curveNumbers};
 ghost use Rattle.derivatives.specs.Vector.{vectorNumbers, vectorSurfaceNumbers, vectorArray, finiteVectorSurface};
 ghost use Rattle.rolling_ball_fillet.specs.Jets.{noVectors, noParameter, noDers, cutVectors, cutParameter, cutDers};
@@ -90,7 +90,7 @@ fn cut_entries(a: &[f64; 63], n: usize) -> [f64; 63]
 
 fn cut_numbers(a: &[f64; 21], n: usize) -> [f64; 21]
     requires { ⌜ n ≤ 20 ⌝ }
-    ensures { λ r. ⌜ r ≡ curveArray nil (curveNumbers (now (a .entry))) n ⌝ }
+    ensures { λ r. ⌜ r ≡ curveArray nought (curveNumbers (now (a .entry))) n ⌝ }
 {
     let mut r = [0.0f64; 21];
     let mut m = 0;

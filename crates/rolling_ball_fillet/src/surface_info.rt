@@ -1,7 +1,7 @@
 // What is known of one surface along the edge. NaN and infinities pass through. Each `requires` is met by the callers.
 ghost use mathlib.Core.Path.{_≡_};
 ghost use Prim.Native.Nat.{_≤_, _<_};
-ghost use Rattle.vectors.specs.Vectors.{plus, quotient, dot, cross};
+ghost use Rattle.vectors.specs.Vectors.{plus, quotient, dot};
 ghost use Rattle.calculus.specs.Kind.{regular};
 ghost use Rattle.calculus.specs.Curve.{difference, productBy};
 ghost use Rattle.derivatives.specs.Real.{real};

@@ -1,5 +1,5 @@
--- What the functions of `answers` return (for a single float `realFrom` of the crate ieee says it): a value where it can be had, or document 01's refusal number. Checked as 5, then 6 or 7, then 10.
--- Assumes nothing.
+-- What the functions of `answers` return: a value where it can be had, or document 01's refusal number. Of a single float, `realFrom` of the crate
+-- ieee says it. Checked as 5, then 6 or 7, then 10. Assumes nothing.
 use mathlib.Core.Bool.{Bool, _&&_, cond}
 use Prim.Native.Nat.{ℕ}
 use lib.Ieee.{Float, binary64, eq, ofBits}

@@ -8,7 +8,7 @@ use lib.Signed.{mag, quotZ, remZ}
 use Rattle.whole.specs.declared.Whole.{Whole}
 use Rattle.whole.specs.declared.Whole.the-variants.{Value, Refused}
 
--- z lies in -2^63 .. 2^63 - 1
+-- z lies in -2^63 .. 2^63 - 1: `mag` of -n - 1 is n
 abbrev pub inRange : ℤ → Bool
 inRange z = ltb (mag z) (2 ^ 63)
 

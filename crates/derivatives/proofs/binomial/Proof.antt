@@ -1,7 +1,6 @@
 -- `derivatives::binomial` meets its contract. Assumes nothing.
 use Rattle.derivatives.proofs.Terms.{coefficient}
 use Rattle.calculus.proofs.Graded.{index-231}
-use Rattle.calculus.specs.Graded.{index}
 use lib.ListN.{getD}
 use mathlib.Core.Path.{ap₂, _∙_}
 use Prim.Native.Nat.{ℕ, _-_, _*_, _<_}

@@ -2,8 +2,6 @@
 use borrow.Author.Tests.{eq-eqb, ne-eqb}
 use Rattle.given.proofs.count.Statement.{statement}
 use Rattle.given.proofs.count.Tie as tie
-use Rattle.given.proofs.count.Reads as reads
-use Rattle.given.proofs.count.Lts as lts
 
 returns : tie.Need-returns
 returns c = rw (eq-eqb (c .before .args .l) (c .before .args .due) (c .if1 .taken))

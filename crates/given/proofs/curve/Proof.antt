@@ -1,15 +1,12 @@
 -- `given::curve` meets its contract. Assumes nothing.
 use borrow.Author.Tests.{lt-ltb, le-ltb}
-use mathlib.Core.Path.{_≡_, ap, _∙_}
+use mathlib.Core.Path.{ap, _∙_}
 use Prim.Native.Nat.{ℕ}
 use native.Mathlib.Numerals.{add-one}
 use Rattle.given.specs.Given.{countGiven}
 use borrow.Author.Needs.{needs}
 use Rattle.given.proofs.curve.Statement.{statement}
 use Rattle.given.proofs.curve.Tie as tie
-use Rattle.given.proofs.curve.Reads as reads
-use Rattle.given.proofs.curve.Lts as lts
-use Rattle.given.proofs.count.Reads as count-reads
 
 returns : tie.Need-returns
 returns c = rw (lt-ltb 20 (c .before .args .n) (c .if1 .taken))

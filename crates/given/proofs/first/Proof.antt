@@ -4,8 +4,6 @@ use native.Mathlib.Omega.{arith}
 use Rattle.given.specs.Given.{first}
 use Rattle.given.proofs.first.Statement.{statement}
 use Rattle.given.proofs.first.Tie as tie
-use Rattle.given.proofs.first.Reads as reads
-use Rattle.given.proofs.first.Lts as lts
 
 returns : tie.Need-returns
 unfolding first

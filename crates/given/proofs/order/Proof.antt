@@ -2,8 +2,6 @@
 use borrow.Author.Tests.{lt-ltb, le-ltb}
 use Rattle.given.proofs.order.Statement.{statement}
 use Rattle.given.proofs.order.Tie as tie
-use Rattle.given.proofs.order.Reads as reads
-use Rattle.given.proofs.order.Lts as lts
 
 returns : tie.Need-returns
 returns c = rw (lt-ltb 20 (c .before .args .n) (c .if1 .taken))

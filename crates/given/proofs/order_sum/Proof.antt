@@ -5,9 +5,6 @@ use Prim.Native.Nat.{_+_}
 use borrow.Author.Needs.{needs}
 use Rattle.given.proofs.order_sum.Statement.{statement}
 use Rattle.given.proofs.order_sum.Tie as tie
-use Rattle.given.proofs.order_sum.Reads as reads
-use Rattle.given.proofs.order_sum.Lts as lts
-use Rattle.given.proofs.order.Reads as order-reads
 
 returns : tie.Need-returns
 returns c = rw (lt-ltb 20 (c .before .args .m + c .before .args .n) (omega arith))

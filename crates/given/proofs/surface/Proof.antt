@@ -1,15 +1,11 @@
 -- `given::surface` meets its contract. Assumes nothing.
 use borrow.Author.Tests.{lt-ltb, le-ltb}
-use mathlib.Core.Path.{_≡_, ap, _∙_}
+use mathlib.Core.Path.{ap, _∙_}
 use Prim.Native.Nat.{ℕ}
 use Rattle.given.specs.Given.{countGiven}
 use borrow.Author.Needs.{needs}
 use Rattle.given.proofs.surface.Statement.{statement}
 use Rattle.given.proofs.surface.Tie as tie
-use Rattle.given.proofs.surface.Reads as reads
-use Rattle.given.proofs.surface.Lts as lts
-use Rattle.calculus.proofs.surface_count.Reads as surface-count-reads
-use Rattle.given.proofs.count.Reads as count-reads
 
 returns : tie.Need-returns
 returns c = rw (lt-ltb 20 (c .before .args .n) (c .if1 .taken))

@@ -9,10 +9,6 @@ use Rattle.calculus.proofs.Graded.{room-231}
 use borrow.Author.Needs.{needs}
 use Rattle.given.proofs.vector_surface.Statement.{statement}
 use Rattle.given.proofs.vector_surface.Tie as tie
-use Rattle.given.proofs.vector_surface.Reads as reads
-use Rattle.given.proofs.vector_surface.Lts as lts
-use Rattle.calculus.proofs.surface_count.Reads as surface-count-reads
-use Rattle.given.proofs.count.Reads as count-reads
 
 returns : tie.Need-returns
 returns c = rw (lt-ltb 20 (c .before .args .n) (c .if1 .taken))

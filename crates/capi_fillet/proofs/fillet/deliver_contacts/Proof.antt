@@ -1,9 +1,8 @@
 -- `capi_fillet::fillet::deliver_contacts` meets its contract. Assumes nothing.
 use mathlib.Core.Path.{refl}
-use Prim.Native.Nat.{ℕ}
 use denote.Ref.{now}
 use Rattle.derivatives.specs.Answer.{parameterIntoList}
-use Rattle.derivatives.specs.VectorAnswer.{vectorIntoList}
+use Rattle.derivatives.specs.VectorAnswer.{vectorCurveIntoList}
 use Rattle.capi_fillet.specs.Fillet.{Five, deliverContacts}
 use Rattle.given.proofs.Admission.{refused, allowed}
 use borrow.Author.Needs.{needs}
@@ -15,7 +14,7 @@ unfolding deliverContacts
 returns c = let s = c .before .before .before .before .before .before .args in
     let d = s .a .ders in
     refused {L = Five} (now (s .center), (now (s .contact0), (now (s .contact1), (now (s .uv0), now (s .uv1))))) refl
-    (0, (vectorIntoList (d .«center_ders») (now (s .center)) .1, (vectorIntoList (d .«contact0_ders») (now (s .contact0)) .1, (vectorIntoList (d .«contact1_ders») (now (s .contact1)) .1, (parameterIntoList (d .«uv0_ders») (now (s .uv0)) .1, parameterIntoList (d .«uv1_ders») (now (s .uv1)) .1))))) (c .if1 .taken)
+    (0, (vectorCurveIntoList (d .«center_ders») (now (s .center)) .1, (vectorCurveIntoList (d .«contact0_ders») (now (s .contact0)) .1, (vectorCurveIntoList (d .«contact1_ders») (now (s .contact1)) .1, (parameterIntoList (d .«uv0_ders») (now (s .uv0)) .1, parameterIntoList (d .«uv1_ders») (now (s .uv1)) .1))))) (c .if1 .taken)
 
 into-list-requires : tie.Need-into-list-requires
 into-list-requires c κs = search needs

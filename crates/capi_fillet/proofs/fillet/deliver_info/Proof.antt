@@ -1,10 +1,9 @@
 -- `capi_fillet::fillet::deliver_info` meets its contract. Assumes nothing.
 use mathlib.Core.Path.{refl}
-use Prim.Native.Nat.{ℕ}
 use mathlib.Core.List.{[], _∷_}
 use denote.Ref.{now}
 use Rattle.derivatives.specs.Answer.{curveIntoList}
-use Rattle.derivatives.specs.VectorAnswer.{vectorIntoList}
+use Rattle.derivatives.specs.VectorAnswer.{vectorCurveIntoList}
 use Rattle.capi_floats.specs.Delivery.{written, deliverFloat}
 use Rattle.capi_fillet.specs.Fillet.{Three, deliverInfo}
 use Rattle.given.proofs.Admission.{refused, allowed}
@@ -16,7 +15,7 @@ returns : tie.Need-returns
 unfolding deliverInfo
 returns c = let s = c .before .before .before .before .args in
     refused {L = Three} (now (s .axis), (now (s .angle), now (s .cosine))) refl
-    (0, (vectorIntoList (s .a .info .«axis_ders») (now (s .axis)) .1, (curveIntoList (s .a .info .«angle_ders») (now (s .angle)) .1, written (s .a .cosine ∷ []) (now (s .cosine)) .1))) (c .if1 .taken)
+    (0, (vectorCurveIntoList (s .a .info .«axis_ders») (now (s .axis)) .1, (curveIntoList (s .a .info .«angle_ders») (now (s .angle)) .1, written (s .a .cosine ∷ []) (now (s .cosine)) .1))) (c .if1 .taken)
 
 into-list-requires : tie.Need-into-list-requires
 into-list-requires c κs = search needs

@@ -1,5 +1,4 @@
 -- `capi_fillet::fillet::info` meets its contract. Assumes nothing.
-use Rattle.rolling_ball_fillet.specs.declared.VderInfo.{VderInfo}
 use borrow.Author.Needs.{needs}
 use Rattle.capi_fillet.proofs.fillet.info.Statement.{statement}
 use Rattle.capi_fillet.proofs.fillet.info.Tie as tie

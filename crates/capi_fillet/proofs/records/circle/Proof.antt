@@ -1,5 +1,4 @@
 -- `capi_fillet::records::circle` meets its contract. Assumes nothing.
-use Rattle.rolling_ball_fillet.specs.declared.ContactCircle.{ContactCircle}
 use Rattle.capi_fillet.specs.Fillet.{contactOf}
 use borrow.Author.Needs.{needs}
 use Rattle.capi_fillet.proofs.records.circle.Statement.{statement}

@@ -1,5 +1,4 @@
 -- `capi_fillet::records::fillet` meets its contract. Assumes nothing.
-use Rattle.rolling_ball_fillet.specs.declared.RollingBallFilletSurface.{RollingBallFilletSurface}
 use borrow.Author.Needs.{needs}
 use Rattle.capi_fillet.proofs.records.fillet.Statement.{statement}
 use Rattle.capi_fillet.proofs.records.fillet.Tie as tie

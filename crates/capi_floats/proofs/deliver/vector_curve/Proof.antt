@@ -1,7 +1,7 @@
 -- `capi_floats::deliver::vector_curve` meets its contract. Assumes nothing.
 use mathlib.Core.Path.{refl}
 use denote.Ref.{now}
-use Rattle.derivatives.specs.VectorAnswer.{vectorIntoList}
+use Rattle.derivatives.specs.VectorAnswer.{vectorCurveIntoList}
 use Rattle.capi_floats.specs.Delivery.{deliverVectorCurve}
 use Rattle.given.proofs.Admission.{refused, allowed}
 use borrow.Author.Needs.{needs}
@@ -11,7 +11,7 @@ use Rattle.capi_floats.proofs.deliver.vector_curve.Tie as tie
 returns : tie.Need-returns
 unfolding deliverVectorCurve
 returns c = let s = c .before .before .args in
-    refused (now (s .out)) refl (vectorIntoList (s .a .jet) (now (s .out))) (c .if1 .taken)
+    refused (now (s .out)) refl (vectorCurveIntoList (s .a .jet) (now (s .out))) (c .if1 .taken)
 
 into-list-requires : tie.Need-into-list-requires
 into-list-requires c κs = search needs

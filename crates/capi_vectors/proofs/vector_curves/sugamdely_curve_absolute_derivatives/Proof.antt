@@ -1,6 +1,6 @@
 -- `capi_vectors::vector_curves::sugamdely_curve_absolute_derivatives` meets its contract. Assumes nothing.
 use denote.Ref.{now}
-use Rattle.derivatives.specs.VectorAnswer.{vectorAbsolute}
+use Rattle.derivatives.specs.VectorAnswer.{vectorCurveAbsolute}
 use Rattle.capi_floats.specs.Lists.{toCurve}
 use Rattle.capi_vectors.specs.Lists.{vectorCurve}
 use Rattle.given.proofs.Admission.{one-refused, one-worked}
@@ -16,7 +16,7 @@ returns c = let s = c .before .before .before .before .args in
     let n = s .a-order in
     let a = now (s .a) in
     let out = now (s .out) in
-    one-refused vectorCurve toCurve n vectorAbsolute n a out
+    one-refused vectorCurve toCurve n vectorCurveAbsolute n a out
     (c .before .one .ensures) (c .if1 .taken)
 
 vector-curve-requires : tie.Need-vector-curve-requires
@@ -36,7 +36,7 @@ returns-2 c = let s = c .before .before .before .before .before .before .before 
     let n = s .a-order in
     let a = now (s .a) in
     let out = now (s .out) in
-    one-worked vectorCurve toCurve n vectorAbsolute n a out
+    one-worked vectorCurve toCurve n vectorCurveAbsolute n a out
     (c .before .before .before .before .before .before .before .one .ensures) (c .before .before .before .before .before .before .if1 .left) (c .before .before .before .before .before .vector-curve .ensures) (c .before .before .before .before .absolute-derivatives .ensures) (c .before .before .curve .ensures)
 
 pub sugamdely-curve-absolute-derivatives-spec : {M : Type 1} → statement M

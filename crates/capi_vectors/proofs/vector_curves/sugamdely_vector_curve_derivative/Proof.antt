@@ -1,7 +1,7 @@
 -- `capi_vectors::vector_curves::sugamdely_vector_curve_derivative` meets its contract. Assumes nothing.
 use denote.Ref.{now}
 use Prim.Native.Nat.{_-_}
-use Rattle.derivatives.specs.VectorAnswer.{vectorDerivative}
+use Rattle.derivatives.specs.VectorAnswer.{vectorCurveDerivative}
 use Rattle.capi_vectors.specs.Lists.{vectorCurve, toVectorCurve}
 use Rattle.given.proofs.Admission.{one-refused, one-worked}
 use borrow.Author.Needs.{needs}
@@ -16,7 +16,7 @@ returns c = let s = c .before .before .before .before .args in
     let n = s .a-order in
     let a = now (s .a) in
     let out = now (s .out) in
-    one-refused vectorCurve toVectorCurve (n - 1) vectorDerivative n a out
+    one-refused vectorCurve toVectorCurve (n - 1) vectorCurveDerivative n a out
     (c .before .lowered .ensures) (c .if1 .taken)
 
 vector-curve-requires : tie.Need-vector-curve-requires
@@ -36,7 +36,7 @@ returns-2 c = let s = c .before .before .before .before .before .before .before 
     let n = s .a-order in
     let a = now (s .a) in
     let out = now (s .out) in
-    one-worked vectorCurve toVectorCurve (n - 1) vectorDerivative n a out
+    one-worked vectorCurve toVectorCurve (n - 1) vectorCurveDerivative n a out
     (c .before .before .before .before .before .before .before .lowered .ensures) (c .before .before .before .before .before .before .if1 .left) (c .before .before .before .before .before .vector-curve .ensures) (c .before .before .before .before .derivative .ensures) (c .before .before .vector-curve2 .ensures)
 
 pub sugamdely-vector-curve-derivative-spec : {M : Type 1} → statement M

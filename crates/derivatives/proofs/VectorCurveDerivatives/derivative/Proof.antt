@@ -1,7 +1,7 @@
 -- `derivatives::VectorCurveDerivatives::derivative` meets its contract. Assumes nothing.
 use Rattle.derivatives.proofs.Tested.{less-far, less-none, less-infinite, less-worked}
 use Rattle.calculus.specs.Curve.{derivative}
-use Rattle.derivatives.specs.VectorAnswer.{vectorCurves, refusedVectors, madeVectors, answeredVectors}
+use Rattle.derivatives.specs.VectorAnswer.{vectorCurves, refusedVectorCurve, madeVectorCurve, answeredVectorCurve}
 use mathlib.Core.Path.{ap, _∙_}
 use Prim.Native.Nat.{_-_}
 use borrow.Author.Needs.{needs}
@@ -13,14 +13,14 @@ refused-requires c κs = search needs
 
 returns : tie.Need-returns
 returns c = let s = c .before .before .args in
-    c .refused .ensures ∙ less-far vectorCurves refusedVectors (λ x n. answeredVectors n (derivative x)) (s .self) (c .before .if1 .taken)
+    c .refused .ensures ∙ less-far vectorCurves refusedVectorCurve (λ x n. answeredVectorCurve n (derivative x)) (s .self) (c .before .if1 .taken)
 
 refused-requires-2 : tie.Need-refused-requires-2
 refused-requires-2 c κs = search needs
 
 returns-2 : tie.Need-returns-2
 returns-2 c = let s = c .before .before .before .args in
-    c .refused2 .ensures ∙ less-none vectorCurves refusedVectors (λ x n. answeredVectors n (derivative x)) (s .self) (c .before .before .if1 .left) (c .before .if2 .taken)
+    c .refused2 .ensures ∙ less-none vectorCurves refusedVectorCurve (λ x n. answeredVectorCurve n (derivative x)) (s .self) (c .before .before .if1 .left) (c .before .if2 .taken)
 
 curve-finite-requires : tie.Need-curve-finite-requires
 curve-finite-requires c κs = search needs
@@ -30,7 +30,7 @@ refused-requires-3 c κs = search needs
 
 returns-3 : tie.Need-returns-3
 returns-3 c = let p = c .before .before .before .before .before .before in let s = p .before .args in
-    c .refused3 .ensures ∙ less-infinite vectorCurves refusedVectors (λ x n. answeredVectors n (derivative x)) (s .self) (p .if1 .left) (c .before .before .curve-finite .ensures) (c .before .before .before .before .before .if2 .left) (c .before .if3 .taken)
+    c .refused3 .ensures ∙ less-infinite vectorCurves refusedVectorCurve (λ x n. answeredVectorCurve n (derivative x)) (s .self) (p .if1 .left) (c .before .before .curve-finite .ensures) (c .before .before .before .before .before .if2 .left) (c .before .if3 .taken)
 
 sub-k : tie.Need-sub-k
 sub-k c = search needs
@@ -40,7 +40,7 @@ shifted-requires c κs = search needs
 
 returns-4 : tie.Need-returns-4
 returns-4 c = let p = c .before .before .before .before .before .before .before in let s = p .before .args in
-    ap (madeVectors (s .self .order - 1)) (c .shifted .ensures) ∙ less-worked vectorCurves refusedVectors (λ x n. answeredVectors n (derivative x)) (s .self) (p .if1 .left) (c .before .before .before .curve-finite .ensures) (c .before .before .before .before .before .before .if2 .left) (c .before .before .if3 .left)
+    ap (madeVectorCurve (s .self .order - 1)) (c .shifted .ensures) ∙ less-worked vectorCurves refusedVectorCurve (λ x n. answeredVectorCurve n (derivative x)) (s .self) (p .if1 .left) (c .before .before .before .curve-finite .ensures) (c .before .before .before .before .before .before .if2 .left) (c .before .before .if3 .left)
 
 pub derivative-spec : {M : Type 1} → statement M
 derivative-spec = tie.close (tie.spec refused-requires returns refused-requires-2 returns-2 curve-finite-requires refused-requires-3 returns-3 sub-k shifted-requires returns-4)

@@ -5,7 +5,7 @@ use Rattle.derivatives.proofs.VectorCarries.{carriedJet}
 use Rattle.calculus.specs.Carry.{compositeDerivatives}
 use Rattle.derivatives.specs.Vector.{vectors}
 use Rattle.derivatives.specs.Answer.{parameters}
-use Rattle.derivatives.specs.VectorAnswer.{refusedVectors, returnedVectors}
+use Rattle.derivatives.specs.VectorAnswer.{refusedVectorCurve, returnedVectorCurve}
 use Rattle.derivatives.specs.VectorSurfaceAnswer.{vectorSurfaces}
 use mathlib.Core.Path.{_∙_}
 use borrow.Author.Needs.{needs}
@@ -20,7 +20,7 @@ refused-requires c κs = search needs
 
 returns : tie.Need-returns
 returns c = let s = c .before .before .before .args in
-    c .refused .ensures ∙ at-far vectorSurfaces parameters refusedVectors (λ x y. returnedVectors (s .order) (compositeDerivatives vectors (y .0) (y .1) x)) (s .self) (s .curve) (s .order) (c .before .before .far-at .ensures) (c .before .if1 .taken)
+    c .refused .ensures ∙ at-far vectorSurfaces parameters refusedVectorCurve (λ x y. returnedVectorCurve (s .order) (compositeDerivatives vectors (y .0) (y .1) x)) (s .self) (s .curve) (s .order) (c .before .before .far-at .ensures) (c .before .if1 .taken)
 
 smaller-requires : tie.Need-smaller-requires
 smaller-requires c κs = search needs
@@ -30,7 +30,7 @@ refused-requires-2 c κs = search needs
 
 returns-2 : tie.Need-returns-2
 returns-2 c = let p = c .before .before in let s = p .before .before .before .args in
-    c .refused2 .ensures ∙ at-beyond vectorSurfaces parameters refusedVectors (λ x y. returnedVectors (s .order) (compositeDerivatives vectors (y .0) (y .1) x)) (s .self) (s .curve) (s .order) (p .before .before .far-at .ensures) (p .before .if1 .left) (p .smaller .ensures) (c .before .if2 .taken)
+    c .refused2 .ensures ∙ at-beyond vectorSurfaces parameters refusedVectorCurve (λ x y. returnedVectorCurve (s .order) (compositeDerivatives vectors (y .0) (y .1) x)) (s .self) (s .curve) (s .order) (p .before .before .far-at .ensures) (p .before .if1 .left) (p .smaller .ensures) (c .before .if2 .taken)
 
 all-finite-requires : tie.Need-all-finite-requires
 all-finite-requires c κs = let p = c .before .before .before .before .before .before .before in let s = p .before .before .before .args in
@@ -41,7 +41,7 @@ refused-requires-3 c κs = search needs
 
 returns-3 : tie.Need-returns-3
 returns-3 c = let p = c .before .before .before .before .before .before .before .before .before .before in let s = p .before .before .before .args in
-    c .refused3 .ensures ∙ at-infinite vectorSurfaces parameters refusedVectors (λ x y. returnedVectors (s .order) (compositeDerivatives vectors (y .0) (y .1) x)) (s .self) (s .curve) (s .order) (p .before .before .far-at .ensures) (p .before .if1 .left) (p .smaller .ensures) (c .before .before .before .before .before .before .before .before .before .if2 .left) (c .before .before .all-finite .ensures) (c .before .if3 .taken)
+    c .refused3 .ensures ∙ at-infinite vectorSurfaces parameters refusedVectorCurve (λ x y. returnedVectorCurve (s .order) (compositeDerivatives vectors (y .0) (y .1) x)) (s .self) (s .curve) (s .order) (p .before .before .far-at .ensures) (p .before .if1 .left) (p .smaller .ensures) (c .before .before .before .before .before .before .before .before .before .if2 .left) (c .before .before .all-finite .ensures) (c .before .if3 .taken)
 
 derivatives-requires : tie.Need-derivatives-requires
 derivatives-requires c κs = let p = c .before .before .before .before .before .before .before .before .before .before .before .before in let s = p .before .before .before .args in
@@ -55,7 +55,7 @@ returns-4 : tie.Need-returns-4
 returns-4 c = let p = c .before .before .before .before .before .before .before .before .before .before .before .before .before .before in let s = p .before .before .before .args in
     c .returned .ensures
     ∙ vectors-returned (s .order) (near-at (s .self .order) (s .curve .order) (s .order) (p .before .before .far-at .ensures) (p .before .if1 .left)) (carriedJet (s .self .entries) (s .curve .u) (s .curve .v)) (c .before .derivatives .ensures)
-    ∙ at-worked vectorSurfaces parameters refusedVectors (λ x y. returnedVectors (s .order) (compositeDerivatives vectors (y .0) (y .1) x)) (s .self) (s .curve) (s .order) (p .before .before .far-at .ensures) (p .before .if1 .left) (p .smaller .ensures) (c .before .before .before .before .before .before .before .before .before .before .before .before .before .if2 .left) (c .before .before .before .before .before .before .all-finite .ensures) (c .before .before .before .before .before .if3 .left)
+    ∙ at-worked vectorSurfaces parameters refusedVectorCurve (λ x y. returnedVectorCurve (s .order) (compositeDerivatives vectors (y .0) (y .1) x)) (s .self) (s .curve) (s .order) (p .before .before .far-at .ensures) (p .before .if1 .left) (p .smaller .ensures) (c .before .before .before .before .before .before .before .before .before .before .before .before .before .if2 .left) (c .before .before .before .before .before .before .all-finite .ensures) (c .before .before .before .before .before .if3 .left)
 
 pub composite-derivatives-spec : {M : Type 1} → statement M
 composite-derivatives-spec = tie.close (tie.spec far-at-requires refused-requires returns smaller-requires refused-requires-2 returns-2 all-finite-requires refused-requires-3 returns-3 derivatives-requires returned-requires returns-4)

@@ -9,7 +9,8 @@ use lib.Count.{ones-le}
 use native.Mathlib.Numerals.{add-one}
 use native.Mathlib.Nat.{le-antisymm}
 use Prim.Native.Nat.{_^_}
-use Rattle.derivatives.specs.Real.{nil, real}
+use Rattle.vectors.specs.Answers.{nought}
+use Rattle.derivatives.specs.Real.{real}
 use denote.Ref.{now}
 use mathlib.Core.Path.{_≡_, refl, sym, ap, ap₂, _∙_, subst}
 use Prim.Native.Nat.{_-_, _≤_, _<_}
@@ -18,7 +19,7 @@ use Rattle.derivatives.proofs.carry.tensor.Statement.{statement}
 use Rattle.derivatives.proofs.carry.tensor.Tie as tie
 
 abbrev Inv-loop : tie.InvT-loop
-Inv-loop entries u v list len last end sum₀ mask₀ sum mask = (sum ≡ inTurn (real .plus) nil (termOf entries u v list) mask) × (mask ≤ 2 ^ length list)
+Inv-loop entries u v list len last end sum₀ mask₀ sum mask = (sum ≡ inTurn (real .plus) nought (termOf entries u v list) mask) × (mask ≤ 2 ^ length list)
 
 abbrev μ-loop : tie.MeasureT-loop
 μ-loop entries u v list len last end sum₀ mask₀ sum mask = 2 ^ length list - mask
@@ -66,7 +67,7 @@ loop-less c = omega (arith, (subst (λ x. c .before .before .before .loop .mask 
 loop-again : tie.Need-loop-again Inv-loop μ-loop
 loop-again c = let s = c .before .before .before .before .before .args in
     let b = (subst (λ x. c .before .before .before .loop .mask < x) (masks-shift (length (c .before .before .before .before .before .args .list .now)) (c .before .before .before .before .before .pre .0)) (c .before .before .loop-test .taken)) in (
-      one-more (real .plus) nil (termOf (now (s .entries)) (now (s .u)) (now (s .v)) (now (s .list))) (c .before .before .before .loop .inv .0)
+      one-more (real .plus) nought (termOf (now (s .entries)) (now (s .u)) (now (s .v)) (now (s .list))) (c .before .before .before .loop .inv .0)
           (ap₂ (real .times) (sym (entry-at (λ k. getD (now (s .entries)) k nan) (now (s .list)) (c .before .before .before .loop .mask) b)) (c .factors .ensures)) (add-one (c .before .before .before .loop .mask)),
       omega (arith, b),
     )
@@ -74,7 +75,7 @@ loop-again c = let s = c .before .before .before .before .before .args in
 returns : tie.Need-returns Inv-loop μ-loop
 returns c = let s = c .before .before .before .args in
     let e : c .before .loop .mask ≡ 2 ^ length (now (s .list)) = le-antisymm (c .before .loop .inv .1) (subst (λ x. x ≤ c .before .loop .mask) (masks-shift (length (now (s .list))) (c .before .before .before .pre .0)) (c .loop-test .left)) in
-    c .before .loop .inv .0 ∙ ap (inTurn (real .plus) nil (termOf (now (s .entries)) (now (s .u)) (now (s .v)) (now (s .list)))) e
+    c .before .loop .inv .0 ∙ ap (inTurn (real .plus) nought (termOf (now (s .entries)) (now (s .u)) (now (s .v)) (now (s .list)))) e
 
 pub tensor-spec : {M : Type 1} → statement M
 tensor-spec = tie.close (tie.spec Inv-loop μ-loop add-last mul-last add-last-2 cast-end shl-end loop-holds cast-e sub-e mul-e element-copy-out-e factors-requires add-mask loop-less loop-again returns)

@@ -1,7 +1,7 @@
 -- `derivatives::curve::entries` meets its contract. The invariant: the entries before m stand in the array. Assumes nothing.
 use Rattle.derivatives.proofs.Curves.{CurveFilled, curveOf, curve-formed}
 use Rattle.derivatives.specs.Answer.{curveNumbers}
-use Rattle.derivatives.specs.Real.{nil}
+use Rattle.vectors.specs.Answers.{nought}
 use Rattle.calculus.proofs.Filling.{curve-none, curve-more, curve-all}
 use lib.Ieee.{nan}
 use denote.Ref.{now}
@@ -22,7 +22,7 @@ binomials-requires : tie.Need-binomials-requires Inv-loop μ-loop
 binomials-requires c κs = search needs
 
 loop-holds : tie.Need-loop-holds Inv-loop μ-loop
-loop-holds c = (curve-none 21 nan nil (λ k v. curveOf (c .before .args .f) (curveNumbers (now (c .before .args .a))) (curveNumbers (now (c .before .args .b))) k ≡ v), omega arith)
+loop-holds c = (curve-none 21 nan nought (λ k v. curveOf (c .before .args .f) (curveNumbers (now (c .before .args .a))) (curveNumbers (now (c .before .args .b))) k ≡ v), omega arith)
 
 entry-requires : tie.Need-entry-requires Inv-loop μ-loop
 entry-requires c κs = search needs
@@ -44,7 +44,7 @@ loop-again c = let l = c .before .before .before .before .loop in
     let s = c .before .before .before .before .before .before .args in
     let x = curveNumbers (now (s .a)) in
     let y = curveNumbers (now (s .b)) in (
-      curve-more 21 nan nil (λ k v. curveOf (s .f) x y k ≡ v) (c .entry .result) (l .inv .0) (omega arith)
+      curve-more 21 nan nought (λ k v. curveOf (s .f) x y k ≡ v) (c .entry .result) (l .inv .0) (omega arith)
           (curve-formed (s .f) x y (l .inv .0) (omega arith) ∙ sym (c .entry .ensures)),
       omega arith,
     )
@@ -52,7 +52,7 @@ loop-again c = let l = c .before .before .before .before .loop in
 returns : tie.Need-returns Inv-loop μ-loop
 returns c = let s = c .before .before .before .args in
     let g = curveOf (s .f) (curveNumbers (now (s .a))) (curveNumbers (now (s .b))) in
-    curve-all 21 nan nil (λ k v. g k ≡ v) g (λ k v e. sym e) (suc (s .n)) (c .before .loop .inv .0) (omega arith)
+    curve-all 21 nan nought (λ k v. g k ≡ v) g (λ k v e. sym e) (suc (s .n)) (c .before .loop .inv .0) (omega arith)
 
 pub entries-spec : {M : Type 1} → statement M
 entries-spec =

@@ -4,7 +4,7 @@ use Rattle.derivatives.proofs.Tested.{near, two-far, two-infinite, two-
 use Rattle.derivatives.proofs.Answers.{curve-returned}
 use Rattle.derivatives.proofs.Curves.{curveOf}
 use Rattle.derivatives.specs.Answer.{curveNumbers, refusedCurve, returnedCurve, curves}
-use Rattle.derivatives.specs.Formula.{byCurveFormula}
+use Rattle.derivatives.specs.Formula.{byCurveEntries}
 use mathlib.Core.Path.{sym, _∙_}
 use borrow.Author.Needs.{needs}
 use Rattle.derivatives.proofs.curve.on_two.Statement.{statement}
@@ -18,7 +18,7 @@ refused-curve-requires c κs = search needs
 
 returns : tie.Need-returns
 returns c = let s = c .before .before .before .args in
-    c .refused-curve .ensures ∙ two-far curves curves refusedCurve (byCurveFormula (s .f)) (s .a) (s .b) (c .before .before .far .ensures) (c .before .if1 .taken)
+    c .refused-curve .ensures ∙ two-far curves curves refusedCurve (byCurveEntries (s .f)) (s .a) (s .b) (c .before .before .far .ensures) (c .before .if1 .taken)
 
 smaller-requires : tie.Need-smaller-requires
 smaller-requires c κs = search needs
@@ -32,7 +32,7 @@ refused-curve-requires-2 c κs = search needs
 
 returns-2 : tie.Need-returns-2
 returns-2 c = let p = c .before .before .before .before .before .before .before in let s = p .before .before .before .args in
-    c .refused-curve2 .ensures ∙ two-infinite curves curves refusedCurve (byCurveFormula (s .f)) (s .a) (s .b) (p .before .before .far .ensures) (p .before .if1 .left) (p .smaller .ensures) (c .before .before .curves-finite .ensures) (c .before .if2 .taken)
+    c .refused-curve2 .ensures ∙ two-infinite curves curves refusedCurve (byCurveEntries (s .f)) (s .a) (s .b) (p .before .before .far .ensures) (p .before .if1 .left) (p .smaller .ensures) (c .before .before .curves-finite .ensures) (c .before .if2 .taken)
 
 array-read-w : tie.Need-array-read-w
 array-read-w c = search needs
@@ -47,7 +47,7 @@ returns-3 : tie.Need-returns-3
 returns-3 c = let p = c .before .before .before .before .before .before .before .before .before in let s = p .before .before .before .args in
     c .refused-curve3 .ensures
     ∙ sym (first (refusedCurve 7) (returnedCurve (p .smaller .result) (curveOf (s .f) (curveNumbers (s .a .entries)) (curveNumbers (s .b .entries)))) (sym (c .before .before .division-by-zero .ensures) ∙ c .before .if3 .taken))
-    ∙ two-worked curves curves refusedCurve (byCurveFormula (s .f)) (s .a) (s .b) (p .before .before .far .ensures) (p .before .if1 .left) (p .smaller .ensures) (c .before .before .before .before .curves-finite .ensures) (c .before .before .before .if2 .left)
+    ∙ two-worked curves curves refusedCurve (byCurveEntries (s .f)) (s .a) (s .b) (p .before .before .far .ensures) (p .before .if1 .left) (p .smaller .ensures) (c .before .before .before .before .curves-finite .ensures) (c .before .before .before .if2 .left)
 
 entries-requires : tie.Need-entries-requires
 entries-requires c κs = let p = c .before .before .before .before .before .before .before .before .before .before in let s = p .before .before .before .args in
@@ -62,7 +62,7 @@ returns-4 c = let p = c .before .before .before .before .before .before .before 
     c .returned-curve .ensures
     ∙ curve-returned (p .smaller .result) (near (s .a .order) (s .b .order) (p .before .before .far .ensures) (p .before .if1 .left) (p .smaller .ensures)) (curveOf (s .f) (curveNumbers (s .a .entries)) (curveNumbers (s .b .entries))) (c .before .entries .ensures)
     ∙ sym (second (refusedCurve 7) (returnedCurve (p .smaller .result) (curveOf (s .f) (curveNumbers (s .a .entries)) (curveNumbers (s .b .entries)))) (sym (c .before .before .before .before .before .division-by-zero .ensures) ∙ c .before .before .before .before .if3 .left))
-    ∙ two-worked curves curves refusedCurve (byCurveFormula (s .f)) (s .a) (s .b) (p .before .before .far .ensures) (p .before .if1 .left) (p .smaller .ensures) (c .before .before .before .before .before .before .before .curves-finite .ensures) (c .before .before .before .before .before .before .if2 .left)
+    ∙ two-worked curves curves refusedCurve (byCurveEntries (s .f)) (s .a) (s .b) (p .before .before .far .ensures) (p .before .if1 .left) (p .smaller .ensures) (c .before .before .before .before .before .before .before .curves-finite .ensures) (c .before .before .before .before .before .before .if2 .left)
 
 pub on-two-spec : {M : Type 1} → statement M
 on-two-spec = tie.close (tie.spec far-requires refused-curve-requires returns smaller-requires curves-finite-requires refused-curve-requires-2 returns-2 array-read-w division-by-zero-requires refused-curve-requires-3 returns-3 entries-requires returned-curve-requires returns-4)

@@ -1,7 +1,8 @@
 -- `derivatives::curve::product_entry` meets its contract. The invariant: the sum of the first i terms. Assumes nothing.
 use Rattle.derivatives.proofs.Terms.{one-more}
 use Rattle.derivatives.specs.Answer.{curveNumbers}
-use Rattle.derivatives.specs.Real.{nil, real}
+use Rattle.vectors.specs.Answers.{nought}
+use Rattle.derivatives.specs.Real.{real}
 use Rattle.calculus.specs.Curve.{leibniz}
 use Rattle.calculus.specs.InTurn.{inTurn}
 use Rattle.calculus.specs.Kind.{regular}
@@ -15,7 +16,7 @@ use Rattle.derivatives.proofs.curve.product_entry.Statement.{statement}
 use Rattle.derivatives.proofs.curve.product_entry.Tie as tie
 
 abbrev Inv-loop : tie.InvT-loop
-Inv-loop a b c m sum₀ i₀ sum i = (sum ≡ inTurn (real .plus) nil (leibniz (regular real) (real .times) (curveNumbers a) (curveNumbers b) m) i) × (i ≤ suc m)
+Inv-loop a b c m sum₀ i₀ sum i = (sum ≡ inTurn (real .plus) nought (leibniz (regular real) (real .times) (curveNumbers a) (curveNumbers b) m) i) × (i ≤ suc m)
 
 abbrev μ-loop : tie.MeasureT-loop
 μ-loop a b c m sum₀ i₀ sum i = suc m - i
@@ -35,12 +36,12 @@ loop-less c = search needs
 
 loop-again : tie.Need-loop-again Inv-loop μ-loop
 loop-again c = let l = c .before .before in
-    (one-more (real .plus) nil _ (l .loop .inv .0) (c .leibniz-term .ensures) (add-one (l .loop .i)), omega arith)
+    (one-more (real .plus) nought _ (l .loop .inv .0) (c .leibniz-term .ensures) (add-one (l .loop .i)), omega arith)
 
 returns : tie.Need-returns Inv-loop μ-loop
 returns c = let s = c .before .before .args in
     let e : c .before .loop .i ≡ suc (s .m) = omega arith in
-    c .before .loop .inv .0 ∙ ap (inTurn (real .plus) nil (leibniz (regular real) (real .times) (curveNumbers (now (s .a))) (curveNumbers (now (s .b))) (s .m))) e
+    c .before .loop .inv .0 ∙ ap (inTurn (real .plus) nought (leibniz (regular real) (real .times) (curveNumbers (now (s .a))) (curveNumbers (now (s .b))) (s .m))) e
 
 pub product-entry-spec : {M : Type 1} → statement M
 product-entry-spec =

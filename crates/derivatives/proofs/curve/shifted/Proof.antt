@@ -2,7 +2,7 @@
 use Rattle.derivatives.proofs.Curves.{CurveFilled}
 use Rattle.derivatives.specs.Answer.{madeCurve}
 use Rattle.derivatives.specs.Answer.{curveNumbers}
-use Rattle.derivatives.specs.Real.{nil}
+use Rattle.vectors.specs.Answers.{nought}
 use Rattle.calculus.proofs.Filling.{curve-none, curve-more, curve-all}
 use Rattle.calculus.specs.Curve.{derivative}
 use mathlib.Core.List.{List}
@@ -23,7 +23,7 @@ abbrev μ-loop : tie.MeasureT-loop
 μ-loop a n r₀ m₀ r m = suc n - m
 
 loop-holds : tie.Need-loop-holds Inv-loop μ-loop
-loop-holds c = (curve-none 21 nan nil (λ k v. curveNumbers (now (c .args .a)) (suc k) ≡ v), omega arith)
+loop-holds c = (curve-none 21 nan nought (λ k v. curveNumbers (now (c .args .a)) (suc k) ≡ v), omega arith)
 
 add-r : tie.Need-add-r Inv-loop μ-loop
 add-r c = search needs
@@ -48,12 +48,12 @@ loop-less c = search needs
 
 loop-again : tie.Need-loop-again Inv-loop μ-loop
 loop-again c = let x = curveNumbers (now (c .before .before .before .args .a)) in
-    (curve-more 21 nan nil (λ k v. x (suc k) ≡ v) _ (c .before .before .loop .inv .0) (omega arith) (ap x (sym (add-one (c .before .before .loop .m)))), omega arith)
+    (curve-more 21 nan nought (λ k v. x (suc k) ≡ v) _ (c .before .before .loop .inv .0) (omega arith) (ap x (sym (add-one (c .before .before .loop .m)))), omega arith)
 
 returns : tie.Need-returns Inv-loop μ-loop
 returns c = let s = c .before .before .args in
     let x = derivative (curveNumbers (now (s .a))) in
-    ap (λ (l : List Float). madeCurve (s .n) l) (curve-all 21 nan nil (λ k v. x k ≡ v) x (λ k v e. sym e) (suc (s .n)) (c .before .loop .inv .0) (omega arith))
+    ap (λ (l : List Float). madeCurve (s .n) l) (curve-all 21 nan nought (λ k v. x k ≡ v) x (λ k v e. sym e) (suc (s .n)) (c .before .loop .inv .0) (omega arith))
 
 pub shifted-spec : {M : Type 1} → statement M
 shifted-spec =

@@ -1,6 +1,6 @@
 -- `derivatives::lists::parameter` meets its contract. Assumes nothing.
 use Rattle.derivatives.specs.declared.ParameterCurve.{ParameterCurve}
-use Rattle.derivatives.specs.Real.{nil}
+use Rattle.vectors.specs.Answers.{nought}
 use Rattle.calculus.specs.Array.{curveArray}
 use mathlib.Core.List.{List}
 use lib.Ieee.{Float, nan}
@@ -46,7 +46,7 @@ read-requires-2 c κs = search needs
 
 returns-3 : tie.Need-returns-3
 returns-3 c = let s = c .before .before .before .before .before .args in
-    ap₂ (made (s .order)) (c .before .read .ensures ∙ ap (λ (f : ℕ → Float). curveArray nil f (s .order)) (fun-ext (λ m. ap (λ (k : ℕ). getD (now (s .list)) k nan) (add-zero (2 * m))))) (c .read2 .ensures)
+    ap₂ (made (s .order)) (c .before .read .ensures ∙ ap (λ (f : ℕ → Float). curveArray nought f (s .order)) (fun-ext (λ m. ap (λ (k : ℕ). getD (now (s .list)) k nan) (add-zero (2 * m))))) (c .read2 .ensures)
     ∙ rw (le-ltb 20 (s .order) (c .before .before .before .if1 .left), eq-eqb (length (now (s .list))) (2 * suc (s .order)) (c .before .before .if2 .left ∙ ap (_*_ 2) (add-one (s .order))))
 
 pub parameter-spec : {M : Type 1} → statement M

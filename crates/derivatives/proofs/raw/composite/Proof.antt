@@ -2,7 +2,6 @@
 use Rattle.ieee.proofs.Tests.{first, second}
 use Rattle.derivatives.specs.Answer.{curveNumbers}
 use Rattle.derivatives.specs.Vector.{origin, vectors, vectorSurfaceNumbers}
-use Rattle.calculus.specs.Curve.{derivative}
 use Rattle.calculus.specs.Carry.{compositeDerivative}
 use borrow.Author.Tests.{lt-ltb, le-ltb}
 use borrow.Author.Needs.{needs}

@@ -1,6 +1,6 @@
 -- `derivatives::raw::difference` meets its contract. Assumes nothing.
 use Rattle.ieee.proofs.Tests.{first, second}
-use Rattle.derivatives.specs.Real.{nil}
+use Rattle.vectors.specs.Answers.{nought}
 use Rattle.derivatives.specs.Vector.{vectors, vectorNumbers, vectorArray}
 use Rattle.calculus.specs.Curve.{difference}
 use borrow.Author.Tests.{lt-ltb, le-ltb}
@@ -13,14 +13,14 @@ use Rattle.derivatives.proofs.raw.difference.Tie as tie
 
 returns : tie.Need-returns
 returns c = let s = c .before .args in
-    sym (first (replicate 63 nil) (vectorArray (difference vectors (vectorNumbers (now (s .a))) (vectorNumbers (now (s .b)))) (s .n)) (lt-ltb 20 (s .n) (c .if1 .taken)))
+    sym (first (replicate 63 nought) (vectorArray (difference vectors (vectorNumbers (now (s .a))) (vectorNumbers (now (s .b)))) (s .n)) (lt-ltb 20 (s .n) (c .if1 .taken)))
 
 entries-requires : tie.Need-entries-requires
 entries-requires c κs = search needs
 
 returns-2 : tie.Need-returns-2
 returns-2 c = let s = c .before .before .before .args in
-    c .entries .ensures ∙ sym (second (replicate 63 nil) (vectorArray (difference vectors (vectorNumbers (now (s .a))) (vectorNumbers (now (s .b)))) (s .n)) (le-ltb 20 (s .n) (c .before .before .if1 .left)))
+    c .entries .ensures ∙ sym (second (replicate 63 nought) (vectorArray (difference vectors (vectorNumbers (now (s .a))) (vectorNumbers (now (s .b)))) (s .n)) (le-ltb 20 (s .n) (c .before .before .if1 .left)))
 
 pub difference-spec : {M : Type 1} → statement M
 difference-spec = tie.close (tie.spec returns entries-requires returns-2)

@@ -1,6 +1,6 @@
 -- `derivatives::raw::norm` meets its contract. Assumes nothing.
 use Rattle.ieee.proofs.Tests.{first, second}
-use Rattle.derivatives.specs.Real.{nil}
+use Rattle.vectors.specs.Answers.{nought}
 use Rattle.derivatives.specs.Vector.{vectorNumbers}
 use Rattle.derivatives.specs.VectorAnswer.{vectorNorm}
 use Rattle.calculus.specs.Array.{curveArray}
@@ -14,14 +14,14 @@ use Rattle.derivatives.proofs.raw.norm.Tie as tie
 
 returns : tie.Need-returns
 returns c = let s = c .before .args in
-    sym (first (replicate 21 nil) (curveArray nil (vectorNorm (vectorNumbers (now (s .a)))) (s .n)) (lt-ltb 20 (s .n) (c .if1 .taken)))
+    sym (first (replicate 21 nought) (curveArray nought (vectorNorm (vectorNumbers (now (s .a)))) (s .n)) (lt-ltb 20 (s .n) (c .if1 .taken)))
 
 numbers-requires : tie.Need-numbers-requires
 numbers-requires c κs = search needs
 
 returns-2 : tie.Need-returns-2
 returns-2 c = let s = c .before .before .args in
-    c .numbers .ensures ∙ sym (second (replicate 21 nil) (curveArray nil (vectorNorm (vectorNumbers (now (s .a)))) (s .n)) (le-ltb 20 (s .n) (c .before .if1 .left)))
+    c .numbers .ensures ∙ sym (second (replicate 21 nought) (curveArray nought (vectorNorm (vectorNumbers (now (s .a)))) (s .n)) (le-ltb 20 (s .n) (c .before .if1 .left)))
 
 pub norm-spec : {M : Type 1} → statement M
 norm-spec = tie.close (tie.spec returns numbers-requires returns-2)

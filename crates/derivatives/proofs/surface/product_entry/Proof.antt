@@ -4,7 +4,8 @@ use Rattle.calculus.specs.Surface.{leibniz}
 use Rattle.calculus.specs.InTurn.{inRows}
 use Rattle.calculus.specs.Kind.{regular}
 use native.Mathlib.Numerals.{add-one}
-use Rattle.derivatives.specs.Real.{nil, real}
+use Rattle.vectors.specs.Answers.{nought}
+use Rattle.derivatives.specs.Real.{real}
 use Rattle.derivatives.specs.Answer.{surfaceNumbers}
 use denote.Ref.{now}
 use mathlib.Core.Path.{_≡_, refl, ap, _∙_}
@@ -15,7 +16,7 @@ use Rattle.derivatives.proofs.surface.product_entry.Statement.{statemen
 use Rattle.derivatives.proofs.surface.product_entry.Tie as tie
 
 abbrev Inv-loop : tie.InvT-loop
-Inv-loop a b c m n sum₀ i₀ sum i = (sum ≡ inRows (real .plus) nil (leibniz (regular real) (real .times) (surfaceNumbers a) (surfaceNumbers b) m n) i (suc n)) × (i ≤ suc m)
+Inv-loop a b c m n sum₀ i₀ sum i = (sum ≡ inRows (real .plus) nought (leibniz (regular real) (real .times) (surfaceNumbers a) (surfaceNumbers b) m n) i (suc n)) × (i ≤ suc m)
 
 abbrev μ-loop : tie.MeasureT-loop
 μ-loop a b c m n sum₀ i₀ sum i = suc m - i
@@ -34,11 +35,11 @@ loop-less : tie.Need-loop-less Inv-loop μ-loop
 loop-less c = search needs
 
 loop-again : tie.Need-loop-again Inv-loop μ-loop
-loop-again c = (one-row-more (real .plus) nil (leibniz (regular real) (real .times) (surfaceNumbers (now (c .before .before .before .args .a))) (surfaceNumbers (now (c .before .before .before .args .b))) (c .before .before .before .args .m) (c .before .before .before .args .n)) (suc (c .before .before .before .args .n)) (c .before .before .loop .inv .0) (c .product-row .ensures) (add-one (c .before .before .loop .i)), omega arith)
+loop-again c = (one-row-more (real .plus) nought (leibniz (regular real) (real .times) (surfaceNumbers (now (c .before .before .before .args .a))) (surfaceNumbers (now (c .before .before .before .args .b))) (c .before .before .before .args .m) (c .before .before .before .args .n)) (suc (c .before .before .before .args .n)) (c .before .before .loop .inv .0) (c .product-row .ensures) (add-one (c .before .before .loop .i)), omega arith)
 
 returns : tie.Need-returns Inv-loop μ-loop
 returns c = let e : c .before .loop .i ≡ suc (c .before .before .args .m) = omega arith in
-    c .before .loop .inv .0 ∙ ap (λ (k : ℕ). inRows (real .plus) nil (leibniz (regular real) (real .times) (surfaceNumbers (now (c .before .before .args .a))) (surfaceNumbers (now (c .before .before .args .b))) (c .before .before .args .m) (c .before .before .args .n)) k (suc (c .before .before .args .n))) e
+    c .before .loop .inv .0 ∙ ap (λ (k : ℕ). inRows (real .plus) nought (leibniz (regular real) (real .times) (surfaceNumbers (now (c .before .before .args .a))) (surfaceNumbers (now (c .before .before .args .b))) (c .before .before .args .m) (c .before .before .args .n)) k (suc (c .before .before .args .n))) e
 
 pub product-entry-spec : {M : Type 1} → statement M
 product-entry-spec =

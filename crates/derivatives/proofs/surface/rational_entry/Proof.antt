@@ -7,7 +7,8 @@ use native.Mathlib.Numerals.{add-one}
 use lib.ListN.{getD}
 use lib.Ieee.{nan}
 use Rattle.calculus.proofs.Graded.{index-231}
-use Rattle.derivatives.specs.Real.{nil, real}
+use Rattle.vectors.specs.Answers.{nought}
+use Rattle.derivatives.specs.Real.{real}
 use Rattle.derivatives.specs.Answer.{surfaceNumbers}
 use denote.Ref.{now}
 use Rattle.calculus.specs.Graded.{index}
@@ -19,7 +20,7 @@ use Rattle.derivatives.proofs.surface.rational_entry.Statement.{stateme
 use Rattle.derivatives.proofs.surface.rational_entry.Tie as tie
 
 abbrev Inv-loop : tie.InvT-loop
-Inv-loop x w q c m n k sum₀ i₀ sum i = (sum ≡ inRows (real .plus) nil (surfaceRationalTerm (regular real) (real .over) (surfaceNumbers w) (surfaceNumbers q) m n) i (suc n)) × (i ≤ suc m)
+Inv-loop x w q c m n k sum₀ i₀ sum i = (sum ≡ inRows (real .plus) nought (surfaceRationalTerm (regular real) (real .over) (surfaceNumbers w) (surfaceNumbers q) m n) i (suc n)) × (i ≤ suc m)
 
 abbrev μ-loop : tie.MeasureT-loop
 μ-loop x w q c m n k sum₀ i₀ sum i = suc m - i
@@ -41,7 +42,7 @@ loop-less : tie.Need-loop-less Inv-loop μ-loop
 loop-less c = search needs
 
 loop-again : tie.Need-loop-again Inv-loop μ-loop
-loop-again c = (one-row-more (real .plus) nil (surfaceRationalTerm (regular real) (real .over) (surfaceNumbers (now (c .before .before .before .before .args .w))) (surfaceNumbers (now (c .before .before .before .before .args .q))) (c .before .before .before .before .args .m) (c .before .before .before .before .args .n)) (suc (c .before .before .before .before .args .n)) (c .before .before .loop .inv .0) (c .rational-row .ensures) (add-one (c .before .before .loop .i)), omega arith)
+loop-again c = (one-row-more (real .plus) nought (surfaceRationalTerm (regular real) (real .over) (surfaceNumbers (now (c .before .before .before .before .args .w))) (surfaceNumbers (now (c .before .before .before .before .args .q))) (c .before .before .before .before .args .m) (c .before .before .before .before .args .n)) (suc (c .before .before .before .before .args .n)) (c .before .before .loop .inv .0) (c .rational-row .ensures) (add-one (c .before .before .loop .i)), omega arith)
 
 mul-result : tie.Need-mul-result Inv-loop μ-loop
 mul-result c = omega (arith, c .before .before .index .ensures, index-231 (c .before .before .before .args .m) (c .before .before .before .args .n) (c .before .before .before .pre .0))
@@ -56,7 +57,7 @@ returns : tie.Need-returns Inv-loop μ-loop
 unfolding index
 returns c = let s = c .before .before .before .before .before .args in
     let e : c .before .before .before .loop .i ≡ suc (s .m) = omega arith in
-    ap₂ (λ x y. real .over (real .minus x y) (getD (now (s .w)) 0 nan)) (ap (λ (k : ℕ). getD (now (s .x)) k nan) (c .before .before .before .before .index .ensures)) (c .before .before .before .loop .inv .0 ∙ ap (λ (k : ℕ). inRows (real .plus) nil (surfaceRationalTerm (regular real) (real .over) (surfaceNumbers (now (c .before .before .before .before .before .args .w))) (surfaceNumbers (now (c .before .before .before .before .before .args .q))) (c .before .before .before .before .before .args .m) (c .before .before .before .before .before .args .n)) k (suc (c .before .before .before .before .before .args .n))) e)
+    ap₂ (λ x y. real .over (real .minus x y) (getD (now (s .w)) 0 nan)) (ap (λ (k : ℕ). getD (now (s .x)) k nan) (c .before .before .before .before .index .ensures)) (c .before .before .before .loop .inv .0 ∙ ap (λ (k : ℕ). inRows (real .plus) nought (surfaceRationalTerm (regular real) (real .over) (surfaceNumbers (now (c .before .before .before .before .before .args .w))) (surfaceNumbers (now (c .before .before .before .before .before .args .q))) (c .before .before .before .before .before .args .m) (c .before .before .before .before .before .args .n)) k (suc (c .before .before .before .before .before .args .n))) e)
 
 pub rational-entry-spec : {M : Type 1} → statement M
 rational-entry-spec =

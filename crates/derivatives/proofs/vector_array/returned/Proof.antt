@@ -1,7 +1,7 @@
 -- `derivatives::vector_array::returned` meets its contract. Assumes nothing.
 use Rattle.ieee.proofs.Tests.{first, second}
-use Rattle.derivatives.specs.VectorAnswer.{madeVectors}
-use Rattle.derivatives.specs.VectorAnswer.{refusedVectors}
+use Rattle.derivatives.specs.VectorAnswer.{madeVectorCurve}
+use Rattle.derivatives.specs.VectorAnswer.{refusedVectorCurve}
 use borrow.Author.Tests.{not-true, not-false}
 use mathlib.Core.Path.{sym, _∙_}
 use borrow.Author.Needs.{needs}
@@ -16,11 +16,11 @@ refused-requires c κs = search needs
 
 returns : tie.Need-returns
 returns c = let s = c .before .before .before .before .args in
-    c .refused .ensures ∙ sym (second (madeVectors (s .n) (s .t1)) (refusedVectors 10) (sym (c .before .before .curve-finite .ensures) ∙ not-true _ (c .before .if1 .taken)))
+    c .refused .ensures ∙ sym (second (madeVectorCurve (s .n) (s .t1)) (refusedVectorCurve 10) (sym (c .before .before .curve-finite .ensures) ∙ not-true _ (c .before .if1 .taken)))
 
 returns-2 : tie.Need-returns-2
 returns-2 c = let s = c .before .before .before .args in
-    sym (first (madeVectors (s .n) (s .t1)) (refusedVectors 10) (sym (c .before .curve-finite .ensures) ∙ not-false _ (c .if1 .left)))
+    sym (first (madeVectorCurve (s .n) (s .t1)) (refusedVectorCurve 10) (sym (c .before .curve-finite .ensures) ∙ not-false _ (c .if1 .left)))
 
 pub returned-spec : {M : Type 1} → statement M
 returned-spec =

@@ -5,7 +5,7 @@ use Rattle.derivatives.proofs.VectorAnswers.{vectors-returned}
 use Rattle.derivatives.proofs.VectorCurves.{vectorsOf}
 use Rattle.derivatives.specs.Answer.{curveNumbers, curves}
 use Rattle.derivatives.specs.Vector.{vectorNumbers}
-use Rattle.derivatives.specs.VectorAnswer.{vectorCurves, refusedVectors, returnedVectors}
+use Rattle.derivatives.specs.VectorAnswer.{vectorCurves, refusedVectorCurve, returnedVectorCurve}
 use Rattle.derivatives.specs.VectorFormula.{byWeightedEntries}
 use mathlib.Core.Path.{sym, _∙_}
 use borrow.Author.Needs.{needs}
@@ -20,7 +20,7 @@ refused-requires c κs = search needs
 
 returns : tie.Need-returns
 returns c = let s = c .before .before .before .args in
-    c .refused .ensures ∙ two-far vectorCurves curves refusedVectors (byWeightedEntries (s .f)) (s .a) (s .b) (c .before .before .far .ensures) (c .before .if1 .taken)
+    c .refused .ensures ∙ two-far vectorCurves curves refusedVectorCurve (byWeightedEntries (s .f)) (s .a) (s .b) (c .before .before .far .ensures) (c .before .if1 .taken)
 
 smaller-requires : tie.Need-smaller-requires
 smaller-requires c κs = search needs
@@ -34,7 +34,7 @@ refused-requires-2 c κs = search needs
 
 returns-2 : tie.Need-returns-2
 returns-2 c = let p = c .before .before .before .before .before .before .before in let s = p .before .before .before .args in
-    c .refused2 .ensures ∙ two-infinite vectorCurves curves refusedVectors (byWeightedEntries (s .f)) (s .a) (s .b) (p .before .before .far .ensures) (p .before .if1 .left) (p .smaller .ensures) (c .before .before .weighted-finite .ensures) (c .before .if2 .taken)
+    c .refused2 .ensures ∙ two-infinite vectorCurves curves refusedVectorCurve (byWeightedEntries (s .f)) (s .a) (s .b) (p .before .before .far .ensures) (p .before .if1 .left) (p .smaller .ensures) (c .before .before .weighted-finite .ensures) (c .before .if2 .taken)
 
 array-read-w : tie.Need-array-read-w
 array-read-w c = search needs
@@ -48,8 +48,8 @@ refused-requires-3 c κs = search needs
 returns-3 : tie.Need-returns-3
 returns-3 c = let p = c .before .before .before .before .before .before .before .before .before in let s = p .before .before .before .args in
     c .refused3 .ensures
-    ∙ sym (first (refusedVectors 7) (returnedVectors (p .smaller .result) (vectorsOf (s .f) (vectorNumbers (s .a .entries)) (vectorNumbers (s .a .entries)) (curveNumbers (s .b .entries)))) (sym (c .before .before .division-by-zero .ensures) ∙ c .before .if3 .taken))
-    ∙ two-worked vectorCurves curves refusedVectors (byWeightedEntries (s .f)) (s .a) (s .b) (p .before .before .far .ensures) (p .before .if1 .left) (p .smaller .ensures) (c .before .before .before .before .weighted-finite .ensures) (c .before .before .before .if2 .left)
+    ∙ sym (first (refusedVectorCurve 7) (returnedVectorCurve (p .smaller .result) (vectorsOf (s .f) (vectorNumbers (s .a .entries)) (vectorNumbers (s .a .entries)) (curveNumbers (s .b .entries)))) (sym (c .before .before .division-by-zero .ensures) ∙ c .before .if3 .taken))
+    ∙ two-worked vectorCurves curves refusedVectorCurve (byWeightedEntries (s .f)) (s .a) (s .b) (p .before .before .far .ensures) (p .before .if1 .left) (p .smaller .ensures) (c .before .before .before .before .weighted-finite .ensures) (c .before .before .before .if2 .left)
 
 entries-requires : tie.Need-entries-requires
 entries-requires c κs = let p = c .before .before .before .before .before .before .before .before .before .before .before in let s = p .before .before .before .args in
@@ -63,8 +63,8 @@ returns-4 : tie.Need-returns-4
 returns-4 c = let p = c .before .before .before .before .before .before .before .before .before .before .before .before .before in let s = p .before .before .before .args in
     c .returned .ensures
     ∙ vectors-returned (p .smaller .result) (near (s .a .order) (s .b .order) (p .before .before .far .ensures) (p .before .if1 .left) (p .smaller .ensures)) (vectorsOf (s .f) (vectorNumbers (s .a .entries)) (vectorNumbers (s .a .entries)) (curveNumbers (s .b .entries))) (c .before .entries .ensures)
-    ∙ sym (second (refusedVectors 7) (returnedVectors (p .smaller .result) (vectorsOf (s .f) (vectorNumbers (s .a .entries)) (vectorNumbers (s .a .entries)) (curveNumbers (s .b .entries)))) (sym (c .before .before .before .before .before .before .division-by-zero .ensures) ∙ c .before .before .before .before .before .if3 .left))
-    ∙ two-worked vectorCurves curves refusedVectors (byWeightedEntries (s .f)) (s .a) (s .b) (p .before .before .far .ensures) (p .before .if1 .left) (p .smaller .ensures) (c .before .before .before .before .before .before .before .before .weighted-finite .ensures) (c .before .before .before .before .before .before .before .if2 .left)
+    ∙ sym (second (refusedVectorCurve 7) (returnedVectorCurve (p .smaller .result) (vectorsOf (s .f) (vectorNumbers (s .a .entries)) (vectorNumbers (s .a .entries)) (curveNumbers (s .b .entries)))) (sym (c .before .before .before .before .before .before .division-by-zero .ensures) ∙ c .before .before .before .before .before .if3 .left))
+    ∙ two-worked vectorCurves curves refusedVectorCurve (byWeightedEntries (s .f)) (s .a) (s .b) (p .before .before .far .ensures) (p .before .if1 .left) (p .smaller .ensures) (c .before .before .before .before .before .before .before .before .weighted-finite .ensures) (c .before .before .before .before .before .before .before .if2 .left)
 
 pub on-weighted-spec : {M : Type 1} → statement M
 on-weighted-spec = tie.close (tie.spec far-requires refused-requires returns smaller-requires weighted-finite-requires refused-requires-2 returns-2 array-read-w division-by-zero-requires refused-requires-3 returns-3 entries-requires returned-requires returns-4)

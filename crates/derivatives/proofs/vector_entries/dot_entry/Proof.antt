@@ -4,7 +4,8 @@ use Rattle.calculus.specs.InTurn.{inTurn}
 use native.Mathlib.Numerals.{add-one}
 use denote.Ref.{now}
 use Rattle.derivatives.specs.Vector.{vectorNumbers}
-use Rattle.derivatives.specs.Real.{nil, real}
+use Rattle.vectors.specs.Answers.{nought}
+use Rattle.derivatives.specs.Real.{real}
 use Rattle.calculus.specs.Kind.{regular}
 use Rattle.calculus.specs.Curve.{leibniz}
 use Rattle.vectors.specs.Vectors.{dot}
@@ -16,7 +17,7 @@ use Rattle.derivatives.proofs.vector_entries.dot_entry.Statement.{state
 use Rattle.derivatives.proofs.vector_entries.dot_entry.Tie as tie
 
 abbrev Inv-loop : tie.InvT-loop
-Inv-loop a b c m sum₀ i₀ sum i = (sum ≡ inTurn (real .plus) nil (leibniz (regular real) dot (vectorNumbers a) (vectorNumbers b) m) i) × (i ≤ suc m)
+Inv-loop a b c m sum₀ i₀ sum i = (sum ≡ inTurn (real .plus) nought (leibniz (regular real) dot (vectorNumbers a) (vectorNumbers b) m) i) × (i ≤ suc m)
 
 abbrev μ-loop : tie.MeasureT-loop
 μ-loop a b c m sum₀ i₀ sum i = suc m - i
@@ -36,12 +37,12 @@ loop-less c = search needs
 
 loop-again : tie.Need-loop-again Inv-loop μ-loop
 loop-again c = let l = c .before .before in
-    (one-more (real .plus) nil _ (l .loop .inv .0) (c .dot-term .ensures) (add-one (l .loop .i)), omega arith)
+    (one-more (real .plus) nought _ (l .loop .inv .0) (c .dot-term .ensures) (add-one (l .loop .i)), omega arith)
 
 returns : tie.Need-returns Inv-loop μ-loop
 returns c = let s = c .before .before .args in
     let e : c .before .loop .i ≡ suc (s .m) = omega arith in
-    c .before .loop .inv .0 ∙ ap (inTurn (real .plus) nil (leibniz (regular real) dot (vectorNumbers (now (s .a))) (vectorNumbers (now (s .b))) (s .m))) e
+    c .before .loop .inv .0 ∙ ap (inTurn (real .plus) nought (leibniz (regular real) dot (vectorNumbers (now (s .a))) (vectorNumbers (now (s .b))) (s .m))) e
 
 pub dot-entry-spec : {M : Type 1} → statement M
 dot-entry-spec =

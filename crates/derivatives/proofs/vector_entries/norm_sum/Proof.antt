@@ -5,7 +5,8 @@ use native.Mathlib.Numerals.{add-one}
 use denote.Ref.{now}
 use Rattle.derivatives.specs.Answer.{curveNumbers}
 use Rattle.derivatives.specs.Vector.{vectorNumbers}
-use Rattle.derivatives.specs.Real.{nil, real}
+use Rattle.vectors.specs.Answers.{nought}
+use Rattle.derivatives.specs.Real.{real}
 use Rattle.vectors.specs.Vectors.{dot}
 use Rattle.derivatives.specs.Norm.{normTerm}
 use Rattle.ieee.specs.SquareRoot.{squareRoot}
@@ -17,7 +18,7 @@ use Rattle.derivatives.proofs.vector_entries.norm_sum.Statement.{statem
 use Rattle.derivatives.proofs.vector_entries.norm_sum.Tie as tie
 
 abbrev Inv-loop : tie.InvT-loop
-Inv-loop s q c m sum₀ i₀ sum i = (sum ≡ inTurn (real .plus) nil (normTerm real squareRoot dot (vectorNumbers s) (curveNumbers q) m) i) × (i ≤ suc m)
+Inv-loop s q c m sum₀ i₀ sum i = (sum ≡ inTurn (real .plus) nought (normTerm real squareRoot dot (vectorNumbers s) (curveNumbers q) m) i) × (i ≤ suc m)
 
 abbrev μ-loop : tie.MeasureT-loop
 μ-loop s q c m sum₀ i₀ sum i = suc m - i
@@ -37,12 +38,12 @@ loop-less c = search needs
 
 loop-again : tie.Need-loop-again Inv-loop μ-loop
 loop-again c = let l = c .before .before in
-    (one-more (real .plus) nil _ (l .loop .inv .0) (c .norm-term .ensures) (add-one (l .loop .i)), omega arith)
+    (one-more (real .plus) nought _ (l .loop .inv .0) (c .norm-term .ensures) (add-one (l .loop .i)), omega arith)
 
 returns : tie.Need-returns Inv-loop μ-loop
 returns c = let s = c .before .before .args in
     let e : c .before .loop .i ≡ suc (s .m) = omega arith in
-    c .before .loop .inv .0 ∙ ap (inTurn (real .plus) nil (normTerm real squareRoot dot (vectorNumbers (now (s .s))) (curveNumbers (now (s .q))) (s .m))) e
+    c .before .loop .inv .0 ∙ ap (inTurn (real .plus) nought (normTerm real squareRoot dot (vectorNumbers (now (s .s))) (curveNumbers (now (s .q))) (s .m))) e
 
 pub norm-sum-spec : {M : Type 1} → statement M
 norm-sum-spec =

@@ -2,7 +2,7 @@
 use Rattle.derivatives.proofs.Curves.{CurveFilled}
 use Rattle.derivatives.proofs.VectorCurves.{numbersOf, numbers-formed}
 use Rattle.derivatives.specs.Vector.{vectorNumbers}
-use Rattle.derivatives.specs.Real.{nil}
+use Rattle.vectors.specs.Answers.{nought}
 use Rattle.calculus.proofs.Filling.{curve-none, curve-more, curve-all}
 use lib.Ieee.{nan}
 use denote.Ref.{now}
@@ -23,7 +23,7 @@ binomials-requires : tie.Need-binomials-requires Inv-loop μ-loop
 binomials-requires c κs = search needs
 
 loop-holds : tie.Need-loop-holds Inv-loop μ-loop
-loop-holds c = (curve-none 21 nan nil (λ k v. numbersOf (c .before .args .f) (vectorNumbers (now (c .before .args .a))) (vectorNumbers (now (c .before .args .b))) k ≡ v), omega arith)
+loop-holds c = (curve-none 21 nan nought (λ k v. numbersOf (c .before .args .f) (vectorNumbers (now (c .before .args .a))) (vectorNumbers (now (c .before .args .b))) k ≡ v), omega arith)
 
 number-requires : tie.Need-number-requires Inv-loop μ-loop
 number-requires c κs = search needs
@@ -45,7 +45,7 @@ loop-again c = let l = c .before .before .before .before .loop in
     let s = c .before .before .before .before .before .before .args in
     let x = vectorNumbers (now (s .a)) in
     let y = vectorNumbers (now (s .b)) in (
-      curve-more 21 nan nil (λ k v. numbersOf (s .f) x y k ≡ v) (c .number .result) (l .inv .0) (omega arith)
+      curve-more 21 nan nought (λ k v. numbersOf (s .f) x y k ≡ v) (c .number .result) (l .inv .0) (omega arith)
           (numbers-formed (s .f) x y (l .inv .0) (omega arith) ∙ sym (c .number .ensures)),
       omega arith,
     )
@@ -53,7 +53,7 @@ loop-again c = let l = c .before .before .before .before .loop in
 returns : tie.Need-returns Inv-loop μ-loop
 returns c = let s = c .before .before .before .args in
     let g = numbersOf (s .f) (vectorNumbers (now (s .a))) (vectorNumbers (now (s .b))) in
-    curve-all 21 nan nil (λ k v. g k ≡ v) g (λ k v e. sym e) (suc (s .n)) (c .before .loop .inv .0) (omega arith)
+    curve-all 21 nan nought (λ k v. g k ≡ v) g (λ k v e. sym e) (suc (s .n)) (c .before .loop .inv .0) (omega arith)
 
 pub numbers-spec : {M : Type 1} → statement M
 numbers-spec =

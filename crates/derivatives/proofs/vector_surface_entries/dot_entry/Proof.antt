@@ -3,7 +3,8 @@ use Rattle.derivatives.proofs.Terms.{one-row-more}
 use Rattle.calculus.specs.InTurn.{inRows}
 use Rattle.calculus.specs.Surface.{leibniz}
 use Rattle.derivatives.specs.Vector.{vectorSurfaceNumbers}
-use Rattle.derivatives.specs.Real.{nil, real}
+use Rattle.vectors.specs.Answers.{nought}
+use Rattle.derivatives.specs.Real.{real}
 use Rattle.vectors.specs.Vectors.{sum, dot}
 use Rattle.calculus.specs.Kind.{regular}
 use borrow.Author.Needs.{needs}
@@ -16,7 +17,7 @@ use Rattle.derivatives.proofs.vector_surface_entries.dot_entry.Statemen
 use Rattle.derivatives.proofs.vector_surface_entries.dot_entry.Tie as tie
 
 abbrev Inv-loop : tie.InvT-loop
-Inv-loop a b c m n sum₀ i₀ sum i = (sum ≡ inRows (real .plus) nil (leibniz (regular real) dot (vectorSurfaceNumbers a) (vectorSurfaceNumbers b) m n) i (suc n)) × (i ≤ suc m)
+Inv-loop a b c m n sum₀ i₀ sum i = (sum ≡ inRows (real .plus) nought (leibniz (regular real) dot (vectorSurfaceNumbers a) (vectorSurfaceNumbers b) m n) i (suc n)) × (i ≤ suc m)
 
 abbrev μ-loop : tie.MeasureT-loop
 μ-loop a b c m n sum₀ i₀ sum i = suc m - i
@@ -36,12 +37,12 @@ loop-less c = search needs
 
 loop-again : tie.Need-loop-again Inv-loop μ-loop
 loop-again c = let s = c .before .before .before .args in
-    (one-row-more (real .plus) nil (leibniz (regular real) dot (vectorSurfaceNumbers (now (s .a))) (vectorSurfaceNumbers (now (s .b))) (s .m) (s .n)) (suc (s .n)) (c .before .before .loop .inv .0) (c .dot-row .ensures) (add-one (c .before .before .loop .i)), omega arith)
+    (one-row-more (real .plus) nought (leibniz (regular real) dot (vectorSurfaceNumbers (now (s .a))) (vectorSurfaceNumbers (now (s .b))) (s .m) (s .n)) (suc (s .n)) (c .before .before .loop .inv .0) (c .dot-row .ensures) (add-one (c .before .before .loop .i)), omega arith)
 
 returns : tie.Need-returns Inv-loop μ-loop
 returns c = let s = c .before .before .args in
     let e : c .before .loop .i ≡ suc (s .m) = omega arith in
-    c .before .loop .inv .0 ∙ ap (λ (k : ℕ). inRows (real .plus) nil (leibniz (regular real) dot (vectorSurfaceNumbers (now (s .a))) (vectorSurfaceNumbers (now (s .b))) (s .m) (s .n)) k (suc (s .n))) e
+    c .before .loop .inv .0 ∙ ap (λ (k : ℕ). inRows (real .plus) nought (leibniz (regular real) dot (vectorSurfaceNumbers (now (s .a))) (vectorSurfaceNumbers (now (s .b))) (s .m) (s .n)) k (suc (s .n))) e
 
 pub dot-entry-spec : {M : Type 1} → statement M
 dot-entry-spec =

@@ -1,5 +1,5 @@
 -- `derivatives::vector_surface_norm::others` meets its contract. Assumes nothing.
-use Rattle.derivatives.specs.Real.{nil}
+use Rattle.vectors.specs.Answers.{nought}
 use Rattle.derivatives.specs.Answer.{surfaceNumbers}
 use Rattle.derivatives.specs.VectorSurfaceNorm.{withOther}
 use Rattle.calculus.specs.InTurn.{inRows}
@@ -14,7 +14,7 @@ use Rattle.derivatives.proofs.vector_surface_norm.others.Statement.{sta
 use Rattle.derivatives.proofs.vector_surface_norm.others.Tie as tie
 
 abbrev Inv-loop : tie.InvT-loop
-Inv-loop q c m n sum₀ i₀ sum i = (sum ≡ inRows (withOther (surfaceNumbers q) m n) nil (λ i j. (i, j)) i (suc n)) × (i ≤ suc m)
+Inv-loop q c m n sum₀ i₀ sum i = (sum ≡ inRows (withOther (surfaceNumbers q) m n) nought (λ i j. (i, j)) i (suc n)) × (i ≤ suc m)
 
 abbrev μ-loop : tie.MeasureT-loop
 μ-loop q c m n sum₀ i₀ sum i = suc m - i
@@ -34,12 +34,12 @@ loop-less c = search needs
 
 loop-again : tie.Need-loop-again Inv-loop μ-loop
 loop-again c = let s = c .before .before .before .args in
-    (one-row-more (withOther (surfaceNumbers (now (s .q))) (s .m) (s .n)) nil (λ i j. (i, j)) (suc (s .n)) (c .before .before .loop .inv .0) (c .others-row .ensures) (add-one (c .before .before .loop .i)), omega arith)
+    (one-row-more (withOther (surfaceNumbers (now (s .q))) (s .m) (s .n)) nought (λ i j. (i, j)) (suc (s .n)) (c .before .before .loop .inv .0) (c .others-row .ensures) (add-one (c .before .before .loop .i)), omega arith)
 
 returns : tie.Need-returns Inv-loop μ-loop
 returns c = let s = c .before .before .args in
     let e : c .before .loop .i ≡ suc (s .m) = omega arith in
-    c .before .loop .inv .0 ∙ ap (λ (k : ℕ). inRows (withOther (surfaceNumbers (now (s .q))) (s .m) (s .n)) nil (λ i j. (i, j)) k (suc (s .n))) e
+    c .before .loop .inv .0 ∙ ap (λ (k : ℕ). inRows (withOther (surfaceNumbers (now (s .q))) (s .m) (s .n)) nought (λ i j. (i, j)) k (suc (s .n))) e
 
 pub others-spec : {M : Type 1} → statement M
 others-spec =

@@ -8,7 +8,8 @@ use lib.ListN.{replicate}
 use Rattle.vectors.specs.Vectors.{dot}
 use Rattle.calculus.specs.Kind.{regular}
 use Rattle.calculus.specs.Curve.{derivative, productBy}
-use Rattle.derivatives.specs.Real.{nil, real}
+use Rattle.vectors.specs.Answers.{nought}
+use Rattle.derivatives.specs.Real.{real}
 use Rattle.derivatives.specs.Vector.{vectorNumbers, vectorArray}
 use Rattle.rolling_ball_fillet.proofs.Entries.{served, dot-left}
 use Rattle.rolling_ball_fillet.proofs.arrays.derivative_dot.Statement.{statement}
@@ -27,8 +28,8 @@ returns c =
     let l : a .m ≤ 19 = omega (arith, c .before .before .before .pre) in
     let f = derivative (vectorNumbers (now (a .a))) in
     let d = vectorNumbers (now (a .b)) in
-    let e = c .before .before .derivative .ensures ∙ served 19 (a .m) (replicate 63 nil) (vectorArray f (a .m)) l in
-    c .dot .ensures ∙ served 20 (a .m) nil (productBy (regular real) dot (vectorNumbers (c .before .before .derivative .result)) d (a .m)) h ∙ dot-left (a .m) h f d e
+    let e = c .before .before .derivative .ensures ∙ served 19 (a .m) (replicate 63 nought) (vectorArray f (a .m)) l in
+    c .dot .ensures ∙ served 20 (a .m) nought (productBy (regular real) dot (vectorNumbers (c .before .before .derivative .result)) d (a .m)) h ∙ dot-left (a .m) h f d e
 
 pub derivative-dot-spec : {M : Type 1} → statement M
 derivative-dot-spec = tie.close (tie.spec derivative-requires dot-requires returns)

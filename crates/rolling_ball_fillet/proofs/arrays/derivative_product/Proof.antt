@@ -7,7 +7,8 @@ use Prim.Native.Nat.{_≤_}
 use lib.ListN.{replicate}
 use Rattle.calculus.specs.Array.{curveArray}
 use Rattle.calculus.specs.Curve.{derivative, product}
-use Rattle.derivatives.specs.Real.{nil, real}
+use Rattle.vectors.specs.Answers.{nought}
+use Rattle.derivatives.specs.Real.{real}
 use Rattle.derivatives.specs.Answer.{curveNumbers}
 use Rattle.rolling_ball_fillet.proofs.Entries.{served, product-left}
 use Rattle.rolling_ball_fillet.proofs.arrays.derivative_product.Statement.{statement}
@@ -26,8 +27,8 @@ returns c =
     let l : a .m ≤ 19 = omega (arith, c .before .before .before .pre) in
     let f = derivative (curveNumbers (now (a .a))) in
     let d = curveNumbers (now (a .b)) in
-    let e = c .before .before .number-derivative .ensures ∙ served 19 (a .m) (replicate 21 nil) (curveArray nil f (a .m)) l in
-    c .product .ensures ∙ served 20 (a .m) nil (product real (curveNumbers (c .before .before .number-derivative .result)) d (a .m)) h ∙ product-left (a .m) h f d e
+    let e = c .before .before .number-derivative .ensures ∙ served 19 (a .m) (replicate 21 nought) (curveArray nought f (a .m)) l in
+    c .product .ensures ∙ served 20 (a .m) nought (product real (curveNumbers (c .before .before .number-derivative .result)) d (a .m)) h ∙ product-left (a .m) h f d e
 
 pub derivative-product-spec : {M : Type 1} → statement M
 derivative-product-spec = tie.close (tie.spec number-derivative-requires product-requires returns)

@@ -6,7 +6,8 @@ use lib.ListN.{replicate}
 use Rattle.vectors.specs.Vectors.{dot}
 use Rattle.calculus.specs.Kind.{regular}
 use Rattle.calculus.specs.Curve.{difference, productBy}
-use Rattle.derivatives.specs.Real.{nil, real}
+use Rattle.vectors.specs.Answers.{nought}
+use Rattle.derivatives.specs.Real.{real}
 use Rattle.derivatives.specs.Vector.{vectors, vectorNumbers, vectorArray}
 use Rattle.rolling_ball_fillet.proofs.Entries.{served, dot-right}
 use Rattle.rolling_ball_fillet.proofs.arrays.dot_difference.Statement.{statement}
@@ -24,8 +25,8 @@ returns c =
     let h = c .before .before .before .pre in
     let d = vectorNumbers (now (a .d)) in
     let f = difference vectors (vectorNumbers (now (a .a))) (vectorNumbers (now (a .b))) in
-    let e = c .before .before .difference .ensures ∙ served 20 (a .m) (replicate 63 nil) (vectorArray f (a .m)) h in
-    c .dot .ensures ∙ served 20 (a .m) nil (productBy (regular real) dot d (vectorNumbers (c .before .before .difference .result)) (a .m)) h ∙ dot-right (a .m) h d f e
+    let e = c .before .before .difference .ensures ∙ served 20 (a .m) (replicate 63 nought) (vectorArray f (a .m)) h in
+    c .dot .ensures ∙ served 20 (a .m) nought (productBy (regular real) dot d (vectorNumbers (c .before .before .difference .result)) (a .m)) h ∙ dot-right (a .m) h d f e
 
 pub dot-difference-spec : {M : Type 1} → statement M
 dot-difference-spec = tie.close (tie.spec difference-requires dot-requires returns)

@@ -1,6 +1,6 @@
 -- `arm` meets its contract. Assumes nothing.
 use Rattle.derivatives.specs.Vector.{vectorArray}
-use Rattle.derivatives.specs.Real.{nil}
+use Rattle.vectors.specs.Answers.{nought}
 use lib.ListN.{replicate}
 use Rattle.rolling_ball_fillet.specs.AxisAngle.{arm}
 use Rattle.rolling_ball_fillet.proofs.Entries.{served}
@@ -15,7 +15,7 @@ difference-requires c κs = search needs
 returns : tie.Need-returns
 returns c =
     let s = c .before .before .before .before .before in
-    c .difference .ensures ∙ served 20 (s .args .n) (replicate 63 nil) (vectorArray (arm (s .args .contact) (s .args .center)) (s .args .n)) (s .pre)
+    c .difference .ensures ∙ served 20 (s .args .n) (replicate 63 nought) (vectorArray (arm (s .args .contact) (s .args .center)) (s .args .n)) (s .pre)
 
 pub arm-spec : {M : Type 1} → statement M
 arm-spec = tie.close (tie.spec difference-requires returns)

@@ -1,7 +1,7 @@
 -- `dots` meets its contract. Assumes nothing.
 use Rattle.derivatives.proofs.Curves.{CurveFilled}
 use Rattle.rolling_ball_fillet.proofs.Filled.{numbers-none, numbers-more, numbers-all}
-use Rattle.derivatives.specs.Real.{nil}
+use Rattle.vectors.specs.Answers.{nought}
 use Rattle.derivatives.specs.Vector.{vectorNumbers}
 use Rattle.rolling_ball_fillet.specs.AxisAngle.{dots}
 use Rattle.rolling_ball_fillet.proofs.Entries.{served}
@@ -43,7 +43,7 @@ loop-again c =
     let l = c .before .before .loop in
     let f = dots (vectorNumbers (now (s .p))) (vectorNumbers (now (s .q))) in
     let h : l .m ≤ 20 = omega arith in
-    (numbers-more f (c .dot .result) (l .inv .0) (omega arith) (sym (c .dot .ensures ∙ served 20 (l .m) nil (f (l .m)) h)), omega arith)
+    (numbers-more f (c .dot .result) (l .inv .0) (omega arith) (sym (c .dot .ensures ∙ served 20 (l .m) nought (f (l .m)) h)), omega arith)
 
 returns : tie.Need-returns Inv-loop μ-loop
 returns c =

@@ -1,6 +1,7 @@
 -- `rate` meets its contract. Assumes nothing.
 use Rattle.derivatives.specs.Answer.{curveNumbers}
-use Rattle.derivatives.specs.Real.{nil, real}
+use Rattle.vectors.specs.Answers.{nought}
+use Rattle.derivatives.specs.Real.{real}
 use lib.Ieee.{Float}
 use Rattle.vectors.specs.Vectors.{minus, over}
 use Rattle.calculus.specs.Curve.{product}
@@ -48,7 +49,7 @@ returns-2 c =
     let q = curveNumbers (now (s .args .q)) in
     let m = s .args .m in
     let h : m ≤ 20 = omega arith in
-    ap (λ (x : Float). over (minus (r (m + 1)) x) (r 0)) (c .before .before .product .ensures ∙ served 20 m nil (product real r q m) h) ∙ rate-later r q m (c .before .before .before .if1 .left)
+    ap (λ (x : Float). over (minus (r (m + 1)) x) (r 0)) (c .before .before .product .ensures ∙ served 20 m nought (product real r q m) h) ∙ rate-later r q m (c .before .before .before .if1 .left)
 
 pub rate-spec : {M : Type 1} → statement M
 rate-spec =

@@ -1,6 +1,7 @@
 -- `turn` meets its contract. Assumes nothing.
 use Rattle.derivatives.specs.Answer.{curveNumbers}
-use Rattle.derivatives.specs.Real.{nil, real}
+use Rattle.vectors.specs.Answers.{nought}
+use Rattle.derivatives.specs.Real.{real}
 use Rattle.calculus.specs.Curve.{product}
 use Rattle.rolling_ball_fillet.proofs.AxisAngle.{turn-is}
 use Rattle.rolling_ball_fillet.proofs.Entries.{served}
@@ -39,7 +40,7 @@ returns c =
     let q = curveNumbers (now (s .args .q)) in
     let m = s .args .m in
     let h : m ≤ 20 = omega arith in
-    turn-is rate dot length q m (c .before .before .before .product .ensures ∙ served 20 m nil (product real q length m) h) (c .before .before .product2 .ensures ∙ served 20 m nil (product real rate dot m) h)
+    turn-is rate dot length q m (c .before .before .before .product .ensures ∙ served 20 m nought (product real q length m) h) (c .before .before .product2 .ensures ∙ served 20 m nought (product real rate dot m) h)
 
 pub turn-spec : {M : Type 1} → statement M
 turn-spec =

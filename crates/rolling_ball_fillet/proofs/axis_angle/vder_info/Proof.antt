@@ -1,7 +1,7 @@
 -- `vder_info` meets its contract. Assumes nothing.
 use Rattle.derivatives.specs.Answer.{curveNumbers}
 use Rattle.ieee.proofs.Tests.{first, second}
-use Rattle.rolling_ball_fillet.specs.AxisAngle.{arm0, arm1, rates, cosine}
+use Rattle.rolling_ball_fillet.specs.AxisAngle.{arm0, arm1, rates}
 use Rattle.rolling_ball_fillet.specs.PartialAnswer.{refusedInfo, infoAnswer}
 use Rattle.rolling_ball_fillet.proofs.Filled.{same-info}
 use Rattle.rolling_ball_fillet.proofs.AxisAngle.{division-is, axis-is, angle-is, cosine-is}

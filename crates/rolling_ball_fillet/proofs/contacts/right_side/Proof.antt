@@ -7,7 +7,7 @@ use Prim.Native.Nat.{_≤_}
 use lib.ListN.{replicate}
 use Rattle.vectors.specs.Vectors.{minus, vector}
 use Rattle.calculus.specs.Curve.{derivative, difference}
-use Rattle.derivatives.specs.Real.{nil}
+use Rattle.vectors.specs.Answers.{nought}
 use Rattle.derivatives.specs.Answer.{curveNumbers}
 use Rattle.derivatives.specs.Vector.{vectors, vectorNumbers, vectorArray}
 use Rattle.rolling_ball_fillet.proofs.Entries.{served, dot-left}
@@ -45,7 +45,7 @@ returns c =
     let l : a .m ≤ 19 = omega (arith, c .before .before .before .before .before .before .before .before .before .before .before .before .before .before .before .before .pre .1) in
     let e = vectorNumbers (now (a .edge)) in
     let f = derivative e in
-    let d = c .before .before .before .before .before .before .before .before .before .before .derivative .ensures ∙ served 19 (a .m) (replicate 63 nil) (vectorArray f (a .m)) l in
+    let d = c .before .before .before .before .before .before .before .before .before .before .derivative .ensures ∙ served 19 (a .m) (replicate 63 nought) (vectorArray f (a .m)) l in
     let x = c .before .before .before .before .before .before .before .dot-difference .ensures ∙ dot-left (a .m) h f (difference vectors e (vectorNumbers (a .k .ders))) d in
     let r = curveNumbers (now (a .radius)) (a .m) in
     let y = c .before .before .before .before .derivative-dot .ensures in

@@ -7,7 +7,7 @@ use Prim.Native.Nat.{_≤_}
 use native.Mathlib.Nat.{le-refl}
 use lib.ListN.{replicate}
 use Rattle.vectors.specs.Vectors.{quotient}
-use Rattle.derivatives.specs.Real.{nil}
+use Rattle.vectors.specs.Answers.{nought}
 use Rattle.derivatives.specs.Rational.{rational}
 use Rattle.derivatives.specs.Answer.{curveNumbers}
 use Rattle.derivatives.specs.Vector.{vectors, vectorNumbers, vectorArray}
@@ -29,7 +29,7 @@ returns c =
     let a = c .before .before .before .args in
     let h : a .m ≤ 20 = omega (arith, c .before .before .before .pre) in
     let f = rational vectors quotient (vectorNumbers (now (a .a))) (curveNumbers (now (a .w))) in
-    let e = c .before .before .rational .ensures ∙ served 20 (a .m) (replicate 63 nil) (vectorArray f (a .m)) h in
+    let e = c .before .before .rational .ensures ∙ served 20 (a .m) (replicate 63 nought) (vectorArray f (a .m)) h in
     c .vector-at .ensures ∙ vectors-agree f (a .m) h e (a .m) (le-refl (a .m))
 
 pub rational-entry-spec : {M : Type 1} → statement M
