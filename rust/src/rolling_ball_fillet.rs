@@ -34,8 +34,8 @@
 //! assert_eq!(info.angle_ders.entries(), [FRAC_PI_2, 0.0]);
 //! // At the beginning of the arc the fillet moves with its contact point 0.
 //! assert_eq!(info.derivative_v(0.0, 0.0, 1.0)?, [1.0, 1.0, 0.0]);
-//! assert_eq!(fillet.sub_der_mn(&circle, 0, 1, FRAC_PI_2, 0.0, 0.0, 1.0)?, [1.0, 1.0, 0.0]);
-//! assert_eq!(fillet.sub_der_mn(&circle, 2, 1, FRAC_PI_2, 0.0, 0.0, 1.0), Err(Refusal::PairNotServed));
+//! assert_eq!(fillet.sub_der_mn(0, 1, 0.0, &circle, FRAC_PI_2, 0.0, 1.0)?, [1.0, 1.0, 0.0]);
+//! assert_eq!(fillet.sub_der_mn(2, 1, 0.0, &circle, FRAC_PI_2, 0.0, 1.0), Err(Refusal::PairNotServed));
 //! # Ok::<(), Refusal>(())
 //! ```
 
@@ -185,7 +185,7 @@ impl RollingBallFilletSurface {
     ///
     /// Served are (m, 0) with m up to 20, (0, 1), (1, 1) and (0, 2). `angle` is that at the place for the last three; (m, 0) takes the circle's.
     #[allow(clippy::too_many_arguments)]
-    pub fn sub_der_mn(&self, circle: &ContactCircle, m: usize, n: usize, angle: f64, u: f64, s: f64, c: f64) -> Result<Vector3, Refusal> {
+    pub fn sub_der_mn(&self, m: usize, n: usize, u: f64, circle: &ContactCircle, angle: f64, s: f64, c: f64) -> Result<Vector3, Refusal> {
         vector(|out| {
             ffi::sub_der_mn(
                 m,
