@@ -8,10 +8,13 @@ binary64. Only answered cases are worked: refusals are left to compare. Carries 
 """
 
 import math
+import pathlib
 import struct
 import sys
-from functools import lru_cache
-from math import comb, factorial
+from math import comb
+
+sys.path.insert(0, str(pathlib.Path(__file__).resolve().parent.parent / 'tools'))
+from part_lists import multiplicity, part_lists
 
 
 def bits(x):
@@ -154,31 +157,12 @@ def surface_norm(s):
     return e
 
 
-# Lists of parts and the carry.
-
-@lru_cache(None)
-def lists(order, length):
-    """Nonincreasing lists of positive parts, greatest first."""
-    def go(left, length, most):
-        if length == 0:
-            return [()] if left == 0 else []
-        return [(p,) + rest for p in range(min(left, most), 0, -1) for rest in go(left - p, length - 1, p)]
-    return go(order, length, order)
-
-
-def multiplicity(parts):
-    count = factorial(sum(parts))
-    for p in parts:
-        count //= factorial(p)
-    for p in set(parts):
-        count //= factorial(parts.count(p))
-    return count
-
+# The carry.
 
 def carry_entry(s, uv, order):
     total = zero(s[0][0])
     for length in range(1, order + 1):
-        for parts in lists(order, length):
+        for parts in part_lists(order, length):
             inner = zero(s[0][0])
             for mask in range(1 << length):
                 factor, ones = 1.0, 0
@@ -434,7 +418,7 @@ def work(name, case):
     width = 3 if name.startswith("vector_") else 1
     plain = name.removeprefix("vector_")
     if name == "part_lists":
-        found = lists(case.whole(), case.whole())
+        found = part_lists(case.whole(), case.whole())
         return " ".join([str(len(found))] + [" ".join(map(str, (len(p) + 1, multiplicity(p)) + p)) for p in found])
     if name == "multiplicity":
         return str(multiplicity(case.wholes()))

@@ -180,11 +180,11 @@ module _ (f : RollingBallFilletSurface) (cc : ContactCircle) (n : ℕ) where
       let a = center.answeredContacts n (center.contactsOf f cc n) in
       let k = center.start f cc in
       let h : Held a = λ _. (refl, (refl, (refl, (refl, refl)))) in
-      let second = center.ifRegular (center.second f) (k .ders) (k .s1info) a in
-      let rest = center.ifRegular (center.first f) (k .ders) (k .s0info) second in
+      let second = center.ifRegular (center.jet1 f) (k .ders) (k .s1info) a in
+      let rest = center.ifRegular (center.jet0 f) (k .ders) (k .s0info) second in
       by-test Held (eqb n 0) a (cond (isZero (determinant3 (center.planes f))) (center.refusedContacts 6) rest) (λ _. h)
       (λ _. by-test Held (isZero (determinant3 (center.planes f))) (center.refusedContacts 6) rest (λ _ e. positive 5 e)
-      (λ _. regular (center.first f) (k .ders) (k .s0info) second (regular (center.second f) (k .ders) (k .s1info) a h)))
+      (λ _. regular (center.jet0 f) (k .ders) (k .s0info) second (regular (center.jet1 f) (k .ders) (k .s1info) a h)))
 
   abbrev Entire : CenterContactAnswer → Type 0
   Entire a = a .refusal ≡ 0 → (n ≤ 19) × (Ordered a × (center.finiteContacts (a .ders) n ≡ true))

@@ -144,16 +144,16 @@ pub extern "C" fn sugamdely_curve_combinatorial_derivatives(
     on_two(Operation::Product, a_order, a, b_order, b, out)
 }
 
-// The quotient of the curve a by the weights b.
+// The quotient of the curve a by the weights w.
 #[no_mangle]
 pub extern "C" fn sugamdely_curve_rational_derivatives(
     a_order: usize,
     a: &[f64],
-    b_order: usize,
-    b: &[f64],
+    w_order: usize,
+    w: &[f64],
     out: &mut [f64],
 ) -> u8
-    ensures { λ r. ⌜ _≡_ {A = ℕ × List Float} (r, now (out .exit)) (onTwo curves curves toCurve (onCurves (byDivision (rational (regular real) (real .over)))) «a_order» (now (a .entry)) «b_order» (now (b .entry)) (now (out .entry))) ⌝ }
+    ensures { λ r. ⌜ _≡_ {A = ℕ × List Float} (r, now (out .exit)) (onTwo curves curves toCurve (onCurves (byDivision (rational (regular real) (real .over)))) «a_order» (now (a .entry)) «w_order» (now (w .entry)) (now (out .entry))) ⌝ }
 {
-    on_two(Operation::Quotient, a_order, a, b_order, b, out)
+    on_two(Operation::Quotient, a_order, a, w_order, w, out)
 }

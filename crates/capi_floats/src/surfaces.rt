@@ -169,18 +169,18 @@ pub extern "C" fn sugamdely_surface_combinatorial_derivatives(
     on_two(Operation::Product, a_order, a, b_order, b, out)
 }
 
-// The quotient of the surface a by the weights b.
+// The quotient of the surface a by the weights w.
 #[no_mangle]
 pub extern "C" fn sugamdely_surface_rational_derivatives(
     a_order: usize,
     a: &[f64],
-    b_order: usize,
-    b: &[f64],
+    w_order: usize,
+    w: &[f64],
     out: &mut [f64],
 ) -> u8
-    ensures { λ r. ⌜ _≡_ {A = ℕ × List Float} (r, now (out .exit)) (onTwo surfaces surfaces toSurface (onSurfaces (bySurfaceDivision (surfaceRational (regular real) (real .over)))) «a_order» (now (a .entry)) «b_order» (now (b .entry)) (now (out .entry))) ⌝ }
+    ensures { λ r. ⌜ _≡_ {A = ℕ × List Float} (r, now (out .exit)) (onTwo surfaces surfaces toSurface (onSurfaces (bySurfaceDivision (surfaceRational (regular real) (real .over)))) «a_order» (now (a .entry)) «w_order» (now (w .entry)) (now (out .entry))) ⌝ }
 {
-    on_two(Operation::Quotient, a_order, a, b_order, b, out)
+    on_two(Operation::Quotient, a_order, a, w_order, w, out)
 }
 
 // The derivative of order n of the surface a along the curve c in its parameters, which is zero at order 0.

@@ -165,77 +165,77 @@ pub extern "C" fn sugamdely_vector_magnitude(a: &[f64], out: &mut [f64]) -> u8
 }
 
 #[no_mangle]
-pub extern "C" fn sugamdely_matrix2_determinant(a: &[f64], out: &mut [f64]) -> u8
-    ensures { λ r. ⌜ _≡_ {A = ℕ × List Float} (r, now (out .exit)) (onOne aMatrix2 toFloat 0 (λ x. realFrom (finiteMatrix2 x) (determinant2 x)) 0 (now (a .entry)) (now (out .entry))) ⌝ }
+pub extern "C" fn sugamdely_matrix2_determinant(m: &[f64], out: &mut [f64]) -> u8
+    ensures { λ r. ⌜ _≡_ {A = ℕ × List Float} (r, now (out .exit)) (onOne aMatrix2 toFloat 0 (λ x. realFrom (finiteMatrix2 x) (determinant2 x)) 0 (now (m .entry)) (now (out .entry))) ⌝ }
 {
-    let t = given::one(Shape::Matrix2, 0, a.len(), Shape::Number, 0, out.len());
+    let t = given::one(Shape::Matrix2, 0, m.len(), Shape::Number, 0, out.len());
     if t != 0 {
         return t;
     }
-    let x = read::matrix2(a);
+    let x = read::matrix2(m);
     let r = answers::matrix2_determinant(x);
     deliver::float(r, out)
 }
 
 #[no_mangle]
-pub extern "C" fn sugamdely_matrix2_inverse(a: &[f64], out: &mut [f64]) -> u8
-    ensures { λ r. ⌜ _≡_ {A = ℕ × List Float} (r, now (out .exit)) (onOne aMatrix2 toMatrix2 0 inverseAnswer2 0 (now (a .entry)) (now (out .entry))) ⌝ }
+pub extern "C" fn sugamdely_matrix2_inverse(m: &[f64], out: &mut [f64]) -> u8
+    ensures { λ r. ⌜ _≡_ {A = ℕ × List Float} (r, now (out .exit)) (onOne aMatrix2 toMatrix2 0 inverseAnswer2 0 (now (m .entry)) (now (out .entry))) ⌝ }
 {
-    let t = given::one(Shape::Matrix2, 0, a.len(), Shape::Matrix2, 0, out.len());
+    let t = given::one(Shape::Matrix2, 0, m.len(), Shape::Matrix2, 0, out.len());
     if t != 0 {
         return t;
     }
-    let x = read::matrix2(a);
+    let x = read::matrix2(m);
     let r = answers::matrix2_inverse(x);
     deliver::matrix2(r, out)
 }
 
 #[no_mangle]
-pub extern "C" fn sugamdely_matrix3_determinant(a: &[f64], out: &mut [f64]) -> u8
-    ensures { λ r. ⌜ _≡_ {A = ℕ × List Float} (r, now (out .exit)) (onOne aMatrix3 toFloat 0 (λ x. realFrom (finiteMatrix3 x) (determinant3 x)) 0 (now (a .entry)) (now (out .entry))) ⌝ }
+pub extern "C" fn sugamdely_matrix3_determinant(m: &[f64], out: &mut [f64]) -> u8
+    ensures { λ r. ⌜ _≡_ {A = ℕ × List Float} (r, now (out .exit)) (onOne aMatrix3 toFloat 0 (λ x. realFrom (finiteMatrix3 x) (determinant3 x)) 0 (now (m .entry)) (now (out .entry))) ⌝ }
 {
-    let t = given::one(Shape::Matrix3, 0, a.len(), Shape::Number, 0, out.len());
+    let t = given::one(Shape::Matrix3, 0, m.len(), Shape::Number, 0, out.len());
     if t != 0 {
         return t;
     }
-    let x = read::matrix3(a);
+    let x = read::matrix3(m);
     let r = answers::matrix3_determinant(x);
     deliver::float(r, out)
 }
 
 #[no_mangle]
-pub extern "C" fn sugamdely_matrix3_inverse(a: &[f64], out: &mut [f64]) -> u8
-    ensures { λ r. ⌜ _≡_ {A = ℕ × List Float} (r, now (out .exit)) (onOne aMatrix3 toMatrix3 0 inverseAnswer3 0 (now (a .entry)) (now (out .entry))) ⌝ }
+pub extern "C" fn sugamdely_matrix3_inverse(m: &[f64], out: &mut [f64]) -> u8
+    ensures { λ r. ⌜ _≡_ {A = ℕ × List Float} (r, now (out .exit)) (onOne aMatrix3 toMatrix3 0 inverseAnswer3 0 (now (m .entry)) (now (out .entry))) ⌝ }
 {
-    let t = given::one(Shape::Matrix3, 0, a.len(), Shape::Matrix3, 0, out.len());
+    let t = given::one(Shape::Matrix3, 0, m.len(), Shape::Matrix3, 0, out.len());
     if t != 0 {
         return t;
     }
-    let x = read::matrix3(a);
+    let x = read::matrix3(m);
     let r = answers::matrix3_inverse(x);
     deliver::matrix3(r, out)
 }
 
-// The image of the vector b.
+// The image of the vector v.
 #[no_mangle]
-pub extern "C" fn sugamdely_matrix3_image(a: &[f64], b: &[f64], out: &mut [f64]) -> u8
-    ensures { λ r. ⌜ _≡_ {A = ℕ × List Float} (r, now (out .exit)) (onTwo aMatrix3 aVector toVector (λ x y. vectorFrom (finiteMatrix3 x && finiteVector y) (image3 x y)) 0 (now (a .entry)) 0 (now (b .entry)) (now (out .entry))) ⌝ }
+pub extern "C" fn sugamdely_matrix3_image(m: &[f64], v: &[f64], out: &mut [f64]) -> u8
+    ensures { λ r. ⌜ _≡_ {A = ℕ × List Float} (r, now (out .exit)) (onTwo aMatrix3 aVector toVector (λ x y. vectorFrom (finiteMatrix3 x && finiteVector y) (image3 x y)) 0 (now (m .entry)) 0 (now (v .entry)) (now (out .entry))) ⌝ }
 {
     let t = given::two(
         Shape::Matrix3,
         0,
-        a.len(),
+        m.len(),
         Shape::Vector,
         0,
-        b.len(),
+        v.len(),
         Shape::Vector,
         out.len(),
     );
     if t != 0 {
         return t;
     }
-    let x = read::matrix3(a);
-    let y = read::vector(b, 0);
+    let x = read::matrix3(m);
+    let y = read::vector(v, 0);
     let r = answers::matrix3_image(x, y);
     deliver::vector(r, out)
 }

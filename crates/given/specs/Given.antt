@@ -7,7 +7,7 @@ use Rattle.calculus.specs.Graded.{triangle}
 use Rattle.given.specs.declared.Shape.{Shape}
 use Rattle.given.specs.declared.Shape.the-variants as shape
 
--- the first refusal of two, in document 01's order: 1 before 2
+-- the first refusal of two: document 01 checks 1 to 4 in the order of their numbers
 unfoldable pub first : ℕ → ℕ → ℕ
 first a b = cond (eqb a 0) b (cond (eqb b 0) a (min a b))
 

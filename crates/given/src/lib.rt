@@ -10,7 +10,7 @@ pub fn lower(n: usize) -> usize
     if n == 0 { 0 } else { n - 1 }
 }
 
-// The first of two refusals, 1 before 2.
+// The first of two refusals: 1 to 4 are checked in the order of their numbers.
 pub fn first(a: u8, b: u8) -> u8
     ensures { λ r. ⌜ r ≡ firstOf a b ⌝ }
 {

@@ -19,7 +19,7 @@ use Rattle.derivatives.specs.Vector.{origin, vectorNumbers, allVectorsFinite, f
 use Rattle.derivatives.specs.Answer.{tested, far}
 use Rattle.derivatives.specs.declared.CurveDerivatives.{CurveDerivatives}
 use Rattle.rolling_ball_fillet.specs.SurfaceInfo.{apart, form}
-use Rattle.rolling_ball_fillet.specs.Center.{radii, first, second, start, planes, contactsOf, answeredContacts, refusedContacts, centerContacts, farJets, beyond, short, finiteGiven, returnedContacts, centerContactAnswer}
+use Rattle.rolling_ball_fillet.specs.Center.{radii, jet0, jet1, start, planes, contactsOf, answeredContacts, refusedContacts, centerContacts, farJets, beyond, short, finiteGiven, returnedContacts, centerContactAnswer}
 use Rattle.rolling_ball_fillet.specs.PartialAnswer.{beyond as infoBeyond, short as infoShort, finiteGiven as infoGiven}
 use Rattle.rolling_ball_fillet.specs.PartialAnswer.{refusedInfo, vderInfo, returnedInfo, vderInfoAnswer, farInfo, shortInfo, finiteInputs, partialAnswer}
 use Rattle.rolling_ball_fillet.specs.SubDer.{orderOf, partialBy, fromContacts, finiteFloats, byEdge}
@@ -36,10 +36,10 @@ module _ (f : RollingBallFilletSurface) (cc : ContactCircle) where
   planes-zero = isZero (determinant3 (planes f))
 
   abbrev pub form0-zero : Bool
-  form0-zero = isZero (determinant2 (form (first f) (apart (start f cc .ders) (start f cc .s0info) 0)))
+  form0-zero = isZero (determinant2 (form (jet0 f) (apart (start f cc .ders) (start f cc .s0info) 0)))
 
   abbrev pub form1-zero : Bool
-  form1-zero = isZero (determinant2 (form (second f) (apart (start f cc .ders) (start f cc .s1info) 0)))
+  form1-zero = isZero (determinant2 (form (jet1 f) (apart (start f cc .ders) (start f cc .s1info) 0)))
 
   abbrev pub norm0-zero : Bool
   norm0-zero = isZero (curveNumbers (start f cc .s0info .absders) 0)

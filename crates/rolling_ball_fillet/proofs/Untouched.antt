@@ -20,7 +20,7 @@ use Rattle.derivatives.specs.Rational.{rational}
 use Rattle.derivatives.specs.Answer.{curveNumbers}
 use Rattle.derivatives.specs.Vector.{origin, vectors, vectorNumbers}
 use Rattle.rolling_ball_fillet.specs.SurfaceInfo.{put, begun, begunNumbers, initial, along, apart, parameters, withParameters, withDerivatives, withCross, withNorm, withNormal, routine}
-use Rattle.rolling_ball_fillet.specs.Center.{edge, radii, first, second, start, planes, rightSide, withCenter, withContacts, after, contactsOf}
+use Rattle.rolling_ball_fillet.specs.Center.{edge, radii, jet0, jet1, start, planes, rightSide, withCenter, withContacts, after, contactsOf}
 use Rattle.rolling_ball_fillet.specs.declared.ContactCircle.{ContactCircle}
 use Rattle.rolling_ball_fillet.specs.declared.RollingBallFilletSurface.{RollingBallFilletSurface}
 use Rattle.rolling_ball_fillet.specs.declared.surface_info.SurfaceInfo.{SurfaceInfo}
@@ -171,8 +171,8 @@ module _ (f : RollingBallFilletSurface) (cc : ContactCircle) where
   start-zero j h l =
       record {
         center = begun-zero j h l (cc .center);
-        contact0 = begun-zero j h l (first f 0 0);
-        contact1 = begun-zero j h l (second f 0 0);
+        contact0 = begun-zero j h l (jet0 f 0 0);
+        contact1 = begun-zero j h l (jet1 f 0 0);
         u0 = begunNumbers-zero j h l (cc .«contact_point0» .uv .x);
         v0 = begunNumbers-zero j h l (cc .«contact_point0» .uv .y);
         u1 = begunNumbers-zero j h l (cc .«contact_point1» .uv .x);
@@ -181,7 +181,7 @@ module _ (f : RollingBallFilletSurface) (cc : ContactCircle) where
 
   pub past-order : (n j : ℕ) → n < j → j ≤ 20 → Zero j (contactsOf f cc n)
   past-order n j h l =
-      let q = untouched (edge f) (radii f) (first f) (second f) (inverse3 (planes f)) (start f cc) n j (inr h) in
+      let q = untouched (edge f) (radii f) (jet0 f) (jet1 f) (inverse3 (planes f)) (start f cc) n j (inr h) in
       let z = start-zero j (omega arith) l in
       record {
         center = q .ders ∙ z .center;

@@ -33,18 +33,18 @@ edge f = vectorNumbers (f .«edge_curve» .entries)
 abbrev pub radii : RollingBallFilletSurface → ℕ → Float
 radii f = curveNumbers (f .radius .entries)
 
-abbrev pub first : RollingBallFilletSurface → ℕ → ℕ → Vector3
-first f = vectorSurfaceNumbers (f .surface0 .entries)
+abbrev pub jet0 : RollingBallFilletSurface → ℕ → ℕ → Vector3
+jet0 f = vectorSurfaceNumbers (f .surface0 .entries)
 
-abbrev pub second : RollingBallFilletSurface → ℕ → ℕ → Vector3
-second f = vectorSurfaceNumbers (f .surface1 .entries)
+abbrev pub jet1 : RollingBallFilletSurface → ℕ → ℕ → Vector3
+jet1 f = vectorSurfaceNumbers (f .surface1 .entries)
 
 -- ---- the entries of order 0
 unfoldable pub start : RollingBallFilletSurface → ContactCircle → Contacts
 start f cc = record {
   ders = begun (cc .center);
-  s0info = initial (first f) (cc .«contact_point0» .uv) (f .normal0);
-  s1info = initial (second f) (cc .«contact_point1» .uv) (f .normal1);
+  s0info = initial (jet0 f) (cc .«contact_point0» .uv) (f .normal0);
+  s1info = initial (jet1 f) (cc .«contact_point1» .uv) (f .normal1);
 }
 
 -- ---- one order more: the centre stays in the plane across the edge, and at the radius from both surfaces
@@ -76,7 +76,7 @@ after e r s t inverse k zero = k
 after e r s t inverse k (suc m) = withContacts s t (withCenter e r inverse (after e r s t inverse k m) (suc m)) (suc m)
 
 abbrev pub contactsOf : RollingBallFilletSurface → ContactCircle → ℕ → Contacts
-contactsOf f cc n = after (edge f) (radii f) (first f) (second f) (inverse3 (planes f)) (start f cc) n
+contactsOf f cc n = after (edge f) (radii f) (jet0 f) (jet1 f) (inverse3 (planes f)) (start f cc) n
 
 -- ---- the five jets beside 0: the centre's of order n, the others of order n + 1, whose last entry is zero; or the zero jets of order 0 beside a refusal
 abbrev pub answeredContacts : ℕ → Contacts → CenterContactAnswer
@@ -103,7 +103,7 @@ ifRegular s center a r =
 abbrev pub ifSolvable : RollingBallFilletSurface → Contacts → CenterContactAnswer → CenterContactAnswer
 ifSolvable f k r =
     cond (isZero (determinant3 (planes f))) (refusedContacts 6)
-    (ifRegular (first f) (k .ders) (k .s0info) (ifRegular (second f) (k .ders) (k .s1info) r))
+    (ifRegular (jet0 f) (k .ders) (k .s0info) (ifRegular (jet1 f) (k .ders) (k .s1info) r))
 
 -- on all floats, finite or not
 unfoldable pub centerContacts : RollingBallFilletSurface → ContactCircle → ℕ → CenterContactAnswer
@@ -125,7 +125,7 @@ short f n = (ltb (f .«edge_curve» .order) n || ltb (f .radius .order) n) || (l
 abbrev pub finiteUpTo : RollingBallFilletSurface → ContactCircle → (e r s t : ℕ) → Bool
 finiteUpTo f cc e r s t =
     (finiteCircle cc && (finiteVector (f .normal0) && finiteVector (f .normal1)))
-    && ((finiteVectorCurve (edge f) e && finiteCurve (radii f) r) && (finiteVectorSurface (first f) s && finiteVectorSurface (second f) t))
+    && ((finiteVectorCurve (edge f) e && finiteCurve (radii f) r) && (finiteVectorSurface (jet0 f) s && finiteVectorSurface (jet1 f) t))
 
 abbrev pub finiteGiven : RollingBallFilletSurface → ContactCircle → ℕ → Bool
 finiteGiven f cc n = finiteUpTo f cc n n n n

@@ -12,7 +12,7 @@ one-requires c κs = search needs
 
 returns : tie.Need-returns
 returns c = let s = c .before .before .before .before .args in
-    one-refused aMatrix2 toMatrix2 0 inverseAnswer2 0 (now (s .a)) (now (s .out)) (c .before .one .ensures) (c .if1 .taken)
+    one-refused aMatrix2 toMatrix2 0 inverseAnswer2 0 (now (s .m)) (now (s .out)) (c .before .one .ensures) (c .if1 .taken)
 
 matrix2-requires : tie.Need-matrix2-requires
 matrix2-requires c κs = search needs
@@ -28,7 +28,7 @@ same-length c = search needs
 
 returns-2 : tie.Need-returns-2
 returns-2 c = let s = c .before .before .before .before .before .before .before .before .before .before .args in
-    one-worked aMatrix2 toMatrix2 0 inverseAnswer2 0 (now (s .a)) (now (s .out)) (c .before .before .before .before .before .before .before .one .ensures) (c .before .before .before .before .before .before .if1 .left) (c .before .before .before .before .before .matrix2 .ensures) (c .before .before .before .before .matrix2-inverse .ensures) (c .before .before .matrix22 .ensures)
+    one-worked aMatrix2 toMatrix2 0 inverseAnswer2 0 (now (s .m)) (now (s .out)) (c .before .before .before .before .before .before .before .one .ensures) (c .before .before .before .before .before .before .if1 .left) (c .before .before .before .before .before .matrix2 .ensures) (c .before .before .before .before .matrix2-inverse .ensures) (c .before .before .matrix22 .ensures)
 
 pub sugamdely-matrix2-inverse-spec : {M : Type 1} → statement M
 sugamdely-matrix2-inverse-spec = tie.close (tie.spec one-requires returns matrix2-requires matrix2-inverse-requires matrix2-requires-2 same-length returns-2)

@@ -15,7 +15,7 @@ two-requires c κs = search needs
 
 returns : tie.Need-returns
 returns c = let s = c .before .before .before .before .before .args in
-    two-refused aMatrix3 aVector toVector (λ x y. vectorFrom (finiteMatrix3 x && finiteVector y) (image3 x y)) 0 (now (s .a)) 0 (now (s .b)) (now (s .out)) (c .before .two .ensures) (c .if1 .taken)
+    two-refused aMatrix3 aVector toVector (λ x y. vectorFrom (finiteMatrix3 x && finiteVector y) (image3 x y)) 0 (now (s .m)) 0 (now (s .v)) (now (s .out)) (c .before .two .ensures) (c .if1 .taken)
 
 matrix3-requires : tie.Need-matrix3-requires
 matrix3-requires c κs = search needs
@@ -34,7 +34,7 @@ same-length c = search needs
 
 returns-2 : tie.Need-returns-2
 returns-2 c = let s = c .before .before .before .before .before .before .before .before .before .before .before .before .args in
-    two-worked aMatrix3 aVector toVector (λ x y. vectorFrom (finiteMatrix3 x && finiteVector y) (image3 x y)) 0 (now (s .a)) 0 (now (s .b)) (now (s .out)) (c .before .before .before .before .before .before .before .before .two .ensures) (c .before .before .before .before .before .before .before .if1 .left) (c .before .before .before .before .before .before .matrix3 .ensures) (c .before .before .before .before .before .vector .ensures) (c .before .before .before .before .matrix3-image .ensures) (c .before .before .vector2 .ensures)
+    two-worked aMatrix3 aVector toVector (λ x y. vectorFrom (finiteMatrix3 x && finiteVector y) (image3 x y)) 0 (now (s .m)) 0 (now (s .v)) (now (s .out)) (c .before .before .before .before .before .before .before .before .two .ensures) (c .before .before .before .before .before .before .before .if1 .left) (c .before .before .before .before .before .before .matrix3 .ensures) (c .before .before .before .before .before .vector .ensures) (c .before .before .before .before .matrix3-image .ensures) (c .before .before .vector2 .ensures)
 
 pub sugamdely-matrix3-image-spec : {M : Type 1} → statement M
 sugamdely-matrix3-image-spec = tie.close (tie.spec two-requires returns matrix3-requires vector-requires matrix3-image-requires vector-requires-2 same-length returns-2)

@@ -9,7 +9,7 @@ use Rattle.vectors.specs.Matrices.{determinant2, determinant3}
 use Rattle.derivatives.specs.Real.{isZero}
 use Rattle.derivatives.specs.Answer.{curveNumbers}
 use Rattle.rolling_ball_fillet.specs.SurfaceInfo.{form, apart}
-use Rattle.rolling_ball_fillet.specs.Center.{first, second, answeredContacts}
+use Rattle.rolling_ball_fillet.specs.Center.{jet0, jet1, answeredContacts}
 use Rattle.rolling_ball_fillet.specs.declared.ContactCircle.{ContactCircle}
 use Rattle.rolling_ball_fillet.specs.declared.RollingBallFilletSurface.{RollingBallFilletSurface}
 use Rattle.rolling_ball_fillet.specs.declared.contacts.Contacts.{Contacts}
@@ -42,13 +42,13 @@ planes-test c = sym (ap isZero (c .determinant .ensures ∙ ap determinant3 (c .
 form0-test : (c : tie.After-determinant2) → let s = c .before .before .before .before .before .before .before .before .before .before .before .before .before .before in form0-zero (fillet s) (circle s) ≡ isZero (c .determinant2 .result)
 form0-test c =
     let s = c .before .before .before .before .before .before .before .before .before .before .before .before .before .before in
-    let known = ap (λ (k : Contacts). form (first (fillet s)) (apart (k .ders) (k .s0info) 0)) (s .start .ensures) in
+    let known = ap (λ (k : Contacts). form (jet0 (fillet s)) (apart (k .ders) (k .s0info) 0)) (s .start .ensures) in
     sym (ap isZero (c .determinant2 .ensures ∙ ap determinant2 (c .before .form-at .ensures ∙ known)))
 
 form1-test : (c : tie.After-determinant3) → let s = c .before .before .before .before .before .before .before .before .before .before .before .before .before .before .before .before .before .before .before .before in form1-zero (fillet s) (circle s) ≡ isZero (c .determinant3 .result)
 form1-test c =
     let s = c .before .before .before .before .before .before .before .before .before .before .before .before .before .before .before .before .before .before .before .before in
-    let known = ap (λ (k : Contacts). form (second (fillet s)) (apart (k .ders) (k .s1info) 0)) (s .start .ensures) in
+    let known = ap (λ (k : Contacts). form (jet1 (fillet s)) (apart (k .ders) (k .s1info) 0)) (s .start .ensures) in
     sym (ap isZero (c .determinant3 .ensures ∙ ap determinant2 (c .before .form-at2 .ensures ∙ known)))
 
 -- ---- the arms

@@ -10,7 +10,7 @@ use Rattle.vectors.specs.declared.Vector3.{Vector3}
 use Rattle.vectors.specs.declared.Matrix3.{Matrix3}
 use Rattle.derivatives.specs.Answer.{curveNumbers}
 use Rattle.derivatives.specs.Vector.{vectorNumbers, vectorSurfaceNumbers}
-use Rattle.rolling_ball_fillet.specs.Center.{edge, radii, first, second, withCenter, withContacts, after}
+use Rattle.rolling_ball_fillet.specs.Center.{edge, radii, jet0, jet1, withCenter, withContacts, after}
 use Rattle.rolling_ball_fillet.specs.declared.contacts.Contacts.{Contacts}
 use Rattle.rolling_ball_fillet.proofs.contacts.formed.Statement.{statement}
 use Rattle.rolling_ball_fillet.proofs.contacts.formed.Tie as tie
@@ -42,7 +42,7 @@ start-requires c κs = search needs
 loop-holds : tie.Need-loop-holds Inv-loop μ-loop
 loop-holds c =
     let f = c .before .before .before .before .before .before .before .args .f in
-    (omega arith, begins (edge f) (radii f) (first f) (second f) (c .before .inverse .result) (c .start .result))
+    (omega arith, begins (edge f) (radii f) (jet0 f) (jet1 f) (c .before .inverse .result) (c .start .result))
 
 add-m : tie.Need-add-m Inv-loop μ-loop
 add-m c = search needs
@@ -62,7 +62,7 @@ loop-again c =
     let f = c .before .before .before .before .before .before .before .before .before .before .before .before .before .before .before .args .f in
     let v = c .before .before .before .before .before .before .before .before .before .inverse .result in
     let m = l .m in
-    (omega (arith, c .before .before .before .before .before .before .loop-test .taken), c .with-contacts .ensures ∙ ap (λ (k : Contacts). withContacts (first f) (second f) k (m + 1)) (c .before .before .before .with-center .ensures ∙ ap (λ (k : Contacts). withCenter (edge f) (radii f) v k (m + 1)) (l .inv .1)) ∙ next (edge f) (radii f) (first f) (second f) v (c .before .before .before .before .before .before .before .before .start .result) m)
+    (omega (arith, c .before .before .before .before .before .before .loop-test .taken), c .with-contacts .ensures ∙ ap (λ (k : Contacts). withContacts (jet0 f) (jet1 f) k (m + 1)) (c .before .before .before .with-center .ensures ∙ ap (λ (k : Contacts). withCenter (edge f) (radii f) v k (m + 1)) (l .inv .1)) ∙ next (edge f) (radii f) (jet0 f) (jet1 f) v (c .before .before .before .before .before .before .before .before .start .result) m)
 
 returns : tie.Need-returns Inv-loop μ-loop
 returns c =
@@ -70,7 +70,7 @@ returns c =
     let f = c .before .before .before .before .before .before .before .before .before .args .f in
     let e : l .m ≡ c .before .before .before .before .before .before .before .before .before .args .n = omega (arith, l .inv .0, c .loop-test .left) in
     let v = c .before .before .before .inverse .ensures ∙ ap inverse3 (c .before .before .before .before .planes .ensures) in
-    l .inv .1 ∙ (λ i. after (edge f) (radii f) (first f) (second f) (v i) (c .before .before .start .ensures i) (e i))
+    l .inv .1 ∙ (λ i. after (edge f) (radii f) (jet0 f) (jet1 f) (v i) (c .before .before .start .ensures i) (e i))
 
 pub formed-spec : {M : Type 1} → statement M
 formed-spec = tie.close (tie.spec Inv-loop μ-loop planes-requires inverse-requires start-requires loop-holds add-m with-center-requires with-contacts-requires loop-less loop-again returns)
