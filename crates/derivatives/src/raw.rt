@@ -4,7 +4,7 @@ ghost use mathlib.Core.Path.{_≡_};
 ghost use mathlib.Core.Bool.{false, cond};
 ghost use lib.Dec.{ltb};
 ghost use lib.ListN.{replicate};
-ghost use Rattle.vectors.specs.Vectors.{multiple, quotient, dot as dotOf, cross as crossOf};
+ghost use Rattle.vectors.specs.Vectors.{quotient, dot as dotOf, cross as crossOf};
 ghost use Rattle.calculus.specs.Kind.{regular};
 ghost use Rattle.calculus.specs.Array.{curveArray};
 ghost use Rattle.calculus.specs.Curve.{productBy, product as productOf, difference as differences, derivative as derivativeOf};
@@ -55,7 +55,16 @@ pub fn product(a: &[f64; 21], b: &[f64; 21], m: usize) -> f64
     crate::curve::product_entry(a, b, &c, m)
 }
 
-// The entries up to the order n of a difference, and of a quotient by floats.
+// The entries up to the order n of a jet that is cut there, of a difference, of the products by cross and by dot, and of a quotient by floats.
+pub fn cut(a: &[f64; 63], n: usize) -> [f64; 63]
+    ensures { λ r. ⌜ r ≡ cond (ltb 20 n) (replicate 63 nought) (vectorArray (vectorNumbers (now (a .entry))) n) ⌝ }
+{
+    if 20 < n {
+        return [0.0f64; 63];
+    }
+    vector_entries::taken(a, 0, n)
+}
+
 pub fn difference(a: &[f64; 63], b: &[f64; 63], n: usize) -> [f64; 63]
     ensures { λ r. ⌜ r ≡ cond (ltb 20 n) (replicate 63 nought) (vectorArray (differences vectors (vectorNumbers (now (a .entry))) (vectorNumbers (now (b .entry)))) n) ⌝ }
 {
@@ -64,6 +73,25 @@ pub fn difference(a: &[f64; 63], b: &[f64; 63], n: usize) -> [f64; 63]
     }
     let z = [0.0f64; 21];
     vector_entries::entries(VectorFormula::Difference, a, b, &z, n)
+}
+
+pub fn crosses(a: &[f64; 63], b: &[f64; 63], n: usize) -> [f64; 63]
+    ensures { λ r. ⌜ r ≡ cond (ltb 20 n) (replicate 63 nought) (vectorArray (productBy vectors crossOf (vectorNumbers (now (a .entry))) (vectorNumbers (now (b .entry)))) n) ⌝ }
+{
+    if 20 < n {
+        return [0.0f64; 63];
+    }
+    let z = [0.0f64; 21];
+    vector_entries::entries(VectorFormula::Cross, a, b, &z, n)
+}
+
+pub fn dots(a: &[f64; 63], b: &[f64; 63], n: usize) -> [f64; 21]
+    ensures { λ r. ⌜ r ≡ cond (ltb 20 n) (replicate 21 nought) (curveArray nought (productBy (regular real) dotOf (vectorNumbers (now (a .entry))) (vectorNumbers (now (b .entry)))) n) ⌝ }
+{
+    if 20 < n {
+        return [0.0f64; 21];
+    }
+    vector_entries::numbers(NumberFormula::Dot, a, b, n)
 }
 
 pub fn rational(a: &[f64; 63], w: &[f64; 21], n: usize) -> [f64; 63]

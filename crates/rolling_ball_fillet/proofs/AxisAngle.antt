@@ -82,7 +82,7 @@ angles-upto angle n f g h (suc m) l = h m l
 
 -- ---- arrays that hold the arms p and q, and what is worked out from them in turn: the crosses, their lengths, the axis and the angle
 module _ (p q : ℕ → Vector3) (n : ℕ) (h : n ≤ 20) {pa qa xa la : List Float} (ep : pa ≡ vectorArray p n) (eq : qa ≡ vectorArray q n)
-    (ex : xa ≡ vectorArray (crosses (vectorNumbers pa) (vectorNumbers qa)) n)
+    (ex : xa ≡ cond (ltb 20 n) (replicate 63 nought) (vectorArray (crosses (vectorNumbers pa) (vectorNumbers qa)) n))
     (el : la ≡ cond (ltb 20 n) (replicate 21 nought) (curveArray nought (vectorNorm (vectorNumbers xa)) n)) where
   first-arm : CurvesAgree n (vectorNumbers pa) p
   first-arm = vectors-agree p n h ep
@@ -91,7 +91,9 @@ module _ (p q : ℕ → Vector3) (n : ℕ) (h : n ≤ 20) {pa qa xa la : List Fl
   second-arm = vectors-agree q n h eq
 
   crosses-held : CurvesAgree n (vectorNumbers xa) (crosses p q)
-  crosses-held i l = vectors-agree (crosses (vectorNumbers pa) (vectorNumbers qa)) n h ex i l ∙ productBy-upto vectors n cross first-arm second-arm i l
+  crosses-held i l =
+      vectors-agree (crosses (vectorNumbers pa) (vectorNumbers qa)) n h (ex ∙ served 20 n (replicate 63 nought) (vectorArray (crosses (vectorNumbers pa) (vectorNumbers qa)) n) h) i l
+      ∙ productBy-upto vectors n cross first-arm second-arm i l
 
   lengths-held : CurvesAgree n (curveNumbers la) (lengths p q)
   lengths-held i l =

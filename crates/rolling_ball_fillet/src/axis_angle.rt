@@ -6,7 +6,7 @@ ghost use Rattle.calculus.specs.Array.{filled, curveArray};
 ghost use Rattle.vectors.specs.Answers.{nought};
 ghost use Rattle.derivatives.specs.Answer.{curveNumbers};
 ghost use Rattle.derivatives.specs.Vector.{vectorNumbers, vectorArray};
-ghost use Rattle.rolling_ball_fillet.specs.AxisAngle.{arm as armOf, crosses as crossesOf, dots as dotsOf, rateEntry, rates as ratesOf, turnEntry, turns as turnsOf, angles as anglesFrom};
+ghost use Rattle.rolling_ball_fillet.specs.AxisAngle.{arm as armOf, dots as dotsOf, rateEntry, rates as ratesOf, turnEntry, turns as turnsOf, angles as anglesFrom};
 ghost use Rattle.rolling_ball_fillet.specs.AxisAngle.{clamped as clampedOf, cosine as cosineOf, divisionByZero};
 ghost use Rattle.rolling_ball_fillet.specs.PartialAnswer.{refusedInfo, vderInfo};
 use crate::CenterContactDers;
@@ -27,36 +27,6 @@ fn arm(contact: VectorCurveDerivatives, center: VectorCurveDerivatives, n: usize
     let x = contact.entries;
     let y = center.entries;
     raw::difference(&x, &y, n)
-}
-
-// The entries up to the order n of p × q and of p · q.
-fn crosses(p: &[f64; 63], q: &[f64; 63], n: usize) -> [f64; 63]
-    requires { ⌜ n ≤ 20 ⌝ }
-    ensures { λ r. ⌜ r ≡ vectorArray (crossesOf (vectorNumbers (now (p .entry))) (vectorNumbers (now (q .entry)))) n ⌝ }
-{
-    let mut r = [0.0f64; 63];
-    let mut m = 0;
-    while m <= n {
-        let e = raw::cross(p, q, m);
-        let more = arrays::put(r, m, e);
-        r = more;
-        m += 1;
-    }
-    r
-}
-
-fn dots(p: &[f64; 63], q: &[f64; 63], n: usize) -> [f64; 21]
-    requires { ⌜ n ≤ 20 ⌝ }
-    ensures { λ r. ⌜ r ≡ curveArray nought (dotsOf (vectorNumbers (now (p .entry))) (vectorNumbers (now (q .entry)))) n ⌝ }
-{
-    let mut r = [0.0f64; 21];
-    let mut m = 0;
-    while m <= n {
-        let e = raw::dot(p, q, m);
-        r[m] = e;
-        m += 1;
-    }
-    r
 }
 
 // The entry m of r'/r, from the entries q before it; then its entries up to the order n.
@@ -136,7 +106,7 @@ fn angles(
     ensures { λ x. ⌜ x ≡ curveArray nought (anglesFrom angle (turnsOf (ratesOf (curveNumbers (now (r .entry)))) (dotsOf (vectorNumbers (now (p .entry))) (vectorNumbers (now (q .entry)))) (curveNumbers (now (length .entry))))) n ⌝ }
 {
     let rate = rates(r, n);
-    let dot = dots(p, q, n);
+    let dot = raw::dots(p, q, n);
     let turn = turns(&rate, &dot, length, n);
     with_angle(angle, &turn, n)
 }
@@ -193,7 +163,7 @@ pub fn vder_info(d: CenterContactDers, r: &[f64; 21], angle: f64, n: usize) -> V
 {
     let p = arm(d.contact0_ders, d.center_ders, n);
     let q = arm(d.contact1_ders, d.center_ders, n);
-    let cross = crosses(&p, &q, n);
+    let cross = raw::crosses(&p, &q, n);
     let length = raw::norm(&cross, n);
     let l0 = length[0];
     let r0 = r[0];

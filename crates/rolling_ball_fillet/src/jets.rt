@@ -4,7 +4,7 @@ ghost use Prim.Native.Nat.{_≤_, _<_};
 ghost use Rattle.calculus.specs.Array.{curveArray};
 ghost use Rattle.vectors.specs.Answers.{nought};
 ghost use Rattle.derivatives.specs.Answer.{curveNumbers};
-ghost use Rattle.derivatives.specs.Vector.{vectorNumbers, vectorSurfaceNumbers, vectorArray, finiteVectorSurface};
+ghost use Rattle.derivatives.specs.Vector.{vectorNumbers, vectorSurfaceNumbers, finiteVectorSurface};
 ghost use Rattle.rolling_ball_fillet.specs.Jets.{noVectors, noParameter, noDers, cutVectors, cutParameter, cutDers};
 ghost use Rattle.rolling_ball_fillet.specs.Jets.{farContacts, shortContacts, finiteJet, finiteNumbers, finiteParameter};
 use crate::CenterContactDers;
@@ -73,21 +73,6 @@ pub fn no_ders() -> CenterContactDers
 }
 
 // The entries up to the order n, and zeros past them.
-fn cut_entries(a: &[f64; 63], n: usize) -> [f64; 63]
-    requires { ⌜ n ≤ 20 ⌝ }
-    ensures { λ r. ⌜ r ≡ vectorArray (vectorNumbers (now (a .entry))) n ⌝ }
-{
-    let mut r = [0.0f64; 63];
-    let mut m = 0;
-    while m <= n {
-        let e = arrays::vector_at(a, m);
-        let more = arrays::put(r, m, e);
-        r = more;
-        m += 1;
-    }
-    r
-}
-
 fn cut_numbers(a: &[f64; 21], n: usize) -> [f64; 21]
     requires { ⌜ n ≤ 20 ⌝ }
     ensures { λ r. ⌜ r ≡ curveArray nought (curveNumbers (now (a .entry))) n ⌝ }
@@ -106,7 +91,7 @@ pub fn cut_vectors(a: VectorCurveDerivatives, n: usize) -> VectorCurveDerivative
     ensures { λ r. ⌜ r ≡ cutVectors a n ⌝ }
 {
     let x = a.entries;
-    let y = cut_entries(&x, n);
+    let y = raw::cut(&x, n);
     VectorCurveDerivatives {
         order: n,
         entries: y,

@@ -3,8 +3,10 @@ use Rattle.derivatives.specs.Answer.{curveNumbers}
 use Rattle.derivatives.specs.Vector.{vectorNumbers}
 use Rattle.vectors.specs.Answers.{nought}
 use Rattle.rolling_ball_fillet.specs.AxisAngle.{rates, dots, turns, angles}
-use Rattle.rolling_ball_fillet.proofs.Entries.{numbers-held, numbers-agree}
+use Rattle.rolling_ball_fillet.proofs.Entries.{served, numbers-held, numbers-agree}
 use Rattle.calculus.proofs.Same.{filled-same}
+use Rattle.calculus.specs.Array.{curveArray}
+use lib.ListN.{replicate}
 use Rattle.rolling_ball_fillet.proofs.AxisAngle.{turns-upto, angles-upto}
 use borrow.Author.Needs.{needs}
 use denote.Ref.{now}
@@ -40,7 +42,7 @@ returns c =
     let f = curveNumbers (c .before .before .turns .result) in
     let g = turns (rates r) (dots p q) l in
     let held = numbers-held (turns rate dot l) n (omega arith) (c .before .before .turns .ensures) in
-    let same = turns-upto rate (rates r) dot (dots p q) l l n (numbers-agree (rates r) n h (c .before .before .before .before .before .before .rates .ensures)) (numbers-agree (dots p q) n h (c .before .before .before .before .before .dots .ensures)) (λ i a. refl) in
+    let same = turns-upto rate (rates r) dot (dots p q) l l n (numbers-agree (rates r) n h (c .before .before .before .before .before .before .rates .ensures)) (numbers-agree (dots p q) n h (c .before .before .before .before .before .dots .ensures ∙ served 20 n (replicate 21 nought) (curveArray nought (dots p q) n) h)) (λ i a. refl) in
     c .with-angle .ensures
     ∙ filled-same 21 (suc n) nought (angles (s .angle) f) (angles (s .angle) g) (λ k b. angles-upto (s .angle) n f g (λ m a. held m a ∙ same m a) k (omega arith))
 
