@@ -1,12 +1,12 @@
 -- The jets that stand for the ball's centre and contacts: none beside a refusal, cut to an order, and tested up to one. Assumes nothing.
 use Prim.Native.Nat.{ℕ, suc}
-use mathlib.Core.Bool.{Bool, _&&_, _||_}
+use mathlib.Core.Bool.{Bool, _||_}
 use lib.Dec.{ltb}
-use lib.ListN.{replicate}
 use Rattle.calculus.specs.Array.{curveArray}
 use Rattle.vectors.specs.Answers.{nought}
-use Rattle.derivatives.specs.Answer.{curveNumbers, finiteCurve}
+use Rattle.derivatives.specs.Answer.{curveNumbers, finiteCurve, refusedCurve, refusedParameter, parameters}
 use Rattle.derivatives.specs.Vector.{vectorNumbers, vectorArray, finiteVectorCurve}
+use Rattle.derivatives.specs.VectorAnswer.{refusedVectorCurve}
 use Rattle.derivatives.specs.declared.CurveDerivatives.{CurveDerivatives}
 use Rattle.derivatives.specs.declared.ParameterCurve.{ParameterCurve}
 use Rattle.derivatives.specs.declared.VectorCurveDerivatives.{VectorCurveDerivatives}
@@ -14,13 +14,13 @@ use Rattle.rolling_ball_fillet.specs.declared.CenterContactDers.{CenterC
 
 -- ---- the zero jets of order 0, which stand beside a refusal
 abbrev pub noVectors : VectorCurveDerivatives
-noVectors = record { order = 0; entries = replicate 63 nought }
+noVectors = refusedVectorCurve 0 .jet
 
 abbrev pub noNumbers : CurveDerivatives
-noNumbers = record { order = 0; entries = replicate 21 nought }
+noNumbers = refusedCurve 0 .jet
 
 abbrev pub noParameter : ParameterCurve
-noParameter = record { order = 0; u = replicate 21 nought; v = replicate 21 nought }
+noParameter = refusedParameter 0 .jet
 
 abbrev pub noDers : CenterContactDers
 noDers = record { «center_ders» = noVectors; «contact0_ders» = noVectors; «contact1_ders» = noVectors; «uv0_ders» = noParameter; «uv1_ders» = noParameter }
@@ -57,4 +57,4 @@ abbrev pub finiteNumbers : CurveDerivatives → ℕ → Bool
 finiteNumbers a n = finiteCurve (curveNumbers (a .entries)) n
 
 abbrev pub finiteParameter : ParameterCurve → ℕ → Bool
-finiteParameter a n = finiteCurve (curveNumbers (a .u)) n && finiteCurve (curveNumbers (a .v)) n
+finiteParameter a = parameters .finite (parameters .numbers a)
