@@ -13,8 +13,8 @@ use lib.Ieee.Scale.{finite}
 use Rattle.ieee.specs.SquareRoot.{squareRoot}
 
 -- +0, as the code writes it
-abbrev pub nought : Float
-nought = ofBits binary64 0
+abbrev pub positiveZero : Float
+positiveZero = ofBits binary64 0
 
 none : (d u : ℕ) → 0 * d < 0 * u * 1 → ⊥
 none d u h = omega arith
@@ -28,7 +28,7 @@ above u m d h = omega arith
 false-is-true : {X : Type 0} {b : Bool} → b ≡ false → b ≡ true → X
 false-is-true e f = absurd (true≢false (sym f ∙ e))
 
-pub is-positive : (x : Float) → lt nought x ≡ true → finite x ≡ true → T (positive x)
+pub is-positive : (x : Float) → lt positiveZero x ≡ true → finite x ≡ true → T (positive x)
 unfolding lt ofBits
 is-positive nan l f = absurd (true≢false (sym f))
 is-positive (inf s) l f = absurd (true≢false (sym f))
@@ -36,7 +36,7 @@ is-positive (fin true m e) l f = absurd (true≢false (sym l))
 is-positive (fin false zero e) l f = absurd (none (down e) (up e) (ltb-true (0 * down e) (0 * up e * 1) l))
 is-positive (fin false (suc m) e) l f = lt→ltb 0 (suc m) (zero-lt-suc m)
 
-pub at-infinity : (x : Float) → lt nought x ≡ true → finite x ≡ false → x ≡ squareRoot x
+pub at-infinity : (x : Float) → lt positiveZero x ≡ true → finite x ≡ false → x ≡ squareRoot x
 unfolding lt ofBits squareRoot
 at-infinity nan l f = refl
 at-infinity (inf true) l f = absurd (true≢false (sym l))
@@ -47,7 +47,7 @@ and-first : (a b : Bool) → (a && b) ≡ true → a ≡ true
 and-first true b e = refl
 and-first false b e = e
 
-pub at-zero : (x : Float) → eq x nought ≡ true → x ≡ squareRoot x
+pub at-zero : (x : Float) → eq x positiveZero ≡ true → x ≡ squareRoot x
 unfolding eq ofBits squareRoot
 at-zero nan q = refl
 at-zero (inf s) q = absurd (true≢false (sym q))
@@ -64,7 +64,7 @@ zeros false a b p q = ap (λ (x : ℕ). eqb x b && (true || eqb x 0)) p ∙ ap (
 no-size : (u : ℕ) → 0 * u * 1 ≡ 0
 no-size u = omega arith
 
-pub below-zero : (x : Float) → lt nought x ≡ false → eq x nought ≡ false → div binary64 nought nought ≡ squareRoot x
+pub below-zero : (x : Float) → lt positiveZero x ≡ false → eq x positiveZero ≡ false → div binary64 positiveZero positiveZero ≡ squareRoot x
 unfolding lt eq div ofBits squareRoot
 below-zero nan l q = refl
 below-zero (inf true) l q = refl

@@ -4,8 +4,6 @@ use mathlib.Core.Bool.{true, false}
 use Prim.Native.Nat.{ℕ}
 use lib.Ieee.{nan, inf, binary64, ofBits, toBits}
 use Rattle.ieee.specs.SquareRoot.{squareRoot}
-use Rattle.ieee.specs.Answer.{rootAnswer}
-use Rattle.ieee.specs.declared.Real.the-variants.{Refused}
 
 -- the bits of the root of the float with the bits b
 abbrev pub rootBits : ℕ → ℕ
@@ -51,13 +49,3 @@ root-of-minus-infinity = refl
 pub root-of-infinity : squareRoot (inf false) ≡ inf false
 unfolding squareRoot
 root-of-infinity = refl
-
-pub answer-of-minus-one : rootAnswer (ofBits binary64 0xBFF0_0000_0000_0000) ≡ Refused 10
-unfolding squareRoot ofBits
-answer-of-minus-one = refl
-
-pub answer-of-infinity : rootAnswer (inf false) ≡ Refused 5
-answer-of-infinity = refl
-
-pub answer-of-nan : rootAnswer nan ≡ Refused 5
-answer-of-nan = refl

@@ -7,7 +7,7 @@ use lib.Dec.{T}
 use lib.Ieee.{Float, nan, inf, fin, binary64, div, ne, ofBits, toBits, nanBits, isNan}
 use lib.Ieee.Bits.{nanBits-is, nanBits-above}
 use lib.Ieee.Compare.{differs-from-itself, nan-differs}
-use Rattle.ieee.proofs.Cases.{nought}
+use Rattle.ieee.proofs.Cases.{positiveZero}
 
 only-nan : (x : Float) → isNan x ≡ true → nan ≡ x
 unfolding isNan
@@ -15,13 +15,13 @@ only-nan nan e = refl
 only-nan (inf s) e = absurd (true≢false (sym e))
 only-nan (fin s m e) h = absurd (true≢false (sym h))
 
-nought-over-nought : div binary64 nought nought ≡ nan
+zero-over-zero : div binary64 positiveZero positiveZero ≡ nan
 unfolding div ofBits
-nought-over-nought = refl
+zero-over-zero = refl
 
-pub nan-pattern : (b : ℕ) → 2047 * 2 ^ 52 < b % 2 ^ 63 → div binary64 nought nought ≡ ofBits binary64 b
+pub nan-pattern : (b : ℕ) → 2047 * 2 ^ 52 < b % 2 ^ 63 → div binary64 positiveZero positiveZero ≡ ofBits binary64 b
 nan-pattern b h =
-    nought-over-nought
+    zero-over-zero
     ∙ only-nan (ofBits binary64 b) (sym (nanBits-is binary64 b) ∙ nanBits-above binary64 b ∙ lt-ltb (2047 * 2 ^ 52) (b % 2 ^ 63) h)
 
 pub other-pattern : (b : ℕ) → b % 2 ^ 63 ≤ 2047 * 2 ^ 52 → T (not (nanBits binary64 b))

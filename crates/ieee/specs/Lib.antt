@@ -1,3 +1,2 @@
 pub mod SquareRoot
-pub mod Answer
 pub mod Nearest

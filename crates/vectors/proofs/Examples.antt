@@ -1,29 +1,31 @@
 -- The definitions at some values, computed, and a small input for each refusal. Assumes nothing.
 use mathlib.Core.Path.{_≡_, refl}
-use mathlib.Core.Bool.{true}
+use mathlib.Core.Bool.{true, false}
 use lib.Ieee
-use lib.Ieee.{nan, binary64, ofBits, add, sub, mul, div, eq}
+use lib.Ieee.{nan, inf, binary64, ofBits, add, sub, mul, div, eq}
 use Rattle.ieee.specs.SquareRoot.{squareRoot}
-use Rattle.vectors.specs.Vectors.{vector, multiple, cross, magnitude}
-use Rattle.vectors.specs.Matrices.{square, columns, inverse2, inverse3, image3}
-use Rattle.vectors.specs.Answers.{nought, vectorFrom, quotientFrom, finiteVector, inverseAnswer2, inverseAnswer3, refused2, refused3}
-use Rattle.vectors.specs.declared.Matrix3.{Matrix3}
+use Rattle.ieee_vectors.specs.Vectors.{vector, multiple, cross, magnitude, positiveZero}
+use Rattle.ieee_vectors.specs.Matrices.{square, columns, inverse2, inverse3, image3}
+use Rattle.vectors.specs.Answers.{vectorFrom, quotientFrom, inverseAnswer2, inverseAnswer3, refused2, refused3, rootAnswer}
+use Rattle.ieee_vectors.specs.Finite.{finiteVector}
+use Rattle.ieee_vectors.specs.declared.Matrix3.{Matrix3}
+use Rattle.vectors.specs.declared.Real.the-variants as real
 use Rattle.vectors.specs.declared.VectorAnswer.the-variants.{Refused}
-use Rattle.vectors.proofs.Floats.{one, two, three, four, five, huge}
+use Rattle.ieee_vectors.proofs.Floats.{one, two, three, four, five, huge}
 
-pub magnitude-3-4-0 : magnitude (vector three four nought) ≡ five
+pub magnitude-3-4-0 : magnitude (vector three four positiveZero) ≡ five
 unfolding squareRoot add mul ofBits
 magnitude-3-4-0 = refl
 
 -- x × y is z
-pub cross-x-y : cross (vector one nought nought) (vector nought one nought) ≡ vector nought nought one
+pub cross-x-y : cross (vector one positiveZero positiveZero) (vector positiveZero one positiveZero) ≡ vector positiveZero positiveZero one
 unfolding sub mul ofBits
 cross-x-y = refl
 
 abbrev doubling : Matrix3
-doubling = columns (vector two nought nought) (vector nought two nought) (vector nought nought two)
+doubling = columns (vector two positiveZero positiveZero) (vector positiveZero two positiveZero) (vector positiveZero positiveZero two)
 
-pub inverse-of-doubling : image3 (inverse3 doubling) (vector two four nought) ≡ vector one two nought
+pub inverse-of-doubling : image3 (inverse3 doubling) (vector two four positiveZero) ≡ vector one two positiveZero
 unfolding add sub mul div ofBits
 inverse-of-doubling = refl
 
@@ -40,7 +42,7 @@ pub overflow : vectorFrom true (multiple (vector huge one one) huge) ≡ Refused
 unfolding mul ofBits
 overflow = refl
 
-pub by-zero : quotientFrom true (vector four one one) nought ≡ Refused 7
+pub by-zero : quotientFrom true (vector four one one) positiveZero ≡ Refused 7
 unfolding eq ofBits
 by-zero = refl
 
@@ -49,6 +51,16 @@ unfolding eq sub mul ofBits
 singular-2 = refl
 
 -- two equal columns
-pub singular-3 : inverseAnswer3 (columns (vector one nought nought) (vector nought one nought) (vector nought one nought)) ≡ refused3 6
+pub singular-3 : inverseAnswer3 (columns (vector one positiveZero positiveZero) (vector positiveZero one positiveZero) (vector positiveZero one positiveZero)) ≡ refused3 6
 unfolding eq add sub mul ofBits
 singular-3 = refl
+
+pub answer-of-minus-one : rootAnswer (ofBits binary64 0xBFF0_0000_0000_0000) ≡ real.Refused 10
+unfolding squareRoot ofBits
+answer-of-minus-one = refl
+
+pub answer-of-infinity : rootAnswer (inf false) ≡ real.Refused 5
+answer-of-infinity = refl
+
+pub answer-of-nan : rootAnswer nan ≡ real.Refused 5
+answer-of-nan = refl

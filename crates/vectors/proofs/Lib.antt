@@ -1,4 +1,2 @@
-pub mod Alike
 pub mod Picked
-pub mod Floats
 pub mod Examples

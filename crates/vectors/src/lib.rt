@@ -1,42 +1,32 @@
-// Vectors and matrices of floats by value, each operation rounded in document 01's order ("Vectors"). A NaN or an infinity passes through
-// them; the functions of `answers` refuse.
+// Single floats, vectors and matrices as a tool maker calls their operations: a value, or a refusal. 5: an input is not finite; 6: a determinant
+// equals zero; 7: a division by zero is due; 10: a returned float is not finite. The types are those of `ieee_vectors`.
 ghost use mathlib.Core.Path.{_≡_};
-ghost use Rattle.vectors.specs.Vectors.{sum, difference, negative, multiple, quotient, dot, dot2, cross, magnitude};
-ghost use Rattle.vectors.specs.Matrices.{determinant2, inverse2, negative2, image2};
-ghost use Rattle.vectors.specs.Matrices.{transposed, determinant3, inverse3, image3, sum3, multiple3};
-ghost use Rattle.vectors.specs.Answers.{finiteVector, finiteMatrix2, finiteMatrix3};
+ghost use mathlib.Core.Bool.{_&&_};
+ghost use lib.Ieee.Scale.{finite};
+ghost use Rattle.ieee_vectors.specs.Vectors.{sum, difference, multiple, dot, cross, magnitude};
+ghost use Rattle.ieee_vectors.specs.Matrices.{determinant2, determinant3, image2, image3};
+ghost use Rattle.ieee_vectors.specs.Finite.{finiteVector2, finiteVector, finiteMatrix2, finiteMatrix3};
+ghost use Rattle.vectors.specs.Answers.{returned as returnedReal, realFrom, rootAnswer, returnedVector2, vector2From, returnedVector, vectorFrom, quotientFrom, inverseAnswer2, inverseAnswer3, refused2 as refusedBy2, refused3 as refusedBy3, returned2 as returnedBy2, returned3 as returnedBy3};
+use booleans::both;
+pub use ieee_vectors::Matrix2;
+pub use ieee_vectors::Matrix3;
+pub use ieee_vectors::Vector2;
+pub use ieee_vectors::Vector3;
 
-pub mod answers;
-
-pub struct Vector2 {
-    pub x: f64,
-    pub y: f64,
-}
-
-pub struct Vector3 {
-    pub x: f64,
-    pub y: f64,
-    pub z: f64,
-}
-
-// (a b; c d)
-pub struct Matrix2 {
-    pub a: f64,
-    pub b: f64,
-    pub c: f64,
-    pub d: f64,
-}
-
-// By its columns.
-pub struct Matrix3 {
-    pub c0: Vector3,
-    pub c1: Vector3,
-    pub c2: Vector3,
+// A float, or the number of a refusal.
+pub enum Real {
+    Value(f64),
+    Refused(u8),
 }
 
 // A vector, or the number of a refusal.
 pub enum VectorAnswer {
     Value(Vector3),
+    Refused(u8),
+}
+
+pub enum Vector2Answer {
+    Value(Vector2),
     Refused(u8),
 }
 
@@ -51,240 +41,231 @@ pub struct Matrix3Answer {
     pub matrix: Matrix3,
 }
 
-impl Vector2 {
-    pub fn dot(self, b: Vector2) -> f64
-        ensures { λ r. ⌜ r ≡ dot2 self b ⌝ }
-    {
-        self.x * b.x + self.y * b.y
+// A float that is to be returned: 10 where it is not finite.
+pub fn returned(y: f64) -> Real
+    ensures { λ r. ⌜ r ≡ returnedReal y ⌝ }
+{
+    if ieee::is_finite(y) {
+        return Real::Value(y);
+    }
+    Real::Refused(10)
+}
+
+// From inputs that are all finite, or not: 5 where they are not.
+pub fn real_from(inputs: bool, y: f64) -> Real
+    ensures { λ r. ⌜ r ≡ realFrom inputs y ⌝ }
+{
+    if inputs {
+        return returned(y);
+    }
+    Real::Refused(5)
+}
+
+// The root, or a refusal.
+pub fn square_root(x: f64) -> Real
+    ensures { λ r. ⌜ r ≡ rootAnswer x ⌝ }
+{
+    real_from(ieee::is_finite(x), ieee::unchecked_sqrt(x))
+}
+
+// A vector that is to be returned: 10 where it is not finite.
+pub fn returned_vector(v: Vector3) -> VectorAnswer
+    ensures { λ r. ⌜ r ≡ returnedVector v ⌝ }
+{
+    if v.is_finite() {
+        return VectorAnswer::Value(v);
+    }
+    VectorAnswer::Refused(10)
+}
+
+// From inputs that are all finite, or not: 5 where they are not.
+pub fn vector_from(inputs: bool, v: Vector3) -> VectorAnswer
+    ensures { λ r. ⌜ r ≡ vectorFrom inputs v ⌝ }
+{
+    if inputs {
+        return returned_vector(v);
+    }
+    VectorAnswer::Refused(5)
+}
+
+// The same of a vector of two floats.
+fn returned_vector2(v: Vector2) -> Vector2Answer
+    ensures { λ r. ⌜ r ≡ returnedVector2 v ⌝ }
+{
+    if v.is_finite() {
+        return Vector2Answer::Value(v);
+    }
+    Vector2Answer::Refused(10)
+}
+
+fn vector2_from(inputs: bool, v: Vector2) -> Vector2Answer
+    ensures { λ r. ⌜ r ≡ vector2From inputs v ⌝ }
+{
+    if inputs {
+        return returned_vector2(v);
+    }
+    Vector2Answer::Refused(5)
+}
+
+pub fn vector_sum(a: Vector3, b: Vector3) -> VectorAnswer
+    ensures { λ r. ⌜ r ≡ vectorFrom (finiteVector a && finiteVector b) (sum a b) ⌝ }
+{
+    let inputs = both(a.is_finite(), b.is_finite());
+    vector_from(inputs, a.add(b))
+}
+
+pub fn vector_difference(a: Vector3, b: Vector3) -> VectorAnswer
+    ensures { λ r. ⌜ r ≡ vectorFrom (finiteVector a && finiteVector b) (difference a b) ⌝ }
+{
+    let inputs = both(a.is_finite(), b.is_finite());
+    vector_from(inputs, a.sub(b))
+}
+
+pub fn vector_multiple(a: Vector3, s: f64) -> VectorAnswer
+    ensures { λ r. ⌜ r ≡ vectorFrom (finiteVector a && finite s) (multiple a s) ⌝ }
+{
+    let inputs = both(a.is_finite(), ieee::is_finite(s));
+    vector_from(inputs, a.mul(s))
+}
+
+pub fn vector_quotient(a: Vector3, s: f64) -> VectorAnswer
+    ensures { λ r. ⌜ r ≡ quotientFrom (finiteVector a && finite s) a s ⌝ }
+{
+    if both(a.is_finite(), ieee::is_finite(s)) {
+        if s == 0.0 {
+            return VectorAnswer::Refused(7);
+        }
+        return returned_vector(a.unchecked_div(s));
+    }
+    VectorAnswer::Refused(5)
+}
+
+pub fn vector_cross(a: Vector3, b: Vector3) -> VectorAnswer
+    ensures { λ r. ⌜ r ≡ vectorFrom (finiteVector a && finiteVector b) (cross a b) ⌝ }
+{
+    let inputs = both(a.is_finite(), b.is_finite());
+    vector_from(inputs, a.cross(b))
+}
+
+pub fn vector_dot(a: Vector3, b: Vector3) -> Real
+    ensures { λ r. ⌜ r ≡ realFrom (finiteVector a && finiteVector b) (dot a b) ⌝ }
+{
+    let inputs = both(a.is_finite(), b.is_finite());
+    real_from(inputs, a.dot(b))
+}
+
+pub fn vector_magnitude(a: Vector3) -> Real
+    ensures { λ r. ⌜ r ≡ realFrom (finiteVector a) (magnitude a) ⌝ }
+{
+    let inputs = a.is_finite();
+    real_from(inputs, a.magnitude())
+}
+
+pub fn matrix2_determinant(m: Matrix2) -> Real
+    ensures { λ r. ⌜ r ≡ realFrom (finiteMatrix2 m) (determinant2 m) ⌝ }
+{
+    let inputs = m.is_finite();
+    real_from(inputs, m.determinant())
+}
+
+pub fn matrix3_determinant(m: Matrix3) -> Real
+    ensures { λ r. ⌜ r ≡ realFrom (finiteMatrix3 m) (determinant3 m) ⌝ }
+{
+    let inputs = m.is_finite();
+    real_from(inputs, m.determinant())
+}
+
+pub fn matrix2_image(m: Matrix2, v: Vector2) -> Vector2Answer
+    ensures { λ r. ⌜ r ≡ vector2From (finiteMatrix2 m && finiteVector2 v) (image2 m v) ⌝ }
+{
+    let inputs = both(m.is_finite(), v.is_finite());
+    vector2_from(inputs, m.image(v))
+}
+
+pub fn matrix3_image(m: Matrix3, v: Vector3) -> VectorAnswer
+    ensures { λ r. ⌜ r ≡ vectorFrom (finiteMatrix3 m && finiteVector v) (image3 m v) ⌝ }
+{
+    let inputs = both(m.is_finite(), v.is_finite());
+    vector_from(inputs, m.image(v))
+}
+
+fn refused2(n: u8) -> Matrix2Answer
+    ensures { λ r. ⌜ r ≡ refusedBy2 n ⌝ }
+{
+    Matrix2Answer {
+        refusal: n,
+        matrix: Matrix2 {
+            a: 0.0,
+            b: 0.0,
+            c: 0.0,
+            d: 0.0,
+        },
     }
 }
 
-impl Vector3 {
-    pub fn is_finite(self) -> bool
-        ensures { λ r. ⌜ r ≡ finiteVector self ⌝ }
-    {
-        let xy = ieee::both(ieee::is_finite(self.x), ieee::is_finite(self.y));
-        ieee::both(xy, ieee::is_finite(self.z))
-    }
-
-    pub fn add(self, b: Vector3) -> Vector3
-        ensures { λ r. ⌜ r ≡ sum self b ⌝ }
-    {
-        Vector3 {
-            x: self.x + b.x,
-            y: self.y + b.y,
-            z: self.z + b.z,
-        }
-    }
-
-    pub fn sub(self, b: Vector3) -> Vector3
-        ensures { λ r. ⌜ r ≡ difference self b ⌝ }
-    {
-        Vector3 {
-            x: self.x - b.x,
-            y: self.y - b.y,
-            z: self.z - b.z,
-        }
-    }
-
-    pub fn neg(self) -> Vector3
-        ensures { λ r. ⌜ r ≡ negative self ⌝ }
-    {
-        Vector3 {
-            x: -self.x,
-            y: -self.y,
-            z: -self.z,
-        }
-    }
-
-    pub fn mul(self, s: f64) -> Vector3
-        ensures { λ r. ⌜ r ≡ multiple self s ⌝ }
-    {
-        Vector3 {
-            x: self.x * s,
-            y: self.y * s,
-            z: self.z * s,
-        }
-    }
-
-    pub fn div(self, s: f64) -> Vector3
-        ensures { λ r. ⌜ r ≡ quotient self s ⌝ }
-    {
-        Vector3 {
-            x: self.x / s,
-            y: self.y / s,
-            z: self.z / s,
-        }
-    }
-
-    pub fn dot(self, b: Vector3) -> f64
-        ensures { λ r. ⌜ r ≡ dot self b ⌝ }
-    {
-        self.x * b.x + self.y * b.y + self.z * b.z
-    }
-
-    pub fn cross(self, b: Vector3) -> Vector3
-        ensures { λ r. ⌜ r ≡ cross self b ⌝ }
-    {
-        Vector3 {
-            x: self.y * b.z - self.z * b.y,
-            y: self.z * b.x - self.x * b.z,
-            z: self.x * b.y - self.y * b.x,
-        }
-    }
-
-    pub fn magnitude(self) -> f64
-        ensures { λ r. ⌜ r ≡ magnitude self ⌝ }
-    {
-        ieee::sqrt(self.dot(self))
-    }
-}
-
-impl Matrix2 {
-    pub fn is_finite(self) -> bool
-        ensures { λ r. ⌜ r ≡ finiteMatrix2 self ⌝ }
-    {
-        let ab = ieee::both(ieee::is_finite(self.a), ieee::is_finite(self.b));
-        let abc = ieee::both(ab, ieee::is_finite(self.c));
-        ieee::both(abc, ieee::is_finite(self.d))
-    }
-
-    pub fn determinant(self) -> f64
-        ensures { λ r. ⌜ r ≡ determinant2 self ⌝ }
-    {
-        self.a * self.d - self.b * self.c
-    }
-
-    pub fn inverse(self) -> Matrix2
-        ensures { λ r. ⌜ r ≡ inverse2 self ⌝ }
-    {
-        let e = self.determinant();
-        Matrix2 {
-            a: self.d / e,
-            b: -self.b / e,
-            c: -self.c / e,
-            d: self.a / e,
-        }
-    }
-
-    pub fn neg(self) -> Matrix2
-        ensures { λ r. ⌜ r ≡ negative2 self ⌝ }
-    {
-        Matrix2 {
-            a: -self.a,
-            b: -self.b,
-            c: -self.c,
-            d: -self.d,
-        }
-    }
-
-    pub fn image(self, v: Vector2) -> Vector2
-        ensures { λ r. ⌜ r ≡ image2 self v ⌝ }
-    {
-        Vector2 {
-            x: self.a * v.x + self.b * v.y,
-            y: self.c * v.x + self.d * v.y,
-        }
-    }
-}
-
-impl Matrix3 {
-    pub fn is_finite(self) -> bool
-        ensures { λ r. ⌜ r ≡ finiteMatrix3 self ⌝ }
-    {
-        let a = self.c0;
-        let b = self.c1;
-        let c = self.c2;
-        let ab = ieee::both(a.is_finite(), b.is_finite());
-        ieee::both(ab, c.is_finite())
-    }
-
-    pub fn transpose(self) -> Matrix3
-        ensures { λ r. ⌜ r ≡ transposed self ⌝ }
-    {
-        let a = self.c0;
-        let b = self.c1;
-        let c = self.c2;
-        Matrix3 {
-            c0: Vector3 {
-                x: a.x,
-                y: b.x,
-                z: c.x,
-            },
-            c1: Vector3 {
-                x: a.y,
-                y: b.y,
-                z: c.y,
-            },
-            c2: Vector3 {
-                x: a.z,
-                y: b.z,
-                z: c.z,
-            },
-        }
-    }
-
-    pub fn determinant(self) -> f64
-        ensures { λ r. ⌜ r ≡ determinant3 self ⌝ }
-    {
-        let a = self.c0;
-        let b = self.c1;
-        let c = self.c2;
-        a.dot(b.cross(c))
-    }
-
-    pub fn inverse(self) -> Matrix3
-        ensures { λ r. ⌜ r ≡ inverse3 self ⌝ }
-    {
-        let a = self.c0;
-        let b = self.c1;
-        let c = self.c2;
-        let e = self.determinant();
-        let rows = Matrix3 {
-            c0: b.cross(c).div(e),
-            c1: c.cross(a).div(e),
-            c2: a.cross(b).div(e),
+fn returned2(m: Matrix2) -> Matrix2Answer
+    ensures { λ r. ⌜ r ≡ returnedBy2 m ⌝ }
+{
+    if m.is_finite() {
+        return Matrix2Answer {
+            refusal: 0,
+            matrix: m,
         };
-        rows.transpose()
     }
+    refused2(10)
+}
 
-    pub fn image(self, v: Vector3) -> Vector3
-        ensures { λ r. ⌜ r ≡ image3 self v ⌝ }
-    {
-        let rows = self.transpose();
-        let a = rows.c0;
-        let b = rows.c1;
-        let c = rows.c2;
-        Vector3 {
-            x: a.dot(v),
-            y: b.dot(v),
-            z: c.dot(v),
+pub fn matrix2_inverse(m: Matrix2) -> Matrix2Answer
+    ensures { λ r. ⌜ r ≡ inverseAnswer2 m ⌝ }
+{
+    if m.is_finite() {
+        if m.determinant() == 0.0 {
+            return refused2(6);
         }
+        return returned2(m.unchecked_inverse());
     }
+    refused2(5)
+}
 
-    pub fn add(self, n: Matrix3) -> Matrix3
-        ensures { λ r. ⌜ r ≡ sum3 self n ⌝ }
-    {
-        let a = self.c0;
-        let b = self.c1;
-        let c = self.c2;
-        Matrix3 {
-            c0: a.add(n.c0),
-            c1: b.add(n.c1),
-            c2: c.add(n.c2),
-        }
+// A refusal has the zero matrix beside it.
+pub fn refused3(n: u8) -> Matrix3Answer
+    ensures { λ r. ⌜ r ≡ refusedBy3 n ⌝ }
+{
+    let zeros = Vector3 {
+        x: 0.0,
+        y: 0.0,
+        z: 0.0,
+    };
+    Matrix3Answer {
+        refusal: n,
+        matrix: Matrix3 {
+            c0: zeros,
+            c1: zeros,
+            c2: zeros,
+        },
     }
+}
 
-    pub fn mul(self, s: f64) -> Matrix3
-        ensures { λ r. ⌜ r ≡ multiple3 self s ⌝ }
-    {
-        let a = self.c0;
-        let b = self.c1;
-        let c = self.c2;
-        Matrix3 {
-            c0: a.mul(s),
-            c1: b.mul(s),
-            c2: c.mul(s),
-        }
+pub fn returned3(m: Matrix3) -> Matrix3Answer
+    ensures { λ r. ⌜ r ≡ returnedBy3 m ⌝ }
+{
+    if m.is_finite() {
+        return Matrix3Answer {
+            refusal: 0,
+            matrix: m,
+        };
     }
+    refused3(10)
+}
+
+pub fn matrix3_inverse(m: Matrix3) -> Matrix3Answer
+    ensures { λ r. ⌜ r ≡ inverseAnswer3 m ⌝ }
+{
+    if m.is_finite() {
+        if m.determinant() == 0.0 {
+            return refused3(6);
+        }
+        return returned3(m.unchecked_inverse());
+    }
+    refused3(5)
 }

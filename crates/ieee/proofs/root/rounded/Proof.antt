@@ -3,7 +3,7 @@ use mathlib.Core.Path.{sym}
 use Prim.Native.Nat.{_+_}
 use borrow.Author.Needs.{needs}
 use borrow.Author.Tests.{lt-ltb, le-ltb}
-use Rattle.ieee.proofs.Tests.{first, second}
+use Rattle.booleans.proofs.Tests.{first, second}
 use Rattle.ieee.proofs.root.rounded.Statement.{statement}
 use Rattle.ieee.proofs.root.rounded.Tie as tie
 
