@@ -43,7 +43,7 @@ module _ {S T A B : Type 0} (P : S → T → Type 0) (R : A → B → Type 0) (M
 
     tensor-alike : {l : List ℕ} → Down n l → length l ≤ n → R (tensor M d b e l) (tensor N d c f l)
     tensor-alike {l} o k =
-        inTurn-alike R R (M .plus) (N .plus) (λ a c b d. r .plus a c b d) _ _ (d ^ length l) (r .nought)
+        inTurn-alike R R (M .plus) (N .plus) (λ a c b d. r .plus a c b d) _ _ (d ^ length l) (r .zero)
         (λ mask g. r .scale _ _ _ _ (q l mask k) (factors-alike (r .one) o (le-refl n) mask))
 
     widen : {k m : ℕ} {l : List ℕ} → Down k l → k ≤ m → Down m l
@@ -52,7 +52,7 @@ module _ {S T A B : Type 0} (P : S → T → Type 0) (R : A → B → Type 0) (M
 
     pub throughLen-alike : (order : ℕ) → order ≤ n → (len : ℕ) → len ≤ n → R (throughLen M d b e order len) (throughLen N d c f order len)
     unfolding throughLen
-    throughLen-alike order g zero h = r .nought
+    throughLen-alike order g zero h = r .zero
     throughLen-alike order g (suc len) h =
         alongList-alike R R (M .plus) (N .plus) (λ a c b d. r .plus a c b d) (summand M d b e) (summand N d c f)
         (throughLen-alike order g len (omega arith)) (sound (suc len) order order)

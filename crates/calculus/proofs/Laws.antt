@@ -23,7 +23,7 @@ use Rattle.calculus.proofs.Fields.{plus, minus, times, algebra, times-c
 use Rattle.calculus.proofs.Entries.{same-entries}
 use Rattle.calculus.proofs.Closed.{surface-times}
 use Rattle.calculus.proofs.Division.{rem-exact}
-use Rattle.calculus.proofs.Quotient.{exact-product, quotient-factor, dividend-factor, surface-exact-product}
+use Rattle.calculus.proofs.Quotient.{exact-product, quotient-factor, quotient-dividend-factor, surface-exact-product}
 
 -- ---- products do not mind the order of their factors
 pub product-comm : (a b : ℕ → ℤ) (m : ℕ) → Curve.product plain a b m ≡ Curve.product plain b a m
@@ -35,11 +35,11 @@ surface-product-comm a b m n =
     surface-product a b m n ∙ ap (λ (x : ℕ → ℕ → ℤ). x m n) (surface-times a b ∙ times-comm 2 a b ∙ sym (surface-times b a)) ∙ sym (surface-product b a m n)
 
 -- ---- a quotient whose divisions are all exact, times the divisor
-pub quotient-times : (n : ℕ) (num d : ℕ → ℤ) → ((m : ℕ) → m ≤ n → remZ (Curve.dividend plain num d m) (d 0) ≡ pos 0) →
+pub quotient-times : (n : ℕ) (num d : ℕ → ℤ) → ((m : ℕ) → m ≤ n → remZ (Curve.quotientDividend plain num d m) (d 0) ≡ pos 0) →
     CurvesAgree n (Curve.product plain (Curve.quotient plain num d) d) num
 quotient-times n num d h m l = product-comm (Curve.quotient plain num d) d m ∙ exact-product n num d h m l
 
-pub surface-quotient-times : (N : ℕ) (num d : ℕ → ℕ → ℤ) → ((m n : ℕ) → m + n ≤ N → remZ (Surface.dividend plain num d m n) (d 0 0) ≡ pos 0) →
+pub surface-quotient-times : (N : ℕ) (num d : ℕ → ℕ → ℤ) → ((m n : ℕ) → m + n ≤ N → remZ (Surface.quotientDividend plain num d m n) (d 0 0) ≡ pos 0) →
     SurfacesAgree N (Surface.product plain (Surface.quotient plain num d) d) num
 surface-quotient-times N num d h m n l = surface-product-comm (Surface.quotient plain num d) d m n ∙ surface-exact-product N num d h m n l
 
@@ -91,11 +91,11 @@ module _ (d : ℕ) (c : ℕ → ℕ → ℤ) where
     unfolding along
     field-quotient = quotient-factor n (along-curve num) (along-curve den) (along-curve q) factor z
 
-    pub field-dividend : (m : ℕ) → m ≤ n → Curve.dividend plain (along-curve num) (along-curve den) m ≡ along-curve q m *ℤ along-curve den 0
+    pub field-dividend : (m : ℕ) → m ≤ n → Curve.quotientDividend plain (along-curve num) (along-curve den) m ≡ along-curve q m *ℤ along-curve den 0
     unfolding along
-    field-dividend = dividend-factor n (along-curve num) (along-curve den) (along-curve q) factor z
+    field-dividend = quotient-dividend-factor n (along-curve num) (along-curve den) (along-curve q) factor z
 
-    pub field-remainder : (m : ℕ) → m ≤ n → remZ (Curve.dividend plain (along-curve num) (along-curve den) m) (along-curve den 0) ≡ pos 0
+    pub field-remainder : (m : ℕ) → m ≤ n → remZ (Curve.quotientDividend plain (along-curve num) (along-curve den) m) (along-curve den 0) ≡ pos 0
     unfolding _⊗_
     field-remainder m l = ap (λ x. remZ x (along-curve den 0)) (field-dividend m l) ∙ rem-exact (along-curve q m) (along-curve den 0)
 
@@ -140,17 +140,17 @@ module _ (u v : ℕ → ℤ) where
     unfolding ones
     carry-quotient = quotient-factor N (carried num) (carried den) (carried q) surface-factor z
 
-    pub carry-dividend : (m : ℕ) → m ≤ N → Curve.dividend plain (carried num) (carried den) m ≡ carried q m *ℤ carried den 0
+    pub carry-dividend : (m : ℕ) → m ≤ N → Curve.quotientDividend plain (carried num) (carried den) m ≡ carried q m *ℤ carried den 0
     unfolding ones
-    carry-dividend = dividend-factor N (carried num) (carried den) (carried q) surface-factor z
+    carry-dividend = quotient-dividend-factor N (carried num) (carried den) (carried q) surface-factor z
 
-    pub carry-remainder : (m : ℕ) → m ≤ N → remZ (Curve.dividend plain (carried num) (carried den) m) (carried den 0) ≡ pos 0
+    pub carry-remainder : (m : ℕ) → m ≤ N → remZ (Curve.quotientDividend plain (carried num) (carried den) m) (carried den 0) ≡ pos 0
     unfolding _⊗_
     carry-remainder m l = ap (λ x. remZ x (carried den 0)) (carry-dividend m l) ∙ rem-exact (carried q m) (carried den 0)
 
   -- a quotient of surfaces, every division of which is exact: it is carried to the quotient of the carried, every division of which is exact
   module _ (N : ℕ) (num den : ℕ → ℕ → ℤ) (z : ¬ (den 0 0 ≡ pos 0))
-      (h : (m n : ℕ) → m + n ≤ N → remZ (Surface.dividend plain num den m n) (den 0 0) ≡ pos 0) where
+      (h : (m n : ℕ) → m + n ≤ N → remZ (Surface.quotientDividend plain num den m n) (den 0 0) ≡ pos 0) where
     abbrev quot : ℕ → ℕ → ℤ
     quot = Surface.quotient plain num den
 
@@ -160,5 +160,5 @@ module _ (u v : ℕ → ℤ) where
     pub exact-carry-quotient : CurvesAgree N (Curve.quotient plain (carried num) (carried den)) (carried quot)
     exact-carry-quotient = carry-quotient N num quot den quot-times-den z
 
-    pub exact-carry-remainder : (m : ℕ) → m ≤ N → remZ (Curve.dividend plain (carried num) (carried den) m) (carried den 0) ≡ pos 0
+    pub exact-carry-remainder : (m : ℕ) → m ≤ N → remZ (Curve.quotientDividend plain (carried num) (carried den) m) (carried den 0) ≡ pos 0
     exact-carry-remainder = carry-remainder N num quot den quot-times-den z

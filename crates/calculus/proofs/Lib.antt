@@ -5,8 +5,12 @@ pub mod Figures
 pub mod Related
 pub mod Rising
 pub mod Alike
+pub mod Operations
 pub mod CarryAlike
 pub mod UpTo
+pub mod Quotients
+pub mod Norms
+pub mod UpToQuotients
 -- the graded index; arrays that are filled in turn; the table of binomial coefficients
 pub mod Layers
 pub mod Graded
@@ -47,3 +51,7 @@ pub mod Left
 pub mod Writing
 pub mod Bits
 pub mod Walking
+pub mod Cut
+pub mod Shifts
+pub mod Terms
+pub mod Orders

@@ -17,7 +17,7 @@ use Rattle.calculus.proofs.Sums.{sum-front}
 use Rattle.calculus.proofs.Binom.{choose-first}
 use Rattle.calculus.proofs.Related.{same}
 use Rattle.calculus.proofs.Rising.{before-below, rising-alike, earlier-row, same-row, risingRows-alike}
-use Rattle.calculus.proofs.Alike.{owed-alike, surface-owed-alike}
+use Rattle.calculus.proofs.Alike.{dividend-alike, surface-dividend-alike}
 use Rattle.calculus.proofs.UpTo.{CurvesAgree, SurfacesAgree}
 use Rattle.calculus.proofs.Plain.{plus-from-zero, minus-turn, plus-rows, minus-rows}
 use Rattle.calculus.proofs.Division.{quot-exact, quot-times}
@@ -46,40 +46,40 @@ module _ (d q : ℕ → ℤ) (m : ℕ) where
   unfolding term rest
   product-is = plus-from-zero term (suc m) ∙ sum-front m term ∙ ap (λ x. x ⊕ rest) term-zero
 
-  owed-is : (num : ℕ → ℤ) → Curve.owed plain num d q m ≡ num m ⊕ neg rest
+  dividend-is : (num : ℕ → ℤ) → Curve.dividend plain num d q m ≡ num m ⊕ neg rest
   unfolding term rest
-  owed-is num = minus-turn (num m) (λ i. term (suc i)) m
+  dividend-is num = minus-turn (num m) (λ i. term (suc i)) m
 
-owed-cong : (num d f g : ℕ → ℤ) (m : ℕ) → ((i : ℕ) → i < m → f i ≡ g i) → Curve.owed plain num d f m ≡ Curve.owed plain num d g m
-owed-cong num d f g m h = owed-alike (λ (a b : ℤ). a ≡ b) plain plain (same plain) m num d num d (λ i l. refl) (λ i l. refl) m (omega arith) f g h
+dividend-cong : (num d f g : ℕ → ℤ) (m : ℕ) → ((i : ℕ) → i < m → f i ≡ g i) → Curve.dividend plain num d f m ≡ Curve.dividend plain num d g m
+dividend-cong num d f g m h = dividend-alike (λ (a b : ℤ). a ≡ b) plain plain (same plain) m num d num d (λ i l. refl) (λ i l. refl) m (omega arith) f g h
 
 module _ (n : ℕ) (num d : ℕ → ℤ) where
-  pub exact-product : ((m : ℕ) → m ≤ n → remZ (Curve.dividend plain num d m) (d 0) ≡ pos 0) →
+  pub exact-product : ((m : ℕ) → m ≤ n → remZ (Curve.quotientDividend plain num d m) (d 0) ≡ pos 0) →
       CurvesAgree n (Curve.product plain d (Curve.quotient plain num d)) num
   exact-product h m l =
       restore (num m) (q m ⊗ d 0) (rest d q m) (Curve.product plain d q m) (product-is d q m)
-      (sym (owed-is d q m num)
-      ∙ owed-cong num d q (before (pos 0) (Curve.quotientEntry plain num d) m) m (λ i k. sym (before-below (pos 0) (Curve.quotientEntry plain num d) m i k))
-      ∙ sym (quot-times (Curve.dividend plain num d m) (d 0) (h m l)))
+      (sym (dividend-is d q m num)
+      ∙ dividend-cong num d q (before (pos 0) (Curve.quotientEntry plain num d) m) m (λ i k. sym (before-below (pos 0) (Curve.quotientEntry plain num d) m i k))
+      ∙ sym (quot-times (Curve.quotientDividend plain num d m) (d 0) (h m l)))
     where
       q : ℕ → ℤ
       q = Curve.quotient plain num d
 
   module _ (q : ℕ → ℤ) (e : CurvesAgree n num (Curve.product plain d q)) where
-    owed-factor : (m : ℕ) → m ≤ n → Curve.owed plain num d q m ≡ q m ⊗ d 0
-    owed-factor m l = owed-is d q m num ∙ balance (num m) (q m ⊗ d 0) (rest d q m) (Curve.product plain d q m) (product-is d q m) (e m l)
+    dividend-factor : (m : ℕ) → m ≤ n → Curve.dividend plain num d q m ≡ q m ⊗ d 0
+    dividend-factor m l = dividend-is d q m num ∙ balance (num m) (q m ⊗ d 0) (rest d q m) (Curve.product plain d q m) (product-is d q m) (e m l)
 
     pub quotient-factor : ¬ (d 0 ≡ pos 0) → CurvesAgree n (Curve.quotient plain num d) q
     quotient-factor z m l =
         rising-alike (λ i (x y : ℤ). x ≡ q i) (pos 0) (pos 0) (Curve.quotientEntry plain num d) (Curve.quotientEntry plain num d) (suc n)
-        (λ i k f g h. ap (λ x. quotZ x (d 0)) (owed-cong num d f q i h ∙ owed-factor i (omega arith)) ∙ quot-exact (q i) (d 0) z) m (omega arith)
+        (λ i k f g h. ap (λ x. quotZ x (d 0)) (dividend-cong num d f q i h ∙ dividend-factor i (omega arith)) ∙ quot-exact (q i) (d 0) z) m (omega arith)
 
-    pub dividend-factor : ¬ (d 0 ≡ pos 0) → (m : ℕ) → m ≤ n → Curve.dividend plain num d m ≡ q m *ℤ d 0
+    pub quotient-dividend-factor : ¬ (d 0 ≡ pos 0) → (m : ℕ) → m ≤ n → Curve.quotientDividend plain num d m ≡ q m *ℤ d 0
     unfolding _⊗_
-    dividend-factor z m l =
-        owed-cong num d (before (pos 0) (Curve.quotientEntry plain num d) m) q m
+    quotient-dividend-factor z m l =
+        dividend-cong num d (before (pos 0) (Curve.quotientEntry plain num d) m) q m
         (λ i k. before-below (pos 0) (Curve.quotientEntry plain num d) m i k ∙ quotient-factor z i (omega arith))
-        ∙ owed-factor m l
+        ∙ dividend-factor m l
 
 -- ---- surfaces
 module _ (d q : ℕ → ℕ → ℤ) (m n : ℕ) where
@@ -104,28 +104,28 @@ module _ (d q : ℕ → ℕ → ℤ) (m n : ℕ) where
       ∙ ap (λ x. x ⊕ sum m (λ i. sum (suc n) (surface-term (suc i)))) (sum-front n (surface-term 0) ∙ ap (λ x. x ⊕ sum n (λ j. surface-term 0 (suc j))) surface-term-zero)
       ∙ add-assoc _ _ _
 
-  surface-owed-is : (num : ℕ → ℕ → ℤ) → Surface.owed plain num d q m n ≡ num m n ⊕ neg surface-rest
+  surface-dividend-is : (num : ℕ → ℕ → ℤ) → Surface.dividend plain num d q m n ≡ num m n ⊕ neg surface-rest
   unfolding surface-term surface-rest
-  surface-owed-is num =
+  surface-dividend-is num =
       minus-rows _ (λ i. surface-term (suc i)) m (suc n)
       ∙ ap (λ x. x ⊕ neg (sum m (λ i. sum (suc n) (surface-term (suc i))))) (minus-turn (num m n) (λ j. surface-term 0 (suc j)) n)
       ∙ add-assoc _ _ _
       ∙ ap (λ x. num m n ⊕ x) (sym (neg-add (sum n (λ j. surface-term 0 (suc j))) (sum m (λ i. sum (suc n) (surface-term (suc i))))))
 
-surface-owed-cong : (num d f g : ℕ → ℕ → ℤ) (N m n : ℕ) → m + n ≤ N → ((i j : ℕ) → i < m → i + j ≤ N → f i j ≡ g i j) → ((j : ℕ) → j < n → f m j ≡ g m j) →
-    Surface.owed plain num d f m n ≡ Surface.owed plain num d g m n
-surface-owed-cong num d f g N m n l above left =
-    surface-owed-alike (λ (a b : ℤ). a ≡ b) plain plain (same plain) N num d num d (λ i j l. refl) (λ i j l. refl) m n l f g above left
+surface-dividend-cong : (num d f g : ℕ → ℕ → ℤ) (N m n : ℕ) → m + n ≤ N → ((i j : ℕ) → i < m → i + j ≤ N → f i j ≡ g i j) → ((j : ℕ) → j < n → f m j ≡ g m j) →
+    Surface.dividend plain num d f m n ≡ Surface.dividend plain num d g m n
+surface-dividend-cong num d f g N m n l above left =
+    surface-dividend-alike (λ (a b : ℤ). a ≡ b) plain plain (same plain) N num d num d (λ i j l. refl) (λ i j l. refl) m n l f g above left
 
 module _ (N : ℕ) (num d : ℕ → ℕ → ℤ) where
-  pub surface-exact-product : ((m n : ℕ) → m + n ≤ N → remZ (Surface.dividend plain num d m n) (d 0 0) ≡ pos 0) →
+  pub surface-exact-product : ((m n : ℕ) → m + n ≤ N → remZ (Surface.quotientDividend plain num d m n) (d 0 0) ≡ pos 0) →
       SurfacesAgree N (Surface.product plain d (Surface.quotient plain num d)) num
   surface-exact-product h m n l =
       restore (num m n) (q m n ⊗ d 0 0) (surface-rest d q m n) (Surface.product plain d q m n) (surface-product-is d q m n)
-      (sym (surface-owed-is d q m n num)
-      ∙ surface-owed-cong num d q (beforeEntry (pos 0) step m n) N m n l
+      (sym (surface-dividend-is d q m n num)
+      ∙ surface-dividend-cong num d q (beforeEntry (pos 0) step m n) N m n l
       (λ i j k w. sym (earlier-row (pos 0) step m n i j k)) (λ j k. sym (same-row (pos 0) step m n j k))
-      ∙ sym (quot-times (Surface.dividend plain num d m n) (d 0 0) (h m n l)))
+      ∙ sym (quot-times (Surface.quotientDividend plain num d m n) (d 0 0) (h m n l)))
     where
       step : (ℕ → ℕ → ℤ) → ℕ → ℕ → ℤ
       step = Surface.quotientEntry plain num d
@@ -134,21 +134,21 @@ module _ (N : ℕ) (num d : ℕ → ℕ → ℤ) where
       q = Surface.quotient plain num d
 
   module _ (q : ℕ → ℕ → ℤ) (e : SurfacesAgree N num (Surface.product plain d q)) where
-    surface-owed-factor : (m n : ℕ) → m + n ≤ N → Surface.owed plain num d q m n ≡ q m n ⊗ d 0 0
-    surface-owed-factor m n l =
-        surface-owed-is d q m n num
+    surface-dividend-factor : (m n : ℕ) → m + n ≤ N → Surface.dividend plain num d q m n ≡ q m n ⊗ d 0 0
+    surface-dividend-factor m n l =
+        surface-dividend-is d q m n num
         ∙ balance (num m n) (q m n ⊗ d 0 0) (surface-rest d q m n) (Surface.product plain d q m n) (surface-product-is d q m n) (e m n l)
 
     pub surface-quotient-factor : ¬ (d 0 0 ≡ pos 0) → SurfacesAgree N (Surface.quotient plain num d) q
     surface-quotient-factor z =
         risingRows-alike (λ i j (x y : ℤ). x ≡ q i j) (pos 0) (pos 0) (Surface.quotientEntry plain num d) (Surface.quotientEntry plain num d) N
         (λ i j l f g above left.
-        ap (λ x. quotZ x (d 0 0)) (surface-owed-cong num d f q N i j l above left ∙ surface-owed-factor i j l) ∙ quot-exact (q i j) (d 0 0) z)
+        ap (λ x. quotZ x (d 0 0)) (surface-dividend-cong num d f q N i j l above left ∙ surface-dividend-factor i j l) ∙ quot-exact (q i j) (d 0 0) z)
 
-    pub surface-dividend-factor : ¬ (d 0 0 ≡ pos 0) → (m n : ℕ) → m + n ≤ N → Surface.dividend plain num d m n ≡ q m n *ℤ d 0 0
+    pub surface-quotient-dividend-factor : ¬ (d 0 0 ≡ pos 0) → (m n : ℕ) → m + n ≤ N → Surface.quotientDividend plain num d m n ≡ q m n *ℤ d 0 0
     unfolding _⊗_
-    surface-dividend-factor z m n l =
-        surface-owed-cong num d (beforeEntry (pos 0) (Surface.quotientEntry plain num d) m n) q N m n l
+    surface-quotient-dividend-factor z m n l =
+        surface-dividend-cong num d (beforeEntry (pos 0) (Surface.quotientEntry plain num d) m n) q N m n l
         (λ i j k w. earlier-row (pos 0) (Surface.quotientEntry plain num d) m n i j k ∙ surface-quotient-factor z i j w)
         (λ j k. same-row (pos 0) (Surface.quotientEntry plain num d) m n j k ∙ surface-quotient-factor z m j (omega arith))
-        ∙ surface-owed-factor m n l
+        ∙ surface-dividend-factor m n l

@@ -9,7 +9,7 @@ use Rattle.calculus.specs.InTurn.{inTurn, inRows, alongList}
 use Rattle.partitions.proofs.Lists.{Every, nil, and}
 
 pub record Related {A B : Type 0} (R : A → B → Type 0) (K : Kind A) (L : Kind B) : Type 0 where
-  pub nought : R (K .nought) (L .nought)
+  pub zero : R (K .zero) (L .zero)
   pub one : R (K .one) (L .one)
   pub plus : (a c : A) (b d : B) → R a b → R c d → R (K .plus a c) (L .plus b d)
   pub minus : (a c : A) (b d : B) → R a b → R c d → R (K .minus a c) (L .minus b d)
@@ -19,7 +19,7 @@ pub record Related {A B : Type 0} (R : A → B → Type 0) (K : Kind A) (L : Kin
 
 -- P relates the scalars, and R the entries. A quotient of scalars is not asked for
 pub record RelatedModules {S T A B : Type 0} (P : S → T → Type 0) (R : A → B → Type 0) (M : Module S A) (N : Module T B) : Type 0 where
-  pub nought : R (M .nought) (N .nought)
+  pub zero : R (M .zero) (N .zero)
   pub plus : (a c : A) (b d : B) → R a b → R c d → R (M .plus a c) (N .plus b d)
   pub minus : (a c : A) (b d : B) → R a b → R c d → R (M .minus a c) (N .minus b d)
   pub scale : (a : A) (s : S) (b : B) (t : T) → R a b → P s t → R (M .scale a s) (N .scale b t)
@@ -28,7 +28,7 @@ pub record RelatedModules {S T A B : Type 0} (P : S → T → Type 0) (R : A →
   pub ofNat : (n : ℕ) → P (M .scalars .ofNat n) (N .scalars .ofNat n)
 
 pub regulars : {A B : Type 0} {R : A → B → Type 0} {K : Kind A} {L : Kind B} → Related R K L → RelatedModules R R (regular K) (regular L)
-regulars r = record { nought = r .nought; plus = r .plus; minus = r .minus; scale = r .times; one = r .one; times = r .times; ofNat = r .ofNat }
+regulars r = record { zero = r .zero; plus = r .plus; minus = r .minus; scale = r .times; one = r .one; times = r .times; ofNat = r .ofNat }
 
 -- jets whose entries are related up to the order n
 module _ {A B : Type 0} (R : A → B → Type 0) where
@@ -41,7 +41,7 @@ module _ {A B : Type 0} (R : A → B → Type 0) where
 -- every operation keeps equality
 pub same : {A : Type 0} (K : Kind A) → Related (λ (a b : A). a ≡ b) K K
 same K = record {
-  nought = refl;
+  zero = refl;
   one = refl;
   plus = λ a c b d p q. ap₂ (K .plus) p q;
   minus = λ a c b d p q. ap₂ (K .minus) p q;
@@ -52,7 +52,7 @@ same K = record {
 
 pub sameModule : {S A : Type 0} (M : Module S A) → RelatedModules (λ (s t : S). s ≡ t) (λ (a b : A). a ≡ b) M M
 sameModule M = record {
-  nought = refl;
+  zero = refl;
   plus = λ a c b d p q. ap₂ (M .plus) p q;
   minus = λ a c b d p q. ap₂ (M .minus) p q;
   scale = λ a s b t p q. ap₂ (M .scale) p q;

@@ -26,14 +26,14 @@ module _ {S A : Type 0} (M : Module S A) (d : ℕ) (c : ℕ → ℕ → S) (entr
   abbrev pub tensor : List ℕ → A
   tensor l =
       let K = M .scalars in
-      inTurn (M .plus) (M .nought) (λ mask. M .scale (entry (digits d l mask)) (factors K d c (K .one) l mask)) (d ^ length l)
+      inTurn (M .plus) (M .zero) (λ mask. M .scale (entry (digits d l mask)) (factors K d c (K .one) l mask)) (d ^ length l)
 
   abbrev pub summand : List ℕ → A
   summand l = M .scale (tensor l) (M .scalars .ofNat (multiplicity l))
 
   -- one running total over the lists of the first len lengths
   unfoldable pub throughLen : ℕ → ℕ → A
-  throughLen order zero = M .nought
+  throughLen order zero = M .zero
   throughLen order (suc len) = alongList (M .plus) (throughLen order len) summand (lists order (suc len))
 
   abbrev pub fieldDerivative : ℕ → A

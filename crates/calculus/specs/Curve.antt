@@ -21,23 +21,23 @@ module _ {S A : Type 0} (M : Module S A) where
   leibniz pair a b m i = M .scale (pair (a i) (b (m - i))) (M .scalars .ofNat (choose m i))
 
   abbrev pub productBy : {B C : Type 0} → (B → C → A) → (ℕ → B) → (ℕ → C) → ℕ → A
-  productBy pair a b m = inTurn (M .plus) (M .nought) (leibniz pair a b m) (suc m)
+  productBy pair a b m = inTurn (M .plus) (M .zero) (leibniz pair a b m) (suc m)
 
 module _ {A : Type 0} (K : Kind A) where
   abbrev pub product : (ℕ → A) → (ℕ → A) → ℕ → A
   product = productBy (regular K) (K .times)
 
   -- what is left of num[m] for d[0] · q[m]: the other terms of the rule, subtracted in turn
-  abbrev pub owed : (ℕ → A) → (ℕ → A) → (ℕ → A) → ℕ → A
-  owed num d q m = inTurn (K .minus) (num m) (λ i. leibniz (regular K) (K .times) d q m (suc i)) m
+  abbrev pub dividend : (ℕ → A) → (ℕ → A) → (ℕ → A) → ℕ → A
+  dividend num d q m = inTurn (K .minus) (num m) (λ i. leibniz (regular K) (K .times) d q m (suc i)) m
 
   -- an entry of the quotient num / d, from the entries q before it
   abbrev pub quotientEntry : (ℕ → A) → (ℕ → A) → (ℕ → A) → ℕ → A
-  quotientEntry num d q m = K .over (owed num d q m) (d 0)
+  quotientEntry num d q m = K .over (dividend num d q m) (d 0)
 
   abbrev pub quotient : (ℕ → A) → (ℕ → A) → ℕ → A
-  quotient num d = rising (K .nought) (quotientEntry num d)
+  quotient num d = rising (K .zero) (quotientEntry num d)
 
-  -- what is divided by d[0] to form the quotient's entry m
-  abbrev pub dividend : (ℕ → A) → (ℕ → A) → ℕ → A
-  dividend num d m = owed num d (before (K .nought) (quotientEntry num d) m) m
+  -- the dividend of the quotient's own entry m
+  abbrev pub quotientDividend : (ℕ → A) → (ℕ → A) → ℕ → A
+  quotientDividend num d m = dividend num d (before (K .zero) (quotientEntry num d) m) m

@@ -5,7 +5,7 @@ use lib.IntN.{ℤ, pos, _+ℤ_, _-ℤ_, _*ℤ_}
 use lib.Signed.{quotZ}
 
 pub record Kind (A : Type 0) : Type 0 where
-  pub nought : A
+  pub zero : A
   pub one : A
   pub plus : A → A → A
   pub minus : A → A → A
@@ -17,15 +17,15 @@ pub record Kind (A : Type 0) : Type 0 where
 -- entries of a jet: they are added, subtracted and scaled by numbers. A vector of numbers is scaled component by component
 pub record Module (S A : Type 0) : Type 0 where
   pub scalars : Kind S
-  pub nought : A
+  pub zero : A
   pub plus : A → A → A
   pub minus : A → A → A
   pub scale : A → S → A
 
 -- the numbers themselves as entries
 abbrev pub regular : {A : Type 0} → Kind A → Module A A
-regular K = record { scalars = K; nought = K .nought; plus = K .plus; minus = K .minus; scale = K .times }
+regular K = record { scalars = K; zero = K .zero; plus = K .plus; minus = K .minus; scale = K .times }
 
 -- the integers, with no bound; a quotient is rounded toward zero
 abbrev pub plain : Kind ℤ
-plain = record { nought = pos 0; one = pos 1; plus = _+ℤ_; minus = _-ℤ_; times = _*ℤ_; over = quotZ; ofNat = pos }
+plain = record { zero = pos 0; one = pos 1; plus = _+ℤ_; minus = _-ℤ_; times = _*ℤ_; over = quotZ; ofNat = pos }

@@ -4,7 +4,11 @@ pub mod Rising
 pub mod Choose
 pub mod Curve
 pub mod Surface
+pub mod Operation
+pub mod Rational
+pub mod Norm
 pub mod Carry
 pub mod Graded
 pub mod Array
 pub mod Order
+pub mod Orders

@@ -30,25 +30,25 @@ module _ {S A : Type 0} (M : Module S A) where
   leibniz pair a b m n i j = M .scale (pair (a i j) (b (m - i) (n - j))) (M .scalars .ofNat (choose m i * choose n j))
 
   abbrev pub productBy : {B C : Type 0} → (B → C → A) → (ℕ → ℕ → B) → (ℕ → ℕ → C) → ℕ → ℕ → A
-  productBy pair a b m n = inRows (M .plus) (M .nought) (leibniz pair a b m n) (suc m) (suc n)
+  productBy pair a b m n = inRows (M .plus) (M .zero) (leibniz pair a b m n) (suc m) (suc n)
 
 module _ {A : Type 0} (K : Kind A) where
   abbrev pub product : (ℕ → ℕ → A) → (ℕ → ℕ → A) → ℕ → ℕ → A
   product = productBy (regular K) (K .times)
 
   -- what is left of num[m][n] for d[0][0] · q[m][n]: the other terms of the rule, subtracted in turn, those of i = 0 from j = 1 on
-  abbrev pub owed : (ℕ → ℕ → A) → (ℕ → ℕ → A) → (ℕ → ℕ → A) → ℕ → ℕ → A
-  owed num d q m n =
+  abbrev pub dividend : (ℕ → ℕ → A) → (ℕ → ℕ → A) → (ℕ → ℕ → A) → ℕ → ℕ → A
+  dividend num d q m n =
       let term = leibniz (regular K) (K .times) d q m n in
       inRows (K .minus) (inTurn (K .minus) (num m n) (λ j. term 0 (suc j)) n) (λ i. term (suc i)) m (suc n)
 
   -- an entry of the quotient num / d, from the entries q before it
   abbrev pub quotientEntry : (ℕ → ℕ → A) → (ℕ → ℕ → A) → (ℕ → ℕ → A) → ℕ → ℕ → A
-  quotientEntry num d q m n = K .over (owed num d q m n) (d 0 0)
+  quotientEntry num d q m n = K .over (dividend num d q m n) (d 0 0)
 
   abbrev pub quotient : (ℕ → ℕ → A) → (ℕ → ℕ → A) → ℕ → ℕ → A
-  quotient num d = risingRows (K .nought) (quotientEntry num d)
+  quotient num d = risingRows (K .zero) (quotientEntry num d)
 
-  -- what is divided by d[0][0] to form the quotient's entry [m][n]
-  abbrev pub dividend : (ℕ → ℕ → A) → (ℕ → ℕ → A) → ℕ → ℕ → A
-  dividend num d m n = owed num d (beforeEntry (K .nought) (quotientEntry num d) m n) m n
+  -- the dividend of the quotient's own entry [m][n]
+  abbrev pub quotientDividend : (ℕ → ℕ → A) → (ℕ → ℕ → A) → ℕ → ℕ → A
+  quotientDividend num d m n = dividend num d (beforeEntry (K .zero) (quotientEntry num d) m n) m n

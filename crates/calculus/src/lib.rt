@@ -5,6 +5,7 @@ ghost use Prim.Native.Nat.{suc, min};
 ghost use lib.Dec.{ltb};
 ghost use Rattle.calculus.specs.Choose.{binomialTable};
 ghost use Rattle.calculus.specs.Graded.{triangle};
+ghost use Rattle.calculus.specs.Orders.{someAbove20, smallest as Smallest};
 
 // A derivative by which of a surface's parameters.
 pub enum By {
@@ -12,11 +13,49 @@ pub enum By {
     V,
 }
 
+// What is formed of two jets.
+pub enum Operation {
+    Sum,
+    Difference,
+    Product,
+    Quotient,
+}
+
 // The smaller of two orders, at which two jets meet.
 pub fn smaller(m: usize, n: usize) -> usize
     ensures { λ r. ⌜ r ≡ min m n ⌝ }
 {
     if m < n { m } else { n }
+}
+
+// Whether one of the orders is above 20.
+pub fn some_above_20(orders: &[usize]) -> bool
+    ensures { λ r. ⌜ r ≡ someAbove20 (now (orders .entry)) ⌝ }
+{
+    let mut i = 0;
+    while i < orders.len() {
+        if 20 < orders[i] {
+            return true;
+        }
+        i += 1;
+    }
+    false
+}
+
+// The smallest of the orders, or 20 where that is smaller.
+pub fn smallest(orders: &[usize]) -> usize
+    ensures { λ r. ⌜ r ≡ Smallest (now (orders .entry)) ⌝ }
+{
+    let mut least = 20;
+    let mut i = orders.len();
+    while 0 < i {
+        i -= 1;
+        let n = orders[i];
+        if n < least {
+            least = n;
+        }
+    }
+    least
 }
 
 // How many entries a surface has up to the order n: none where the order is above 20.

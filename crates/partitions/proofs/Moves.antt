@@ -12,7 +12,7 @@ use borrow.Rule.Slice.PartMut.{putMid}
 use borrow.Author.Tests.{eqb-false, ltb-false, le-ltb, ne-eqb}
 use Rattle.partitions.specs.Parts.{total}
 use Rattle.partitions.specs.Count.{falls}
-use Rattle.partitions.specs.Steps.{greatest, canInit, hasNext, nextOf}
+use Rattle.partitions.specs.Inner.{greatest, canInit, hasNext, nextOf}
 use Rattle.partitions.proofs.Successor.{next-same}
 use Rattle.partitions.proofs.Tail.{tailOf, one-less, tail-cons, put-cons, put-length}
 

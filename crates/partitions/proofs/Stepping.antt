@@ -9,7 +9,7 @@ use lib.ListN.{length, take, drop, replicate, take-append-drop}
 use lib.Seq.{length-take-le}
 use Rattle.partitions.specs.Parts.{total}
 use Rattle.partitions.specs.Count.{falls}
-use Rattle.partitions.specs.Steps.{greatest, hasNext, nextOf}
+use Rattle.partitions.specs.Inner.{greatest, hasNext, nextOf}
 use Rattle.partitions.specs.Walk.{padded, refusal, blank, started, startedBy, refused, atEnd, stepped}
 use Rattle.partitions.specs.declared.CompositionIter.{CompositionIter}
 use Rattle.partitions.proofs.Member.{listed, unlisted-falls, unlisted-total}

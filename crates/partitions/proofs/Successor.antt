@@ -9,7 +9,7 @@ use native.Mathlib.Nat.{mul-le-mul-right}
 use lib.Dec.{leb}
 use lib.ListN.{length}
 use Rattle.partitions.specs.Parts.{total, parts}
-use Rattle.partitions.specs.Steps.{greatest, canInit, hasNext, nextOf}
+use Rattle.partitions.specs.Inner.{greatest, canInit, hasNext, nextOf}
 use Rattle.partitions.specs.Walk.{from}
 use borrow.Author.Tests.{eq-eqb}
 use Rattle.partitions.proofs.Tests.{by-leb, by-eqb}

@@ -7,7 +7,7 @@ use native.Mathlib.Omega.{arith}
 use lib.ListN.{length, set, take, drop}
 use lib.Seq.{take-all, drop-length}
 use borrow.Rule.Slice.PartMut.{putMid}
-use Rattle.partitions.specs.Steps.{greatest}
+use Rattle.partitions.specs.Inner.{greatest}
 
 -- the tail of an array, as it is lent
 abbrev pub tailOf : List ℕ → List ℕ

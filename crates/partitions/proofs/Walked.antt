@@ -11,7 +11,7 @@ use lib.ListN.{length, getD, take, drop, replicate}
 use lib.Seq.{take-at}
 use Rattle.partitions.specs.Parts.{parts, lists}
 use Rattle.partitions.specs.Walk.{from, padded, refusal, started, startedBy, startedAt, stepped, steppedBy, refused, atEnd, remaining, moved, handed}
-use Rattle.partitions.specs.Steps.{greatest, hasNext, nextOf}
+use Rattle.partitions.specs.Inner.{greatest, hasNext, nextOf}
 use Rattle.partitions.specs.declared.CompositionIter.{CompositionIter}
 use Rattle.partitions.specs.declared.Composition.{Composition}
 use Rattle.partitions.specs.declared.Stepped.{Stepped}

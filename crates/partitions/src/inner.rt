@@ -6,7 +6,7 @@ ghost use lib.ListN.{length};
 ghost use Rattle.partitions.specs.Parts.{total as sum, fact, divide, runs};
 ghost use Rattle.partitions.specs.Count.{falls as Falls};
 ghost use Rattle.partitions.specs.Walk.{padded};
-ghost use Rattle.partitions.specs.Steps.{canInit, greatest, hasNext, nextOf};
+ghost use Rattle.partitions.specs.Inner.{canInit, greatest, hasNext, nextOf};
 
 // The sum of the parts, or 21 where it is greater than 20.
 pub fn total(list: &[usize]) -> usize

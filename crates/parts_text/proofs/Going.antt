@@ -21,7 +21,7 @@ use Rattle.partitions.proofs.Successor.{first}
 use Rattle.partitions.proofs.Walked.{range-of, least-times, started-is, started-remains, holds, moved-remains, moved-end, stepped-first, stepped-end, step-ends}
 use Rattle.partitions.proofs.Counted.{counted-by}
 use Rattle.parts_text.specs.Text.{joined, line, totalLine, refusedLine, text, unless, answer}
-use Rattle.parts_text.specs.Out.{Wrote, lineOf, countOf}
+use Rattle.parts_text.specs.Inner.{Wrote, lineOf, countOf}
 use Rattle.parts_text.proofs.Puts.{wrote-none, after, reading, joined-append, joined-one}
 use Rattle.parts_text.proofs.Tables.{total-fits}
 

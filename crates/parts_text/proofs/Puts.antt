@@ -12,7 +12,7 @@ use lib.Seq.{length-take-le, take-suc, sets, sets-eq}
 use borrow.Author.Tests.{lt-ltb, le-ltb}
 use Rattle.parts_text.specs.Text.{digits, decimal, joined}
 use Rattle.parts_text.specs.Printed.{written}
-use Rattle.parts_text.specs.Out.{Place, place, put, puts, Wrote}
+use Rattle.parts_text.specs.Inner.{Place, place, put, puts, Wrote}
 
 -- ---- a byte
 pub put-within : (out : List ℕ) (at b : ℕ) → at < length out → Wrote out at (b ∷ []) (set out at b) (at + 1)

@@ -4,7 +4,7 @@ ghost use mathlib.Core.List.{[], _∷_, _++_};
 ghost use Rattle.partitions.specs.Count.{counted};
 ghost use Rattle.parts_text.specs.Text.{decimal, joined, spaced, newline, totalLine, refusedLine, answer};
 ghost use Rattle.parts_text.specs.Reading.{finished};
-ghost use Rattle.parts_text.specs.Out.{Wrote, lineOf, countOf};
+ghost use Rattle.parts_text.specs.Inner.{Wrote, lineOf, countOf};
 use crate::Reading;
 
 fn put(out: &mut [u8], at: usize, b: u8) -> usize

@@ -5,7 +5,7 @@ use native.Mathlib.Omega.{arith}
 use lib.ListN.{length, take}
 use lib.Seq.{take-all}
 use borrow.Author.Needs.{needs}
-use Rattle.parts_text.specs.Out.{Wrote}
+use Rattle.parts_text.specs.Inner.{Wrote}
 use Rattle.parts_text.proofs.Puts.{wrote-none, same-room, after, reading, take-more}
 use Rattle.parts_text.proofs.out.put_bytes.Statement.{statement}
 use Rattle.parts_text.proofs.out.put_bytes.Tie as tie

@@ -1,7 +1,7 @@
 -- `parts_text::out::put_list` meets its contract, by what the list's count is. Assumes nothing.
 use mathlib.Core.Path.{_∙_, ap, sym}
 use borrow.Author.Needs.{needs}
-use Rattle.parts_text.specs.Out.{lineOf, countOf}
+use Rattle.parts_text.specs.Inner.{lineOf, countOf}
 use Rattle.parts_text.proofs.Puts.{wrote-none, reading}
 use Rattle.parts_text.proofs.out.put_list.Statement.{statement}
 use Rattle.parts_text.proofs.out.put_list.Tie as tie

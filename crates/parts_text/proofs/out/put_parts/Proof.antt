@@ -6,7 +6,7 @@ use lib.ListN.{length, take}
 use lib.Seq.{take-all}
 use borrow.Author.Needs.{needs}
 use Rattle.parts_text.specs.Text.{joined, spaced}
-use Rattle.parts_text.specs.Out.{Wrote}
+use Rattle.parts_text.specs.Inner.{Wrote}
 use Rattle.parts_text.proofs.Puts.{wrote-none, same-room, after, reading, joined-more}
 use Rattle.parts_text.proofs.out.put_parts.Statement.{statement}
 use Rattle.parts_text.proofs.out.put_parts.Tie as tie
