@@ -17,9 +17,10 @@ use Rattle.calculus.proofs.CarryAlike.{compositeDerivative-alike, compositeDeri
 use Rattle.exact.specs.declared.SurfaceDerivatives.{SurfaceDerivatives}
 use Rattle.exact.specs.declared.ParameterCurve.{ParameterCurve}
 use Rattle.exact.specs.declared.CurveAnswer.{CurveAnswer}
-use Rattle.exact.specs.Kinds.{checked, traced}
+use Rattle.exact_formulas.specs.Kinds.{checked, traced}
 use Rattle.calculus.specs.Order.{curveEntries}
-use Rattle.exact.specs.Answer.{curveNumbers, surfaceNumbers, refusedCurve, answeredCurve, curveAnswer}
+use Rattle.exact_formulas.specs.Entries.{curveNumbers, surfaceNumbers}
+use Rattle.exact.specs.Answer.{refusedCurve, answeredCurve, curveAnswer}
 use Rattle.exact.specs.Judged.{histories, judgedCurve}
 use Rattle.exact.specs.Composite.{withinOrders, alongCurveAt, alongCurve}
 use Rattle.exact.proofs.Judged.{Settled, settled, Valued, valued, Sound, exact-none, soundModule, curve-judged, curve-exact}
@@ -40,7 +41,7 @@ module _ (u v : ℕ → ℤ) (s : ℕ → ℕ → ℤ) where
       compositeDerivative-alike Valued Valued (regular traced) (regular plain) (regulars valued) m (λ m. given (u m)) (λ m. given (v m)) u v
       (λ i j. given (s i j)) s (λ i l. refl) (λ i l. refl) (λ i j l. refl) m (le-refl m)
 
-  carry-settles : (n m : ℕ) → m ≤ n → Settled (carriedTraces m) (compositeDerivatives (regular checked) (λ m. Value (u m)) (λ m. Value (v m)) (λ i j. Value (s i j)) m)
+  pub carry-settles : (n m : ℕ) → m ≤ n → Settled (carriedTraces m) (compositeDerivatives (regular checked) (λ m. Value (u m)) (λ m. Value (v m)) (λ i j. Value (s i j)) m)
   carry-settles n =
       compositeDerivatives-alike Settled Settled (regular traced) (regular checked) (regulars settled) n (λ m. given (u m)) (λ m. given (v m)) (λ m. Value (u m)) (λ m. Value (v m))
       (λ i j. given (s i j)) (λ i j. Value (s i j)) (λ i l. settle-given (u i)) (λ i l. settle-given (v i)) (λ i j l. settle-given (s i j))

@@ -20,11 +20,12 @@ use Rattle.calculus.specs.Surface
 use Rattle.calculus.proofs.Related.{Related, RelatedModules, regulars, CurvesAlike, SurfacesAlike}
 use Rattle.calculus.proofs.Alike.{sum-alike, difference-alike, product-alike, quotient-alike, surface-sum-alike, surface-difference-alike, surface-product-alike, surface-quotient-alike}
 use Rattle.exact.specs.declared.SurfaceAnswer.{SurfaceAnswer}
-use Rattle.exact.specs.Kinds.{checked, traced}
+use Rattle.exact_formulas.specs.Kinds.{checked, traced}
 use Rattle.calculus.specs.Order.{rows, curveEntries, surfaceEntries}
-use Rattle.exact.specs.Answer.{valueOf, refusedCurve, refusedSurface, answeredCurve, answeredSurface, unlessRefused, curveAnswer, surfaceAnswer}
+use Rattle.exact_formulas.specs.Entries.{valueOf, unlessRefused}
+use Rattle.exact.specs.Answer.{refusedCurve, refusedSurface, answeredCurve, answeredSurface, curveAnswer, surfaceAnswer}
 use Rattle.exact.specs.Judged.{histories, byVerdict, judgedCurve, judgedSurface}
-use Rattle.exact.proofs.Work.{map-listed, map-rows}
+use Rattle.exact_formulas.proofs.Work.{map-listed, map-rows}
 use Rattle.exact.proofs.Same.{curve-same, surface-same, curve-answer-same, surface-answer-same}
 
 -- ---- what a number with its history is to a checked one, and to an integer
@@ -36,7 +37,7 @@ Valued t z = t .value ≡ z
 
 pub settled : Related Settled traced checked
 settled = record {
-  nought = settle-given (pos 0);
+  zero = settle-given (pos 0);
   one = settle-given (pos 1);
   plus = λ a c b d p q. settle-plus a c ∙ ap₂ checks.plus p q;
   minus = λ a c b d p q. settle-minus a c ∙ ap₂ checks.minus p q;
@@ -47,7 +48,7 @@ settled = record {
 
 pub valued : Related Valued traced plain
 valued = record {
-  nought = refl;
+  zero = refl;
   one = refl;
   plus = λ a c b d p q. ap₂ (plain .plus) p q;
   minus = λ a c b d p q. ap₂ (plain .minus) p q;
@@ -68,11 +69,11 @@ sound-by : (f : ℤ → ℤ → ℤ) (s t : Traced) (x y : ℤ) → Sound s x �
 sound-by f s t x y p q = (ap₂ f (p .0) (q .0), exact-then f (λ x y. forms (f x y) ∷ []) s t (p .1) (q .1) (exact-one (f (s .value) (t .value))))
 
 abbrev undivided : {A : Type 0} → Kind A → Kind A
-undivided K = record { nought = K .nought; one = K .one; plus = K .plus; minus = K .minus; times = K .times; over = K .times; ofNat = K .ofNat }
+undivided K = record { zero = K .zero; one = K .one; plus = K .plus; minus = K .minus; times = K .times; over = K .times; ofNat = K .ofNat }
 
 pub sound : Related Sound (undivided traced) (undivided plain)
 sound = record {
-  nought = (refl, exact-none);
+  zero = (refl, exact-none);
   one = (refl, exact-none);
   plus = sound-by (plain .plus);
   minus = sound-by (plain .minus);
@@ -83,7 +84,7 @@ sound = record {
 
 pub soundModule : RelatedModules Sound Sound (regular traced) (regular plain)
 soundModule = record {
-  nought = sound .nought;
+  zero = sound .zero;
   plus = sound .plus;
   minus = sound .minus;
   scale = sound .times;

@@ -3,12 +3,8 @@ pub mod Judged
 pub mod CarryJudged
 -- jets that agree up to the order have the same answer
 pub mod Same
--- what the loops need: the entries that are left and those that are stored, terms, and a parameter curve's list
-pub mod Work
-pub mod Progress
-pub mod Earlier
-pub mod Terms
+-- the answer that entries make, and the entries that a loop has stored
+pub mod Answers
+-- a parameter curve's list; the tests of the orders of a carry
 pub mod Pairs
--- the carry: its terms, and the tests of its orders
-pub mod Masks
 pub mod Orders

@@ -7,8 +7,8 @@ use lib.Dec.{ltb, eqb}
 use lib.IntN.{ℤ, pos}
 use lib.ListN.{length, getD, replicate}
 use Rattle.whole.specs.declared.Whole.{Whole}
-use Rattle.whole.specs.declared.Whole.the-variants.{Value, Refused}
-use Rattle.calculus.specs.Graded.{triangle, index}
+use Rattle.whole.specs.declared.Whole.the-variants.{Refused}
+use Rattle.calculus.specs.Graded.{triangle}
 use Rattle.calculus.specs.Array.{curveArray, surfaceArray}
 use Rattle.calculus.specs.Curve.{derivative}
 use Rattle.exact.specs.declared.CurveDerivatives.{CurveDerivatives}
@@ -18,23 +18,7 @@ use Rattle.exact.specs.declared.CurveAnswer.{CurveAnswer}
 use Rattle.exact.specs.declared.SurfaceAnswer.{SurfaceAnswer}
 use Rattle.exact.specs.declared.ParameterAnswer.{ParameterAnswer}
 use Rattle.calculus.specs.Order.{curveEntries, surfaceEntries, listPlace}
-
--- ---- the entries of an array as a jet, and as a jet of checked numbers
-abbrev pub curveNumbers : List ℤ → ℕ → ℤ
-curveNumbers l m = getD l m (pos 0)
-
-abbrev pub surfaceNumbers : List ℤ → ℕ → ℕ → ℤ
-surfaceNumbers l i j = getD l (index i j) (pos 0)
-
-abbrev pub curveValues : List ℤ → ℕ → Whole
-curveValues l m = Value (curveNumbers l m)
-
-abbrev pub surfaceValues : List ℤ → ℕ → ℕ → Whole
-surfaceValues l i j = Value (surfaceNumbers l i j)
-
-abbrev pub valueOf : Whole → ℤ
-valueOf (Value z) = z
-valueOf (Refused c) = pos 0
+use Rattle.exact_formulas.specs.Entries.{curveNumbers, surfaceNumbers, curveValues, surfaceValues, valueOf, unlessRefused}
 
 -- ---- a refusal's number beside the zero jet of order 0, and a jet beside 0
 abbrev pub refusedCurve : ℕ → CurveAnswer
@@ -55,12 +39,7 @@ answeredSurface n s = record { refusal = 0; jet = record { order = n; entries = 
 abbrev pub answeredParameter : ℕ → (ℕ → ℤ) → (ℕ → ℤ) → ParameterAnswer
 answeredParameter n u v = record { refusal = 0; jet = record { order = n; u = curveArray (pos 0) u n; v = curveArray (pos 0) v n } }
 
--- ---- entries that are formed in the order of work: the first refusal of one of them, or else the answer
-unfoldable pub unlessRefused : {A : Type 0} → (ℕ → A) → List Whole → A → A
-unlessRefused refused [] a = a
-unlessRefused refused (Value z ∷ ws) a = unlessRefused refused ws a
-unlessRefused refused (Refused c ∷ ws) a = refused c
-
+-- ---- the jet f, up to the order n: the first refusal of an entry, in the order of work, or else the answer
 abbrev pub curveAnswer : (ℕ → Whole) → ℕ → CurveAnswer
 curveAnswer f n = unlessRefused refusedCurve (curveEntries f n) (answeredCurve n (λ m. valueOf (f m)))
 

@@ -9,8 +9,9 @@ use Rattle.calculus.specs.Carry.{compositeDerivative, compositeDerivatives}
 use Rattle.exact.specs.declared.SurfaceDerivatives.{SurfaceDerivatives}
 use Rattle.exact.specs.declared.ParameterCurve.{ParameterCurve}
 use Rattle.exact.specs.declared.CurveAnswer.{CurveAnswer}
-use Rattle.exact.specs.Kinds.{checked}
-use Rattle.exact.specs.Answer.{curveValues, surfaceValues, refusedCurve, curveAnswer}
+use Rattle.exact_formulas.specs.Kinds.{checked}
+use Rattle.exact_formulas.specs.Entries.{curveValues, surfaceValues}
+use Rattle.exact.specs.Answer.{refusedCurve, curveAnswer}
 
 -- the orders of the surface and of the curve, and the order asked: 1 above 20; 2 where the one asked exceeds another
 abbrev pub withinOrders : {A : Type 0} → (ℕ → A) → A → ℕ → ℕ → ℕ → A

@@ -1,5 +1,4 @@
-pub mod Kinds
 pub mod Answer
-pub mod Formula
 pub mod Judged
 pub mod Composite
+pub mod Inner

@@ -4,7 +4,6 @@ ghost use Rattle.exact.specs.Composite.{withinOrders, alongCurveAt, alon
 use crate::CurveAnswer;
 use crate::ParameterCurve;
 use crate::SurfaceDerivatives;
-use crate::carry;
 use whole::Whole;
 
 // 0, or the number of the refusal.
@@ -38,7 +37,7 @@ impl SurfaceDerivatives {
         let entries = self.entries;
         let u = curve.u;
         let v = curve.v;
-        carry::derivative(&entries, &u, &v, order)
+        exact_carry::derivative(&entries, &u, &v, order)
     }
 
     // The derivatives of all orders up to `order`, with the entry [0][0] at order 0.
@@ -52,6 +51,7 @@ impl SurfaceDerivatives {
         let entries = self.entries;
         let u = curve.u;
         let v = curve.v;
-        carry::derivatives(&entries, &u, &v, order)
+        let formed = exact_carry::derivatives(&entries, &u, &v, order);
+        crate::curve_with(order, formed)
     }
 }

@@ -3,11 +3,11 @@
 ghost use mathlib.Core.Path.{_≡_};
 ghost use Prim.Native.Nat.{_+_, _≤_};
 ghost use Rattle.calculus.specs.Graded.{index as indexOf};
-ghost use Rattle.exact.specs.Kinds.{checked};
 ghost use Rattle.exact.specs.Answer.{refusedCurve, refusedSurface, refusedParameter};
-use whole::Whole;
+ghost use Rattle.exact.specs.Inner.{curveWith, surfaceWith};
+use exact_formulas::CurveEntries;
+use exact_formulas::SurfaceEntries;
 
-mod carry;
 mod composite;
 mod curve;
 mod parameter;
@@ -90,6 +90,35 @@ fn refused_parameter(c: u8) -> ParameterAnswer
     }
 }
 
+// The jet of the order n that entries make, or their refusal.
+fn curve_with(n: usize, formed: CurveEntries) -> CurveAnswer
+    ensures { λ r. ⌜ r ≡ curveWith n formed ⌝ }
+{
+    let c = formed.refusal;
+    if c != 0 {
+        return refused_curve(c);
+    }
+    let entries = formed.entries;
+    CurveAnswer {
+        refusal: 0,
+        jet: CurveDerivatives { order: n, entries },
+    }
+}
+
+fn surface_with(n: usize, formed: SurfaceEntries) -> SurfaceAnswer
+    ensures { λ r. ⌜ r ≡ surfaceWith n formed ⌝ }
+{
+    let c = formed.refusal;
+    if c != 0 {
+        return refused_surface(c);
+    }
+    let entries = formed.entries;
+    SurfaceAnswer {
+        refusal: 0,
+        jet: SurfaceDerivatives { order: n, entries },
+    }
+}
+
 // Where [i][j] stands in a surface's array.
 fn index(i: usize, j: usize) -> usize
     requires { ⌜ i + j ≤ 20 ⌝ }
@@ -97,12 +126,4 @@ fn index(i: usize, j: usize) -> usize
 {
     let n = i + j;
     n * (n + 1) / 2 + i
-}
-
-// A term of Leibniz's rule.
-fn term(x: i64, y: i64, c: u32) -> Whole
-    ensures { λ r. ⌜ r ≡ checked .times (checked .times (Whole.Value x) (Whole.Value y)) (checked .ofNat c) ⌝ }
-{
-    let k = c as i64;
-    whole::times(whole::mul(x, y), Whole::Value(k))
 }

@@ -5,7 +5,8 @@ ghost use Prim.Native.Nat.{ℕ, suc, _+_, _*_, _≤_};
 ghost use lib.IntN.{ℤ, pos};
 ghost use lib.ListN.{length, getD};
 ghost use Rattle.calculus.specs.Array.{curveArray};
-ghost use Rattle.exact.specs.Answer.{curveNumbers, pairs, parameterFromList, parameterIntoList};
+ghost use Rattle.exact_formulas.specs.Entries.{curveNumbers};
+ghost use Rattle.exact.specs.Answer.{pairs, parameterFromList, parameterIntoList};
 use crate::ParameterAnswer;
 use crate::ParameterCurve;
 

@@ -1,211 +1,25 @@
-// Exact jets of surfaces. In the loops, c is the table of the binomial coefficients.
+// Exact jets of surfaces.
 ghost use mathlib.Core.Path.{_≡_};
 ghost use mathlib.Core.List.{List};
-ghost use Prim.Native.Nat.{ℕ, suc, _+_, _-_, _≤_};
+ghost use Prim.Native.Nat.{ℕ, suc, _+_, _≤_};
 ghost use lib.IntN.{ℤ, pos};
 ghost use lib.ListN.{length, getD};
 ghost use Rattle.calculus.specs.Kind.{regular};
-ghost use Rattle.calculus.specs.InTurn.{inTurn};
-ghost use Rattle.calculus.specs.Rising.{risingRows};
-ghost use Rattle.calculus.specs.Choose.{binomialTable};
 ghost use Rattle.calculus.specs.Graded.{triangle};
-ghost use Rattle.calculus.specs.Surface.{derivativeU, derivativeV, sum as sums, difference as differences, product, leibniz, owed as owedBy, quotientEntry, quotient as quotients};
-ghost use Rattle.exact.specs.Kinds.{checked};
+ghost use Rattle.calculus.specs.Surface.{derivativeU, derivativeV, sum as sums, difference as differences, product, quotient as quotients};
+ghost use Rattle.calculus.specs.Operation.{surfaceOperation};
+ghost use Rattle.exact_formulas.specs.Kinds.{checked};
 ghost use Rattle.calculus.specs.Order.{surfaceEntries, listPlace};
-ghost use Rattle.exact.specs.Answer.{surfaceNumbers, surfaceValues, answeredSurface, surfaceAnswer, onSurfaces, onSurfacesAt, surfaceDerivative, surfaceFromList, surfaceIntoList};
-ghost use Rattle.exact.specs.Formula.{surfaceFormula};
+ghost use Rattle.exact_formulas.specs.Entries.{surfaceNumbers};
+ghost use Rattle.exact.specs.Answer.{answeredSurface, onSurfaces, onSurfacesAt, surfaceDerivative, surfaceFromList, surfaceIntoList};
 use crate::SurfaceAnswer;
 use crate::SurfaceDerivatives;
+use calculus::Operation;
 use whole::Whole;
 
-// The term [i][j] of Leibniz's rule at [m][n].
-fn leibniz_term(
-    a: &[i64; 231],
-    b: &[i64; 231],
-    c: &[u32; 231],
-    m: usize,
-    n: usize,
-    i: usize,
-    j: usize,
-) -> Whole
-    requires { ⌜ (i ≤ m) × (j ≤ n) × (m + n ≤ 20) × (now c ≡ binomialTable) ⌝ }
-    ensures { λ r. ⌜ r ≡ leibniz (regular checked) (checked .times) (surfaceValues (now (a .entry))) (surfaceValues (now (b .entry))) m n i j ⌝ }
-{
-    let k = m - i;
-    let l = n - j;
-    let p = crate::index(i, j);
-    let q = crate::index(k, l);
-    let x = crate::index(i, k);
-    let y = crate::index(j, l);
-    crate::term(a[p], b[q], c[x] * c[y])
-}
-
-// The terms of one i, j rising, added to a sum.
-fn product_row(
-    start: Whole,
-    a: &[i64; 231],
-    b: &[i64; 231],
-    c: &[u32; 231],
-    m: usize,
-    n: usize,
-    i: usize,
-) -> Whole
-    requires { ⌜ (i ≤ m) × (m + n ≤ 20) × (now c ≡ binomialTable) ⌝ }
-    ensures { λ r. ⌜ r ≡ inTurn (checked .plus) start (leibniz (regular checked) (checked .times) (surfaceValues (now (a .entry))) (surfaceValues (now (b .entry))) m n i) (suc n) ⌝ }
-{
-    let mut sum = start;
-    let mut j = 0;
-    while j <= n {
-        let t = leibniz_term(a, b, c, m, n, i, j);
-        sum = whole::plus(sum, t);
-        j += 1;
-    }
-    sum
-}
-
-fn product_entry(a: &[i64; 231], b: &[i64; 231], c: &[u32; 231], m: usize, n: usize) -> Whole
-    requires { ⌜ (m + n ≤ 20) × (now c ≡ binomialTable) ⌝ }
-    ensures { λ r. ⌜ r ≡ product checked (surfaceValues (now (a .entry))) (surfaceValues (now (b .entry))) m n ⌝ }
-{
-    let mut sum = Whole::Value(0);
-    let mut i = 0;
-    while i <= m {
-        sum = product_row(sum, a, b, c, m, n, i);
-        i += 1;
-    }
-    sum
-}
-
-// The terms of one i, j rising from `from` on, subtracted from a number.
-fn owed_row(
-    start: Whole,
-    d: &[i64; 231],
-    q: &[i64; 231],
-    c: &[u32; 231],
-    m: usize,
-    n: usize,
-    i: usize,
-    from: usize,
-) -> Whole
-    requires { ⌜ (i ≤ m) × (from ≤ suc n) × (m + n ≤ 20) × (now c ≡ binomialTable) ⌝ }
-    ensures { λ r. ⌜ r ≡ inTurn (checked .minus) start (λ j. leibniz (regular checked) (checked .times) (surfaceValues (now (d .entry))) (surfaceValues (now (q .entry))) m n i (from + j)) (suc n - from) ⌝ }
-{
-    let mut rest = start;
-    let mut j = from;
-    while j <= n {
-        let t = leibniz_term(d, q, c, m, n, i, j);
-        rest = whole::minus(rest, t);
-        j += 1;
-    }
-    rest
-}
-
-// What is left of num[m][n] for d[0][0] · q[m][n].
-fn owed(
-    num: &[i64; 231],
-    d: &[i64; 231],
-    q: &[i64; 231],
-    c: &[u32; 231],
-    m: usize,
-    n: usize,
-) -> Whole
-    requires { ⌜ (m + n ≤ 20) × (now c ≡ binomialTable) ⌝ }
-    ensures { λ r. ⌜ r ≡ owedBy checked (surfaceValues (now (num .entry))) (surfaceValues (now (d .entry))) (surfaceValues (now (q .entry))) m n ⌝ }
-{
-    let p = crate::index(m, n);
-    let x = num[p];
-    let mut rest = owed_row(Whole::Value(x), d, q, c, m, n, 0, 1);
-    let mut i = 0;
-    while i < m {
-        let k = i + 1;
-        rest = owed_row(rest, d, q, c, m, n, k, 0);
-        i += 1;
-    }
-    rest
-}
-
-fn quotient_entry(
-    num: &[i64; 231],
-    d: &[i64; 231],
-    q: &[i64; 231],
-    c: &[u32; 231],
-    m: usize,
-    n: usize,
-) -> Whole
-    requires { ⌜ (m + n ≤ 20) × (now c ≡ binomialTable) ⌝ }
-    ensures { λ r. ⌜ r ≡ quotientEntry checked (surfaceValues (now (num .entry))) (surfaceValues (now (d .entry))) (surfaceValues (now (q .entry))) m n ⌝ }
-{
-    let y = d[0];
-    whole::over(owed(num, d, q, c, m, n), Whole::Value(y))
-}
-
-// A formula by which each entry is formed, from two jets and the entries before it.
-pub enum SurfaceFormula {
-    Sum,
-    Difference,
-    Product,
-    Quotient,
-}
-
-fn entry(
-    f: SurfaceFormula,
-    a: &[i64; 231],
-    b: &[i64; 231],
-    q: &[i64; 231],
-    c: &[u32; 231],
-    m: usize,
-    n: usize,
-) -> Whole
-    requires { ⌜ (m + n ≤ 20) × (now c ≡ binomialTable) ⌝ }
-    ensures { λ r. ⌜ r ≡ surfaceFormula f (surfaceValues (now (a .entry))) (surfaceValues (now (b .entry))) (surfaceValues (now (q .entry))) m n ⌝ }
-{
-    let k = crate::index(m, n);
-    match f {
-        SurfaceFormula::Sum => whole::add(a[k], b[k]),
-        SurfaceFormula::Difference => whole::sub(a[k], b[k]),
-        SurfaceFormula::Product => product_entry(a, b, c, m, n),
-        SurfaceFormula::Quotient => quotient_entry(a, b, q, c, m, n),
-    }
-}
-
-// The jet that a formula forms, entry by entry, i rising, then j; the first refusal ends it.
-fn entries(f: SurfaceFormula, a: &[i64; 231], b: &[i64; 231], n: usize) -> SurfaceAnswer
-    requires { ⌜ n ≤ 20 ⌝ }
-    ensures { λ r. ⌜ r ≡ surfaceAnswer (risingRows (checked .nought) (surfaceFormula f (surfaceValues (now (a .entry))) (surfaceValues (now (b .entry))))) n ⌝ }
-{
-    let c = calculus::binomials();
-    let mut r = [0i64; 231];
-    let mut i = 0;
-    let mut j = 0;
-    while i <= n {
-        let e = entry(f, a, b, &r, &c, i, j);
-        match e {
-            Whole::Value(v) => {
-                let k = crate::index(i, j);
-                r[k] = v;
-            }
-            Whole::Refused(u) => {
-                return crate::refused_surface(u);
-            }
-        }
-        j += 1;
-        if n < i + j {
-            i += 1;
-            j = 0;
-        }
-    }
-    SurfaceAnswer {
-        refusal: 0,
-        jet: SurfaceDerivatives {
-            order: n,
-            entries: r,
-        },
-    }
-}
-
-// A formula on two jets, at the smaller order.
-fn on_two(f: SurfaceFormula, a: SurfaceDerivatives, b: SurfaceDerivatives) -> SurfaceAnswer
-    ensures { λ r. ⌜ r ≡ onSurfaces (λ x y. risingRows (checked .nought) (surfaceFormula f x y)) a b ⌝ }
+// An operation on two jets, at the smaller order.
+fn on_two(op: Operation, a: SurfaceDerivatives, b: SurfaceDerivatives) -> SurfaceAnswer
+    ensures { λ r. ⌜ r ≡ onSurfaces (surfaceOperation checked op) a b ⌝ }
 {
     let m = a.order;
     let n = b.order;
@@ -217,7 +31,9 @@ fn on_two(f: SurfaceFormula, a: SurfaceDerivatives, b: SurfaceDerivatives) -> Su
     }
     let x = a.entries;
     let y = b.entries;
-    entries(f, &x, &y, calculus::smaller(m, n))
+    let k = calculus::smaller(m, n);
+    let formed = exact_formulas::surface(op, &x, &y, k);
+    crate::surface_with(k, formed)
 }
 
 // The derivative p times by u and q times by v, of the order n.
@@ -346,13 +162,13 @@ impl SurfaceDerivatives {
     pub fn sum(self, other: SurfaceDerivatives) -> SurfaceAnswer
         ensures { λ r. ⌜ r ≡ onSurfaces (sums (regular checked)) self other ⌝ }
     {
-        on_two(SurfaceFormula::Sum, self, other)
+        on_two(Operation::Sum, self, other)
     }
 
     pub fn difference(self, other: SurfaceDerivatives) -> SurfaceAnswer
         ensures { λ r. ⌜ r ≡ onSurfaces (differences (regular checked)) self other ⌝ }
     {
-        on_two(SurfaceFormula::Difference, self, other)
+        on_two(Operation::Difference, self, other)
     }
 
     pub fn derivative_u(self) -> SurfaceAnswer
@@ -391,22 +207,21 @@ impl SurfaceDerivatives {
         if calculus::smaller(k, l) < m + n {
             return Whole::Refused(2);
         }
-        let c = calculus::binomials();
         let x = self.entries;
         let y = other.entries;
-        product_entry(&x, &y, &c, m, n)
+        exact_formulas::surface_product(&x, &y, m, n)
     }
 
     // The product, by Leibniz's rule.
     pub fn combinatorial_derivatives(self, other: SurfaceDerivatives) -> SurfaceAnswer
         ensures { λ r. ⌜ r ≡ onSurfaces (product checked) self other ⌝ }
     {
-        on_two(SurfaceFormula::Product, self, other)
+        on_two(Operation::Product, self, other)
     }
 
     pub fn quotient(self, other: SurfaceDerivatives) -> SurfaceAnswer
         ensures { λ r. ⌜ r ≡ onSurfaces (quotients checked) self other ⌝ }
     {
-        on_two(SurfaceFormula::Quotient, self, other)
+        on_two(Operation::Quotient, self, other)
     }
 }

@@ -10,7 +10,8 @@ use lib.ListN.{length, getD, take, length-map}
 use lib.Seq.{take-all, getD-take, length-take-le}
 use Rattle.exact.specs.Judged.{byVerdict}
 use Rattle.roads.specs.declared.Step.{Step}
-use Rattle.roads.specs.Recipe.{Jets, someAbove20, smallest, wellFormed, worked, built}
+use Rattle.roads.specs.Recipe.{Jets, wellFormed, worked, built}
+use Rattle.calculus.specs.Orders.{someAbove20, smallest}
 use Rattle.roads.proofs.Inputs.{counts}
 use Rattle.roads.proofs.Working.{stays, worked-same}
 
@@ -67,12 +68,12 @@ module _ {J A : Type 0} {K : Jets J A} {jets : List J} {inputs : ℕ} {os : List
     pub ill-formed : wellFormed inputs steps (take steps program) ≡ false → K .refused 4 ≡ outcome
     ill-formed e = sym (checked false e)
 
-    pub builds : wellFormed inputs steps (take steps program) ≡ true → {n : ℕ} → n ≡ smallest (take g os) → (hand : List J) →
-        ((i : ℕ) → i < inputs → getD hand i (K .blank) ≡ K .cut n (getD jets i (K .blank))) →
-        worked K (λ i. getD hand i (K .blank)) inputs (take steps program) ≡ outcome
-    builds e ne hand he =
+    pub builds : wellFormed inputs steps (take steps program) ≡ true → {n : ℕ} → n ≡ smallest (take g os) → (jet-of : List J) →
+        ((i : ℕ) → i < inputs → getD jet-of i (K .blank) ≡ K .cut n (getD jets i (K .blank))) →
+        worked K (λ i. getD jet-of i (K .blank)) inputs (take steps program) ≡ outcome
+    builds e ne jet-of he =
         let c = counts inputs steps (take steps program) e in
-        worked-same K (take steps program) (λ i. getD hand i (K .blank)) (λ i. K .cut (smallest orders) (getD (take inputs jets) i (K .blank))) inputs (c .some)
+        worked-same K (take steps program) (λ i. getD jet-of i (K .blank)) (λ i. K .cut (smallest orders) (getD (take inputs jets) i (K .blank))) inputs (c .some)
         (λ i l. he i l ∙ ap₂ (K .cut) (ne ∙ ap smallest given-orders) (sym (getD-take inputs jets i (K .blank) l))) (c .names)
         ∙ sym (checked true e)
 

@@ -19,12 +19,14 @@ use Rattle.exact.specs.declared.SurfaceDerivatives.{SurfaceDerivatives}
 use Rattle.exact.specs.declared.ParameterCurve.{ParameterCurve}
 use Rattle.exact.specs.declared.CurveAnswer.{CurveAnswer}
 use Rattle.calculus.specs.Order.{rows}
-use Rattle.exact.specs.Answer.{unlessRefused, refusedCurve, refusedSurface}
+use Rattle.exact_formulas.specs.Entries.{unlessRefused}
+use Rattle.exact.specs.Answer.{refusedCurve, refusedSurface}
 use Rattle.exact.specs.Judged.{histories}
 use Rattle.roads.specs.declared.Step.{Step}
 use Rattle.roads.specs.declared.SurfaceRecipe.{SurfaceRecipe}
-use Rattle.roads.specs.declared.Operation.the-variants.{Sum, Difference, Product, Quotient}
-use Rattle.roads.specs.Recipe.{someAbove20, smallest, namesEarlier, worked}
+use Rattle.calculus.specs.declared.Operation.the-variants.{Sum, Difference, Product, Quotient}
+use Rattle.calculus.specs.Orders.{someAbove20, smallest}
+use Rattle.roads.specs.Recipe.{namesEarlier, worked}
 use Rattle.roads.specs.Roads.{firstRefusal, builtSurface, builtCurve, buildThenCarry, carryThenBuild}
 use Rattle.roads.specs.Formed.{carriesTake, stepsTake, numbersFormed}
 

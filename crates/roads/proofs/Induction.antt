@@ -25,7 +25,7 @@ use Rattle.exact.specs.Composite.{alongCurve}
 use Rattle.roads.specs.declared.Step.{Step}
 use Rattle.roads.specs.Recipe.{with, namesEarlier, worked}
 use Rattle.roads.specs.Roads.{surfaces, curves}
-use Rattle.roads.specs.Formed.{taken, carriedWith, stepWith, stepsTake}
+use Rattle.roads.specs.Formed.{formedBy, carriedWith, stepWith, stepsTake}
 use Rattle.roads.proofs.Meeting.{alongNumbers, alongJet, Meets, Orders, result-order, along-within, step-answer, step-meets}
 
 -- the tests on two lists of events, one after the other
@@ -33,40 +33,40 @@ pub every-two : (h k : List Event) → every inRange (numbers (h ++ k)) ≡ cond
 every-two h k = ap (every inRange) (numbers-append h k) ∙ every-append inRange (numbers h) (numbers k)
 
 -- ---- jets in hand
-module _ {X : Type 0} (hand : ℕ → X) (m : ℕ) (x : X) where
-  with-new : with hand m x m ≡ x
-  with-new = ap (λ (t : Bool). cond t x (hand m)) (eq-eqb m m refl)
+module _ {X : Type 0} (jet-of : ℕ → X) (m : ℕ) (x : X) where
+  with-new : with jet-of m x m ≡ x
+  with-new = ap (λ (t : Bool). cond t x (jet-of m)) (eq-eqb m m refl)
 
-  with-old : (i : ℕ) → i < m → with hand m x i ≡ hand i
-  with-old i l = ap (λ (t : Bool). cond t x (hand i)) (ne-eqb i m (λ e. omega arith))
+  with-old : (i : ℕ) → i < m → with jet-of m x i ≡ jet-of i
+  with-old i l = ap (λ (t : Bool). cond t x (jet-of i)) (ne-eqb i m (λ e. omega arith))
 
 -- ---- the result of the steps on surfaces of the order k has the order k
 module _ {k : ℕ} (high : k ≤ 20) where
-  order-goes-on : (s : Step) (ss : List Step) (hand : ℕ → SurfaceDerivatives) (m : ℕ) → ((i : ℕ) → i < m → hand i .order ≡ k) → s .left < m → s .right < m →
-      let a = surfaces .apply (s .operation) (hand (s .left)) (hand (s .right)) in
-      (((i : ℕ) → i < suc m → with hand m (a .jet) i .order ≡ k) → worked surfaces (with hand m (a .jet)) (suc m) ss .refusal ≡ 0 →
-      worked surfaces (with hand m (a .jet)) (suc m) ss .jet .order ≡ k) →
-      (x : ℕ) → a .refusal ≡ x → byVerdict refusedSurface x (worked surfaces (with hand m (a .jet)) (suc m) ss) .refusal ≡ 0 →
-      byVerdict refusedSurface x (worked surfaces (with hand m (a .jet)) (suc m) ss) .jet .order ≡ k
-  order-goes-on s ss hand m h l r next zero e f =
+  order-goes-on : (s : Step) (ss : List Step) (jet-of : ℕ → SurfaceDerivatives) (m : ℕ) → ((i : ℕ) → i < m → jet-of i .order ≡ k) → s .left < m → s .right < m →
+      let a = surfaces .apply (s .operation) (jet-of (s .left)) (jet-of (s .right)) in
+      (((i : ℕ) → i < suc m → with jet-of m (a .jet) i .order ≡ k) → worked surfaces (with jet-of m (a .jet)) (suc m) ss .refusal ≡ 0 →
+      worked surfaces (with jet-of m (a .jet)) (suc m) ss .jet .order ≡ k) →
+      (x : ℕ) → a .refusal ≡ x → byVerdict refusedSurface x (worked surfaces (with jet-of m (a .jet)) (suc m) ss) .refusal ≡ 0 →
+      byVerdict refusedSurface x (worked surfaces (with jet-of m (a .jet)) (suc m) ss) .jet .order ≡ k
+  order-goes-on s ss jet-of m h l r next zero e f =
       next (λ i b. ⊎-elim
-      (λ q. ap (λ (x : ℕ). with hand m a (x) .order) q ∙ ap (λ (x : SurfaceDerivatives). x .order) (with-new hand m a) ∙ result-order high (s .operation) (hand (s .left)) (hand (s .right)) (h (s .left) l) (h (s .right) r) e)
-      (λ q. ap (λ (x : SurfaceDerivatives). x .order) (with-old hand m a i q) ∙ h i q) (eq-or-lt-of-le (le-of-suc-le-suc b))) f
+      (λ q. ap (λ (x : ℕ). with jet-of m a (x) .order) q ∙ ap (λ (x : SurfaceDerivatives). x .order) (with-new jet-of m a) ∙ result-order high (s .operation) (jet-of (s .left)) (jet-of (s .right)) (h (s .left) l) (h (s .right) r) e)
+      (λ q. ap (λ (x : SurfaceDerivatives). x .order) (with-old jet-of m a i q) ∙ h i q) (eq-or-lt-of-le (le-of-suc-le-suc b))) f
     where
       a : SurfaceDerivatives
-      a = surfaces .apply (s .operation) (hand (s .left)) (hand (s .right)) .jet
-  order-goes-on s ss hand m h l r next (suc x) e f = absurd (suc-ne-zero x f)
+      a = surfaces .apply (s .operation) (jet-of (s .left)) (jet-of (s .right)) .jet
+  order-goes-on s ss jet-of m h l r next (suc x) e f = absurd (suc-ne-zero x f)
 
-  pub steps-order : (ss : List Step) (hand : ℕ → SurfaceDerivatives) (m : ℕ) → 0 < m → ((i : ℕ) → i < m → hand i .order ≡ k) → namesEarlier m ss ≡ true →
-      worked surfaces hand m ss .refusal ≡ 0 → worked surfaces hand m ss .jet .order ≡ k
+  pub steps-order : (ss : List Step) (jet-of : ℕ → SurfaceDerivatives) (m : ℕ) → 0 < m → ((i : ℕ) → i < m → jet-of i .order ≡ k) → namesEarlier m ss ≡ true →
+      worked surfaces jet-of m ss .refusal ≡ 0 → worked surfaces jet-of m ss .jet .order ≡ k
   unfolding worked namesEarlier
-  steps-order [] hand m p h e r = h (m - 1) (omega arith)
-  steps-order (s ∷ ss) hand m p h e r =
+  steps-order [] jet-of m p h e r = h (m - 1) (omega arith)
+  steps-order (s ∷ ss) jet-of m p h e r =
       let f = both-true (ltb (s .left) m) (cond (ltb (s .right) m) (namesEarlier (suc m) ss) false) e in
       let g = both-true (ltb (s .right) m) (namesEarlier (suc m) ss) (f .1) in
-      let a = surfaces .apply (s .operation) (hand (s .left)) (hand (s .right)) in
-      order-goes-on s ss hand m h (ltb-true (s .left) m (f .0)) (ltb-true (s .right) m (g .0))
-      (λ hs r. steps-order ss (with hand m (a .jet)) (suc m) (omega arith) hs (g .1) r) (a .refusal) refl r
+      let a = surfaces .apply (s .operation) (jet-of (s .left)) (jet-of (s .right)) in
+      order-goes-on s ss jet-of m h (ltb-true (s .left) m (f .0)) (ltb-true (s .right) m (g .0))
+      (λ hs r. steps-order ss (with jet-of m (a .jet)) (suc m) (omega arith) hs (g .1) r) (a .refusal) refl r
 
 module _ (c : ParameterCurve) (k n : ℕ) (o : Orders c k n) where
   -- the first road, from what the steps answer on the surfaces
@@ -79,7 +79,7 @@ module _ (c : ParameterCurve) (k n : ℕ) (o : Orders c k n) where
   last-carried {s} {a} p e =
       let eq = along-within c k n s (omega (arith, p .order, o .high)) (o .parameter) (omega (arith, p .order, o .asked)) (o .reach) in
       ap (λ (x : CurveDerivatives). record { refusal = 0; jet = x }) (p .curve)
-      ∙ by (every inRange (numbers (taken (carriedWith c s) n))) (sym (ap (λ (x : CurveAnswer). x .refusal) eq) ∙ e) ∙ sym eq
+      ∙ by (every inRange (numbers (formedBy (carriedWith c s) n))) (sym (ap (λ (x : CurveAnswer). x .refusal) eq) ∙ e) ∙ sym eq
     where
       by : (t : Bool) → cond t (answeredCurve n (alongNumbers c k n s)) (refusedCurve 9) .refusal ≡ 0 →
           answeredCurve n (alongNumbers c k n s) ≡ cond t (answeredCurve n (alongNumbers c k n s)) (refusedCurve 9)
@@ -128,13 +128,13 @@ module _ (c : ParameterCurve) (k n : ℕ) (o : Orders c k n) where
         Met (with hs m (first .jet)) (with hc m (alongJet c k n (first .jet))) handed (suc m) ss) →
         (x : ℕ) → first .refusal ≡ x → thenCarry (byVerdict refusedSurface x after) .refusal ≡ 0 →
         byVerdict refusedCurve (second .refusal) (worked curves (with hc m (second .jet)) (suc m) ss)
-        ≡ cond (every inRange (numbers (taken (stepWith s hz) n ++ stepsTake n handed (suc m) ss))) (thenCarry (byVerdict refusedSurface x after)) (refusedCurve 9)
+        ≡ cond (every inRange (numbers (formedBy (stepWith s hz) n ++ stepsTake n handed (suc m) ss))) (thenCarry (byVerdict refusedSurface x after)) (refusedCurve 9)
     step-met next zero e f =
         ap (λ (a : CurveAnswer). byVerdict refusedCurve (a .refusal) (worked curves (with hc m (a .jet)) (suc m) ss))
         (step-answer c k n o (s .operation) (h (s .left) l) (h (s .right) r) e)
-        ∙ by (every inRange (numbers (taken (stepWith s hz) n)))
+        ∙ by (every inRange (numbers (formedBy (stepWith s hz) n)))
         (next (hands-more m h (step-meets c k n o (s .operation) (h (s .left) l) (h (s .right) r) e)) f)
-        ∙ ap (λ (t : Bool). cond t (thenCarry after) (refusedCurve 9)) (sym (every-two (taken (stepWith s hz) n) (stepsTake n handed (suc m) ss)))
+        ∙ ap (λ (t : Bool). cond t (thenCarry after) (refusedCurve 9)) (sym (every-two (formedBy (stepWith s hz) n) (stepsTake n handed (suc m) ss)))
       where
         by : (t : Bool) → worked curves (with hc m (alongJet c k n (first .jet))) (suc m) ss
             ≡ cond (every inRange (numbers (stepsTake n handed (suc m) ss))) (thenCarry after) (refusedCurve 9) →

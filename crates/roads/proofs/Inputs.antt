@@ -19,9 +19,10 @@ use Rattle.exact.specs.declared.CurveAnswer.{CurveAnswer}
 use Rattle.exact.specs.Answer.{refusedCurve, answeredCurve}
 use Rattle.exact.specs.Composite.{withinOrders, alongCurve}
 use Rattle.roads.specs.declared.Step.{Step}
-use Rattle.roads.specs.Recipe.{namesEarlier, wellFormed, someAbove20, smallest}
+use Rattle.roads.specs.Recipe.{namesEarlier, wellFormed}
+use Rattle.calculus.specs.Orders.{someAbove20, smallest}
 use Rattle.roads.specs.Roads.{surfaces, curves, firstRefusal}
-use Rattle.roads.specs.Formed.{taken, carriedWith, carriesTake}
+use Rattle.roads.specs.Formed.{formedBy, carriedWith, carriesTake}
 use Rattle.roads.proofs.Meeting.{alongNumbers, alongJet, along-within}
 use Rattle.roads.proofs.Induction.{every-two}
 
@@ -90,7 +91,7 @@ module _ (c : ParameterCurve) (k n : ℕ) (hc : c .order ≤ 20) (lc : n ≤ c .
   -- one input more
   module _ (s : SurfaceDerivatives) (l : List SurfaceDerivatives) (h : cond (ltb 20 (s .order)) true (someAbove20 (map (surfaces .order) l)) ≡ false)
       (b : n ≤ min (s .order) (smallest (map (surfaces .order) l))) where
-    head-along : along s ≡ cond (every inRange (numbers (taken (carriedWith c s) n))) (answeredCurve n (alongNumbers c k n s)) (refusedCurve 9)
+    head-along : along s ≡ cond (every inRange (numbers (formedBy (carriedWith c s) n))) (answeredCurve n (alongNumbers c k n s)) (refusedCurve 9)
     head-along =
         along-within c k n s (ltb-false 20 (s .order) (then-true (ltb 20 (s .order)) _ h .0)) hc
         (omega (arith, b, min-le-left (s .order) (smallest (map (surfaces .order) l)))) lc
@@ -108,8 +109,8 @@ module _ (c : ParameterCurve) (k n : ℕ) (hc : c .order ≤ 20) (lc : n ≤ c .
   inputs-refusal [] h b = refl
   inputs-refusal (s ∷ l) h b =
       ap₂ (λ (a : CurveAnswer) (x : ℕ). orElse (a .refusal) x) (head-along s l h b) (inputs-refusal l (tail-above s l h b) (tail-reach s l h b))
-      ∙ by (every inRange (numbers (taken (carriedWith c s) n))) (every inRange (numbers (carriesTake c n l)))
-      ∙ ap (λ (t : Bool). cond t 0 9) (sym (every-two (taken (carriedWith c s) n) (carriesTake c n l)))
+      ∙ by (every inRange (numbers (formedBy (carriedWith c s) n))) (every inRange (numbers (carriesTake c n l)))
+      ∙ ap (λ (t : Bool). cond t 0 9) (sym (every-two (formedBy (carriedWith c s) n) (carriesTake c n l)))
     where
       by : (t u : Bool) → orElse (cond t (answeredCurve n (alongNumbers c k n s)) (refusedCurve 9) .refusal) (cond u 0 9) ≡ cond (cond t u false) 0 9
       by true u = refl
@@ -121,7 +122,7 @@ module _ (c : ParameterCurve) (k n : ℕ) (hc : c .order ≤ 20) (lc : n ≤ c .
   unfolding carriesTake someAbove20 smallest
   inputs-jets [] h b e = refl
   inputs-jets (s ∷ l) h b e =
-      let t = both-true (every inRange (numbers (taken (carriedWith c s) n))) (every inRange (numbers (carriesTake c n l))) (sym (every-two (taken (carriedWith c s) n) (carriesTake c n l)) ∙ e) in
+      let t = both-true (every inRange (numbers (formedBy (carriedWith c s) n))) (every inRange (numbers (carriesTake c n l))) (sym (every-two (formedBy (carriedWith c s) n) (carriesTake c n l)) ∙ e) in
       ap₂ (λ (a : CurveDerivatives) (r : List CurveDerivatives). a ∷ r)
       (ap (λ (a : CurveAnswer). a .jet) (head-along s l h b ∙ ap (λ (x : Bool). cond x (answeredCurve n (alongNumbers c k n s)) (refusedCurve 9)) (t .0)))
       (inputs-jets l (tail-above s l h b) (tail-reach s l h b) (t .1))

@@ -26,18 +26,20 @@ use Rattle.exact.specs.declared.CurveDerivatives.{CurveDerivatives}
 use Rattle.exact.specs.declared.SurfaceDerivatives.{SurfaceDerivatives}
 use Rattle.exact.specs.declared.ParameterCurve.{ParameterCurve}
 use Rattle.exact.specs.declared.SurfaceAnswer.{SurfaceAnswer}
-use Rattle.exact.specs.Kinds.{checked, traced}
-use Rattle.exact.specs.Answer.{curveNumbers, surfaceNumbers, curveValues, surfaceValues, refusedCurve, answeredCurve, answeredSurface, curveAnswer, surfaceAnswer, onCurves, onSurfaces}
+use Rattle.exact_formulas.specs.Kinds.{checked, traced}
+use Rattle.exact_formulas.specs.Entries.{curveNumbers, surfaceNumbers, curveValues, surfaceValues}
+use Rattle.exact.specs.Answer.{refusedCurve, answeredCurve, answeredSurface, curveAnswer, surfaceAnswer, onCurves, onSurfaces}
 use Rattle.exact.specs.Judged.{histories}
 use Rattle.exact.specs.Composite.{alongCurve}
 use Rattle.exact.proofs.Judged.{Settled, settled, Valued, valued, Sound, curve-exact, surface-answered}
 use Rattle.exact.proofs.Orders.{within}
 use Rattle.calculus.proofs.Same.{curve-entries-same}
 use Rattle.exact.proofs.CarryJudged.{carry-in-range}
-use Rattle.roads.specs.declared.Operation.{Operation}
-use Rattle.roads.specs.Operation.{curveOperation, surfaceOperation}
-use Rattle.roads.specs.Formed.{taken, carriedWith}
-use Rattle.roads.proofs.Operations.{curve-alike, surface-alike, carry-operation, carry-exact}
+use Rattle.calculus.specs.declared.Operation.{Operation}
+use Rattle.calculus.specs.Operation.{curveOperation, surfaceOperation}
+use Rattle.roads.specs.Formed.{formedBy, carriedWith}
+use Rattle.calculus.proofs.Operations.{curve-alike, surface-alike}
+use Rattle.roads.proofs.Operations.{carry-operation, carry-exact}
 
 -- ---- calls on jets of one order
 module _ {n : ℕ} (h : n ≤ 20) where
@@ -121,7 +123,7 @@ module _ (c : ParameterCurve) (k n : ℕ) where
       (λ i l. refl) (λ i l. refl) (λ i j l. refl) m (le-refl m)
 
   pub along-within : (s : SurfaceDerivatives) → s .order ≤ 20 → c .order ≤ 20 → n ≤ s .order → n ≤ c .order →
-      alongCurve s c n ≡ cond (every inRange (numbers (taken (carriedWith c s) n))) (answeredCurve n (alongNumbers s)) (refusedCurve 9)
+      alongCurve s c n ≡ cond (every inRange (numbers (formedBy (carriedWith c s) n))) (answeredCurve n (alongNumbers s)) (refusedCurve 9)
   along-within s hs hc ls lc =
       let answer = curveAnswer (compositeDerivatives (regular checked) (curveValues (c .u)) (curveValues (c .v)) (surfaceValues (s .entries))) n in
       sym (within refusedCurve answer (s .order) (c .order) n hs hc (omega arith) ls lc)
@@ -168,7 +170,7 @@ module _ (c : ParameterCurve) (k n : ℕ) where
     numbers-value m l = numbers-sound m l .0 ∙ result-along m l
 
     -- the second road's step is answered with the first one's result carried, or refused 9
-    pub step-answer : onCurves (curveOperation checked op) a b ≡ cond (every inRange (numbers (taken inHand n))) (answeredCurve n (alongNumbers jet)) (refusedCurve 9)
+    pub step-answer : onCurves (curveOperation checked op) a b ≡ cond (every inRange (numbers (formedBy inHand n))) (answeredCurve n (alongNumbers jet)) (refusedCurve 9)
     step-answer =
         ap₂ (onCurves (curveOperation checked op)) (p .curve) (q .curve)
         ∙ on-curves small (curveOperation checked op) (alongJet s .entries) (alongJet r .entries)

@@ -1,5 +1,5 @@
--- One step: the operations keep a relation between kinds of number; and an operation on surfaces that is answered is carried to the operation on
--- the carried, over the integers, every division of which is exact. Assumes nothing.
+-- One step: an operation on surfaces that is answered is carried to the operation on the carried, over the integers, every division of which is
+-- exact. Assumes nothing.
 use mathlib.Core.Path.{_≡_, refl, sym, ap, _∙_, subst}
 use mathlib.Core.Bool.{false}
 use Prim.Native.Nat.{ℕ, suc, _+_, _≤_}
@@ -11,38 +11,22 @@ use lib.Signed.{remZ}
 use borrow.Author.Tests.{eqb-true, eqb-false}
 use Rattle.whole.specs.History.{Traced, given, verdict}
 use Rattle.whole.proofs.Range.{natAbs-zero}
-use Rattle.calculus.specs.Kind.{Kind, regular, plain}
+use Rattle.calculus.specs.Kind.{regular, plain}
 use Rattle.calculus.specs.Rising.{before}
 use Rattle.calculus.specs.Curve
 use Rattle.calculus.specs.Surface
-use Rattle.calculus.proofs.Related.{Related, regulars, CurvesAlike, SurfacesAlike}
+use Rattle.calculus.proofs.Related.{CurvesAlike}
 use Rattle.calculus.proofs.Rising.{before-below, rising-alike}
-use Rattle.calculus.proofs.Alike.{sum-alike, difference-alike, surface-sum-alike, surface-difference-alike, productBy-alike, product-alike, owed-alike, quotient-alike, surface-product-alike, surface-quotient-alike, surface-dividend-alike}
+use Rattle.calculus.proofs.Alike.{sum-alike, difference-alike, productBy-alike, dividend-alike, surface-quotient-dividend-alike}
 use Rattle.calculus.proofs.CarryAlike.{composite-zero}
 use Rattle.calculus.proofs.UpTo.{CurvesAgree}
 use Rattle.calculus.proofs.Laws.{carried, carry-sum, carry-difference, carry-product, exact-carry-quotient, exact-carry-remainder}
-use Rattle.exact.specs.Kinds.{traced}
+use Rattle.exact_formulas.specs.Kinds.{traced}
 use Rattle.exact.proofs.Judged.{Valued, valued, Sound, exact-none, sound, soundModule}
-use Rattle.roads.specs.declared.Operation.{Operation}
-use Rattle.roads.specs.declared.Operation.the-variants.{Sum, Difference, Product, Quotient}
-use Rattle.roads.specs.Operation.{curveOperation, surfaceOperation}
+use Rattle.calculus.specs.declared.Operation.{Operation}
+use Rattle.calculus.specs.declared.Operation.the-variants.{Sum, Difference, Product, Quotient}
+use Rattle.calculus.specs.Operation.{curveOperation, surfaceOperation}
 use Rattle.roads.proofs.Sound.{sound-over, over-answered}
-
--- ---- what the operations of two kinds keep, each step keeps
-module _ {A B : Type 0} (R : A → B → Type 0) (K : Kind A) (L : Kind B) (r : Related R K L) (n : ℕ) where
-  pub curve-alike : (op : Operation) (a c : ℕ → A) (b d : ℕ → B) → CurvesAlike R n a b → CurvesAlike R n c d →
-      CurvesAlike R n (curveOperation K op a c) (curveOperation L op b d)
-  curve-alike Sum a c b d p q = sum-alike R R (regular K) (regular L) (regulars r) n p q
-  curve-alike Difference a c b d p q = difference-alike R R (regular K) (regular L) (regulars r) n p q
-  curve-alike Product a c b d p q = product-alike R K L r n a c b d p q
-  curve-alike Quotient a c b d p q = quotient-alike R K L r n a c b d p q
-
-  pub surface-alike : (op : Operation) (a c : ℕ → ℕ → A) (b d : ℕ → ℕ → B) → SurfacesAlike R n a b → SurfacesAlike R n c d →
-      SurfacesAlike R n (surfaceOperation K op a c) (surfaceOperation L op b d)
-  surface-alike Sum a c b d p q = surface-sum-alike R R (regular K) (regular L) (regulars r) n p q
-  surface-alike Difference a c b d p q = surface-difference-alike R R (regular K) (regular L) (regulars r) n p q
-  surface-alike Product a c b d p q = surface-product-alike R K L r n a c b d p q
-  surface-alike Quotient a c b d p q = surface-quotient-alike R K L r n a c b d p q
 
 -- ---- tests of a divisor and of a remainder
 not-zero : (z : ℤ) → eqb (natAbs z) 0 ≡ false → ¬ (z ≡ pos 0)
@@ -59,20 +43,20 @@ module _ (n : ℕ) (a b : ℕ → ℤ) where
   abbrev givenB : ℕ → Traced
   givenB i = given (b i)
 
-  quotient-sound : eqb (natAbs (b 0)) 0 ≡ false → ((m : ℕ) → m ≤ n → remZ (Curve.dividend plain a b m) (b 0) ≡ pos 0) →
+  quotient-sound : eqb (natAbs (b 0)) 0 ≡ false → ((m : ℕ) → m ≤ n → remZ (Curve.quotientDividend plain a b m) (b 0) ≡ pos 0) →
       CurvesAlike Sound n (Curve.quotient traced givenA givenB) (Curve.quotient plain a b)
   quotient-sound z h m l =
-      rising-alike (λ i (s t : Traced). Sound s (Curve.quotient plain a b i)) (traced .nought) (traced .nought)
+      rising-alike (λ i (s t : Traced). Sound s (Curve.quotient plain a b i)) (traced .zero) (traced .zero)
       (Curve.quotientEntry traced givenA givenB) (Curve.quotientEntry traced givenA givenB) (suc n)
       (λ i k f g e.
-      sound-over (Curve.owed traced givenA givenB f i) (Curve.dividend plain a b i) (b 0) (owed i (omega arith) f e) z
+      sound-over (Curve.dividend traced givenA givenB f i) (Curve.quotientDividend plain a b i) (b 0) (dividend i (omega arith) f e) z
       (ap (λ x. eqb (natAbs x) 0) (h i (omega arith))))
       m (omega arith)
     where
-      owed : (i : ℕ) → i ≤ n → (f : ℕ → Traced) → ((j : ℕ) → suc j ≤ i → Sound (f j) (Curve.quotient plain a b j)) →
-          Sound (Curve.owed traced givenA givenB f i) (Curve.dividend plain a b i)
-      owed i k f e =
-          owed-alike Sound _ _ sound n givenA givenB a b (as-given n a) (as-given n b) i k f (before (pos 0) (Curve.quotientEntry plain a b) i)
+      dividend : (i : ℕ) → i ≤ n → (f : ℕ → Traced) → ((j : ℕ) → suc j ≤ i → Sound (f j) (Curve.quotient plain a b j)) →
+          Sound (Curve.dividend traced givenA givenB f i) (Curve.quotientDividend plain a b i)
+      dividend i k f e =
+          dividend-alike Sound _ _ sound n givenA givenB a b (as-given n a) (as-given n b) i k f (before (pos 0) (Curve.quotientEntry plain a b) i)
           (λ j o. subst (Sound (f j)) (sym (before-below (pos 0) (Curve.quotientEntry plain a b) i j o)) (e j o))
 
 -- ---- an answered operation on surfaces a and b, up to the order N, along the curve (u, v)
@@ -83,11 +67,11 @@ module _ (u v : ℕ → ℤ) (a b : ℕ → ℕ → ℤ) (N : ℕ) where
   abbrev pub Answered : Operation → Type 0
   Answered op = (i j : ℕ) → i + j ≤ N → verdict (operated op i j .history) ≡ 0
 
-  divides : Answered Quotient → (i j : ℕ) → i + j ≤ N → (eqb (natAbs (b 0 0)) 0 ≡ false) × (remZ (Surface.dividend plain a b i j) (b 0 0) ≡ pos 0)
+  divides : Answered Quotient → (i j : ℕ) → i + j ≤ N → (eqb (natAbs (b 0 0)) 0 ≡ false) × (remZ (Surface.quotientDividend plain a b i j) (b 0 0) ≡ pos 0)
   divides h i j l =
-      let d = over-answered (Surface.dividend traced (λ i j. given (a i j)) (λ i j. given (b i j)) i j) (b 0 0) (h i j l) in
-      let e : Surface.dividend traced (λ i j. given (a i j)) (λ i j. given (b i j)) i j .value ≡ Surface.dividend plain a b i j =
-      surface-dividend-alike Valued traced plain valued (i + j) (λ i j. given (a i j)) (λ i j. given (b i j)) a b (λ i j l. refl) (λ i j l. refl) i j (le-refl (i + j))
+      let d = over-answered (Surface.quotientDividend traced (λ i j. given (a i j)) (λ i j. given (b i j)) i j) (b 0 0) (h i j l) in
+      let e : Surface.quotientDividend traced (λ i j. given (a i j)) (λ i j. given (b i j)) i j .value ≡ Surface.quotientDividend plain a b i j =
+      surface-quotient-dividend-alike Valued traced plain valued (i + j) (λ i j. given (a i j)) (λ i j. given (b i j)) a b (λ i j l. refl) (λ i j l. refl) i j (le-refl (i + j))
       in
       (d .0, ap (λ x. remZ x (b 0 0)) (sym e) ∙ natAbs-zero _ (eqb-true _ 0 (d .1)))
 

@@ -22,7 +22,8 @@ use Rattle.exact.specs.Judged.{byVerdict}
 use Rattle.exact.specs.Composite.{alongCurve}
 use Rattle.roads.specs.declared.Step.{Step}
 use Rattle.roads.specs.declared.SurfaceRecipe.{SurfaceRecipe}
-use Rattle.roads.specs.Recipe.{wellFormed, someAbove20, smallest, worked}
+use Rattle.roads.specs.Recipe.{wellFormed, worked}
+use Rattle.calculus.specs.Orders.{someAbove20, smallest}
 use Rattle.roads.specs.Roads.{surfaces, curves, builtSurface, buildThenCarry, carryThenBuild}
 use Rattle.roads.specs.Formed.{carriedWith, carriesTake, stepsTake, numbersFormed}
 use Rattle.roads.proofs.Meeting.{alongJet, Orders, carried-value}
@@ -51,14 +52,14 @@ module _ (r : SurfaceRecipe) (four : length (r .surfaces) ≡ 4) (c : ParameterC
   abbrev k : ℕ
   k = smallest (map (surfaces .order) inputs)
 
-  abbrev first-hand : ℕ → SurfaceDerivatives
-  first-hand i = surfaces .cut k (getD inputs i (surfaces .blank))
+  abbrev cut-input : ℕ → SurfaceDerivatives
+  cut-input i = surfaces .cut k (getD inputs i (surfaces .blank))
 
-  abbrev third-hand : ℕ → ℕ → ℤ
-  third-hand i = λ m. carriedWith c (getD inputs i (surfaces .blank)) m .value
+  abbrev carried-input : ℕ → ℕ → ℤ
+  carried-input i = λ m. carriedWith c (getD inputs i (surfaces .blank)) m .value
 
   abbrev work : SurfaceAnswer
-  work = worked surfaces first-hand (r .inputs) steps
+  work = worked surfaces cut-input (r .inputs) steps
 
   abbrev carry : SurfaceAnswer → CurveAnswer
   carry a = byVerdict refusedCurve (a .refusal) (alongCurve (a .jet) c n)
@@ -86,7 +87,7 @@ module _ (r : SurfaceRecipe) (four : length (r .surfaces) ≡ 4) (c : ParameterC
     orders : Orders c k n
     orders =
         let w = within _ (work .jet .order) (c .order) n (calls .1) in
-        let o : work .jet .order ≡ k = steps-order (smallest-20 inputs) steps first-hand (r .inputs) (count .some) (λ i l. refl) (count .names) (calls .0) in
+        let o : work .jet .order ≡ k = steps-order (smallest-20 inputs) steps cut-input (r .inputs) (count .some) (λ i l. refl) (count .names) (calls .0) in
         record { high = smallest-20 inputs; parameter = w .curve; asked = omega (arith, w .surface, o); reach = w .reach }
 
     length-inputs : length inputs ≡ r .inputs
@@ -103,12 +104,12 @@ module _ (r : SurfaceRecipe) (four : length (r .surfaces) ≡ 4) (c : ParameterC
     unfolding jets
     smallest-jets = jets-smallest c k n (orders .parameter) (orders .reach) (omega (arith, orders .asked, orders .high)) inputs (omega (arith, length-inputs, count .some))
 
-    rebuilt : rebuild jets ≡ cond (every inRange (numbers (stepsTake n third-hand (r .inputs) steps))) (carry work) (refusedCurve 9)
+    rebuilt : rebuild jets ≡ cond (every inRange (numbers (stepsTake n carried-input (r .inputs) steps))) (carry work) (refusedCurve 9)
     unfolding jets
     rebuilt =
         ap₂ (λ (t u : Bool). cond t (refusedCurve 1) (cond u (worked curves (λ i. curves .cut (smallest (map (curves .order) jets)) (getD jets i (curves .blank))) (r .inputs) steps) (refusedCurve 4)))
         (jets-above c k n (orders .parameter) (orders .reach) (omega (arith, orders .asked, orders .high)) inputs) (checks .1)
-        ∙ steps-met c k n orders steps first-hand (λ i. curves .cut (smallest (map (curves .order) jets)) (getD jets i (curves .blank))) third-hand (r .inputs) (count .some)
+        ∙ steps-met c k n orders steps cut-input (λ i. curves .cut (smallest (map (curves .order) jets)) (getD jets i (curves .blank))) carried-input (r .inputs) (count .some)
         (λ i l. record {
           order = refl;
           curve = ap₂ (λ (x : ℕ) (a : CurveDerivatives). record { order = x; entries = a .entries }) smallest-jets
@@ -119,7 +120,7 @@ module _ (r : SurfaceRecipe) (four : length (r .surfaces) ≡ 4) (c : ParameterC
 
     by : (t : Bool) → every inRange (numbers (carriesTake c n inputs)) ≡ t →
         byVerdict refusedCurve (cond t 0 9) (rebuild (take (r .inputs) (map (λ (a : CurveAnswer). a .jet) (map (λ s. alongCurve s c n) inputs))))
-        ≡ cond (cond t (every inRange (numbers (stepsTake n third-hand (r .inputs) steps))) false) (carry work) (refusedCurve 9)
+        ≡ cond (cond t (every inRange (numbers (stepsTake n carried-input (r .inputs) steps))) false) (carry work) (refusedCurve 9)
     unfolding jets
     by true h =
         ap (λ (l : List CurveDerivatives). rebuild (take (r .inputs) l)) (inputs-jets c k n (orders .parameter) (orders .reach) inputs (checks .0) (orders .asked) h)
@@ -132,7 +133,7 @@ module _ (r : SurfaceRecipe) (four : length (r .surfaces) ≡ 4) (c : ParameterC
         (inputs-refusal c k n (orders .parameter) (orders .reach) inputs (checks .0) (orders .asked))
         ∙ by (every inRange (numbers (carriesTake c n inputs))) refl
         ∙ ap₂ (λ (t : Bool) (a : SurfaceAnswer). cond t (carry a) (refusedCurve 9))
-        (sym (every-two (carriesTake c n inputs) (stepsTake n third-hand (r .inputs) steps))) (sym built-is)
+        (sym (every-two (carriesTake c n inputs) (stepsTake n carried-input (r .inputs) steps))) (sym built-is)
 
 -- THE THEOREM. The array of surfaces has its four places, as every array of that type has; which of them are given, the count says.
 pub roads-meet : (r : SurfaceRecipe) (c : ParameterCurve) (order : ℕ) → length (r .surfaces) ≡ 4 →

@@ -14,7 +14,7 @@ use lib.Seq.{drop-cons, getD-take, length-take-le, getD-set-same, getD-set-other
 use borrow.Author.Tests.{ltb-true, eq-eqb, ne-eqb}
 use Rattle.whole.proofs.History.{both-true}
 use Rattle.exact.specs.Judged.{byVerdict}
-use Rattle.roads.specs.declared.Operation.the-variants.{Sum}
+use Rattle.calculus.specs.declared.Operation.the-variants.{Sum}
 use Rattle.roads.specs.declared.Step.{Step}
 use Rattle.roads.specs.Recipe.{Jets, with, namesEarlier, worked}
 
@@ -57,38 +57,38 @@ module _ {J A : Type 0} (K : Jets J A) where
       (worked-same ss (with f m (K .jet a)) (with g m (K .jet a)) (suc m) (omega arith) (with-same f g m (K .jet a) h) (y .1))
 
 -- ---- the jets given are cut to the order of work in turn; the first i are in hand
-pub record Cutting {J A : Type 0} (K : Jets J A) (jets : List J) (order inputs : ℕ) (hand : List J) (i : ℕ) : Type 0 where
+pub record Cutting {J A : Type 0} (K : Jets J A) (jets : List J) (order inputs : ℕ) (jet-of : List J) (i : ℕ) : Type 0 where
   pub upto : i ≤ inputs
-  pub wide : length hand ≡ 16
-  pub done : (k : ℕ) → k < i → getD hand k (K .blank) ≡ K .cut order (getD jets k (K .blank))
+  pub wide : length jet-of ≡ 16
+  pub done : (k : ℕ) → k < i → getD jet-of k (K .blank) ≡ K .cut order (getD jets k (K .blank))
 
-pub cut-begins : {J A : Type 0} (K : Jets J A) (jets : List J) (order inputs : ℕ) {hand : List J} → length hand ≡ 16 → Cutting K jets order inputs hand 0
+pub cut-begins : {J A : Type 0} (K : Jets J A) (jets : List J) (order inputs : ℕ) {jet-of : List J} → length jet-of ≡ 16 → Cutting K jets order inputs jet-of 0
 cut-begins K jets order inputs w = record { upto = omega arith; wide = w; done = λ k h. absurd (not-suc-le-zero h) }
 
-module _ {J A : Type 0} {K : Jets J A} {jets : List J} {order inputs : ℕ} {hand : List J} {i : ℕ} (w : Cutting K jets order inputs hand i) where
-  pub cut-goes-on : i < inputs → inputs ≤ 4 → Cutting K jets order inputs (set hand i (K .cut order (getD jets i (K .blank)))) (i + 1)
+module _ {J A : Type 0} {K : Jets J A} {jets : List J} {order inputs : ℕ} {jet-of : List J} {i : ℕ} (w : Cutting K jets order inputs jet-of i) where
+  pub cut-goes-on : i < inputs → inputs ≤ 4 → Cutting K jets order inputs (set jet-of i (K .cut order (getD jets i (K .blank)))) (i + 1)
   cut-goes-on b four = record {
     upto = omega arith;
-    wide = length-set hand i _ ∙ w .wide;
+    wide = length-set jet-of i _ ∙ w .wide;
     done = λ k h. at k h (ℕ-discrete k i);
   }
     where
-      at : (k : ℕ) → k < i + 1 → Dec (k ≡ i) → getD (set hand i (K .cut order (getD jets i (K .blank)))) k (K .blank) ≡ K .cut order (getD jets k (K .blank))
-      at k h (yes e) = rw e (getD-set-same hand i (K .cut order (getD jets i (K .blank))) (K .blank) (omega (arith, w .wide)))
-      at k h (no e) = getD-set-other hand i k (K .cut order (getD jets i (K .blank))) (K .blank) e ∙ w .done k (omega arith)
+      at : (k : ℕ) → k < i + 1 → Dec (k ≡ i) → getD (set jet-of i (K .cut order (getD jets i (K .blank)))) k (K .blank) ≡ K .cut order (getD jets k (K .blank))
+      at k h (yes e) = rw e (getD-set-same jet-of i (K .cut order (getD jets i (K .blank))) (K .blank) (omega (arith, w .wide)))
+      at k h (no e) = getD-set-other jet-of i k (K .cut order (getD jets i (K .blank))) (K .blank) e ∙ w .done k (omega arith)
 
-  pub cut-ends : inputs ≤ i → (k : ℕ) → k < inputs → getD hand k (K .blank) ≡ K .cut order (getD jets k (K .blank))
+  pub cut-ends : inputs ≤ i → (k : ℕ) → k < inputs → getD jet-of k (K .blank) ≡ K .cut order (getD jets k (K .blank))
   cut-ends b k h = w .done k (omega arith)
 
 -- ---- the first n steps of a program are worked on the jets `start`; i of them are done
-pub record Working {J A : Type 0} (K : Jets J A) (start : List J) (inputs n : ℕ) (program : List Step) (hand : List J) (i : ℕ) : Type 0 where
+pub record Working {J A : Type 0} (K : Jets J A) (start : List J) (inputs n : ℕ) (program : List Step) (jet-of : List J) (i : ℕ) : Type 0 where
   pub upto : i ≤ n
   pub four : inputs ≤ 4
   pub twelve : n ≤ 12
   pub long : length program ≡ 12
-  pub wide : length hand ≡ 16
+  pub wide : length jet-of ≡ 16
   pub names : namesEarlier (inputs + i) (drop i (take n program)) ≡ true
-  pub rest : worked K (held K hand) (inputs + i) (drop i (take n program)) ≡ worked K (held K start) inputs (take n program)
+  pub rest : worked K (held K jet-of) (inputs + i) (drop i (take n program)) ≡ worked K (held K start) inputs (take n program)
 
 -- what is read past a program's end
 abbrev none : Step
@@ -106,7 +106,7 @@ module _ {J A : Type 0} (K : Jets J A) {start : List J} {inputs n : ℕ} {progra
     rest = ap (λ (m : ℕ). worked K (held K start) m (take n program)) (add-zero inputs);
   }
 
-module _ {J A : Type 0} {K : Jets J A} {start : List J} {inputs n : ℕ} {program : List Step} {hand : List J} {i : ℕ} (w : Working K start inputs n program hand i) where
+module _ {J A : Type 0} {K : Jets J A} {start : List J} {inputs n : ℕ} {program : List Step} {jet-of : List J} {i : ℕ} (w : Working K start inputs n program jet-of i) where
   abbrev outcome : A
   outcome = worked K (held K start) inputs (take n program)
 
@@ -139,19 +139,19 @@ module _ {J A : Type 0} {K : Jets J A} {start : List J} {inputs n : ℕ} {progra
     right-in = omega (arith, named .1, w .four, w .twelve)
 
     abbrev answer : A
-    answer = K .apply (step .operation) (held K hand (step .left)) (held K hand (step .right))
+    answer = K .apply (step .operation) (held K jet-of (step .left)) (held K jet-of (step .right))
 
     abbrev after : A
-    after = worked K (with (held K hand) (inputs + i) (K .jet answer)) (suc (inputs + i)) later
+    after = worked K (with (held K jet-of) (inputs + i) (K .jet answer)) (suc (inputs + i)) later
 
     one-step : byVerdict (K .refused) (K .refusal answer) after ≡ outcome
     unfolding worked
-    one-step = ap (worked K (held K hand) (inputs + i)) (sym left-over) ∙ w .rest
+    one-step = ap (worked K (held K jet-of) (inputs + i)) (sym left-over) ∙ w .rest
 
     pub work-stops : {a : A} → a ≡ answer → ¬ (K .refusal a ≡ 0) → K .refused (K .refusal a) ≡ outcome
     work-stops {a} e h = ap (λ (x : A). K .refused (K .refusal x)) e ∙ stays (K .refused) after (K .refusal answer) (λ z. h (ap (K .refusal) e ∙ z)) ∙ one-step
 
-    pub work-goes-on : {a : A} → a ≡ answer → K .refusal a ≡ 0 → Working K start inputs n program (set hand (inputs + i) (K .jet a)) (i + 1)
+    pub work-goes-on : {a : A} → a ≡ answer → K .refusal a ≡ 0 → Working K start inputs n program (set jet-of (inputs + i) (K .jet a)) (i + 1)
     work-goes-on {a} e h =
         let m : inputs + (i + 1) ≡ suc (inputs + i) = omega arith in
         record {
@@ -159,18 +159,18 @@ module _ {J A : Type 0} {K : Jets J A} {start : List J} {inputs n : ℕ} {progra
           four = w .four;
           twelve = w .twelve;
           long = w .long;
-          wide = length-set hand (inputs + i) (K .jet a) ∙ w .wide;
+          wide = length-set jet-of (inputs + i) (K .jet a) ∙ w .wide;
           names = ap (λ (k : ℕ). namesEarlier k later) m ∙ named .2;
-          rest = ap₂ (λ (f : ℕ → J) (k : ℕ). worked K f k later) (stored K hand (inputs + i) (K .jet a) (omega (arith, w .wide, w .four, w .twelve))) m
-              ∙ ap (λ (x : A). worked K (with (held K hand) (inputs + i) (K .jet x)) (suc (inputs + i)) later) e
+          rest = ap₂ (λ (f : ℕ → J) (k : ℕ). worked K f k later) (stored K jet-of (inputs + i) (K .jet a) (omega (arith, w .wide, w .four, w .twelve))) m
+              ∙ ap (λ (x : A). worked K (with (held K jet-of) (inputs + i) (K .jet x)) (suc (inputs + i)) later) e
               ∙ ap (λ (x : ℕ). byVerdict (K .refused) x after) (sym (ap (K .refusal) (sym e) ∙ h))
               ∙ one-step;
         }
 
-  pub work-ends : n ≤ i → K .answered (held K hand (inputs + n - 1)) ≡ outcome
+  pub work-ends : n ≤ i → K .answered (held K jet-of (inputs + n - 1)) ≡ outcome
   unfolding worked
   work-ends h =
       let e : i ≡ n = omega (arith, w .upto) in
-      ap (λ (k : ℕ). K .answered (held K hand (inputs + k - 1))) (sym e)
-      ∙ ap (worked K (held K hand) (inputs + i)) (sym (drop-of-length-le (take n program) {i = i} (omega (arith, length-take n program, min-le-left n (length program)))))
+      ap (λ (k : ℕ). K .answered (held K jet-of (inputs + k - 1))) (sym e)
+      ∙ ap (worked K (held K jet-of) (inputs + i)) (sym (drop-of-length-le (take n program) {i = i} (omega (arith, length-take n program, min-le-left n (length program)))))
       ∙ w .rest

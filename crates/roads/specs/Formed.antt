@@ -9,19 +9,19 @@ use Rattle.calculus.specs.Kind.{regular}
 use Rattle.calculus.specs.Carry.{compositeDerivatives}
 use Rattle.exact.specs.declared.SurfaceDerivatives.{SurfaceDerivatives}
 use Rattle.exact.specs.declared.ParameterCurve.{ParameterCurve}
-use Rattle.exact.specs.Kinds.{traced}
+use Rattle.exact_formulas.specs.Kinds.{traced}
 use Rattle.calculus.specs.Order.{curveEntries}
-use Rattle.exact.specs.Answer.{curveNumbers, surfaceNumbers}
+use Rattle.exact_formulas.specs.Entries.{curveNumbers, surfaceNumbers}
 use Rattle.exact.specs.Judged.{histories}
 use Rattle.roads.specs.declared.Step.{Step}
 use Rattle.roads.specs.declared.SurfaceRecipe.{SurfaceRecipe}
-use Rattle.roads.specs.Operation.{curveOperation}
+use Rattle.calculus.specs.Operation.{curveOperation}
 use Rattle.roads.specs.Recipe.{with}
 use Rattle.roads.specs.Roads.{surfaces}
 
 -- what the entries up to the order n of a jet took
-abbrev pub taken : (ℕ → Traced) → ℕ → List Event
-taken t n = histories (curveEntries t n)
+abbrev pub formedBy : (ℕ → Traced) → ℕ → List Event
+formedBy t n = histories (curveEntries t n)
 
 -- a surface's numbers carried along a curve, and an operation on two jets of numbers
 abbrev pub carriedWith : ParameterCurve → SurfaceDerivatives → ℕ → Traced
@@ -29,17 +29,17 @@ carriedWith c s =
     compositeDerivatives (regular traced) (λ i. given (curveNumbers (c .u) i)) (λ i. given (curveNumbers (c .v) i)) (λ i j. given (surfaceNumbers (s .entries) i j))
 
 abbrev pub stepWith : Step → (ℕ → ℕ → ℤ) → ℕ → Traced
-stepWith s hand = curveOperation traced (s .operation) (λ i. given (hand (s .left) i)) (λ i. given (hand (s .right) i))
+stepWith s jet-of = curveOperation traced (s .operation) (λ i. given (jet-of (s .left) i)) (λ i. given (jet-of (s .right) i))
 
 -- what carrying each surface took
 unfoldable pub carriesTake : ParameterCurve → ℕ → List SurfaceDerivatives → List Event
 carriesTake c n [] = []
-carriesTake c n (s ∷ ss) = taken (carriedWith c s) n ++ carriesTake c n ss
+carriesTake c n (s ∷ ss) = formedBy (carriedWith c s) n ++ carriesTake c n ss
 
 -- what the steps took, on the jets in hand, the first step making the number m
 unfoldable pub stepsTake : ℕ → (ℕ → ℕ → ℤ) → ℕ → List Step → List Event
-stepsTake n hand m [] = []
-stepsTake n hand m (s ∷ ss) = taken (stepWith s hand) n ++ stepsTake n (with hand m (λ i. stepWith s hand i .value)) (suc m) ss
+stepsTake n jet-of m [] = []
+stepsTake n jet-of m (s ∷ ss) = formedBy (stepWith s jet-of) n ++ stepsTake n (with jet-of m (λ i. stepWith s jet-of i .value)) (suc m) ss
 
 -- all numbers that the second road forms, in the order of work
 abbrev pub numbersFormed : SurfaceRecipe → ParameterCurve → ℕ → List ℤ

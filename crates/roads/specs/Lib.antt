@@ -1,4 +1,3 @@
-pub mod Operation
 pub mod Recipe
 pub mod Roads
 pub mod Formed

@@ -6,7 +6,8 @@ use Prim.Native.Nat.{ℕ, suc, _-_, min}
 use lib.Dec.{ltb, eqb}
 use lib.ListN.{getD, take}
 use Rattle.exact.specs.Judged.{byVerdict}
-use Rattle.roads.specs.declared.Operation.{Operation}
+use Rattle.calculus.specs.declared.Operation.{Operation}
+use Rattle.calculus.specs.Orders.{someAbove20, smallest}
 use Rattle.roads.specs.declared.Step.{Step}
 
 -- what a recipe asks of its jets, of the kind J, and of the answers to its steps, of the kind A
@@ -24,7 +25,7 @@ pub record Jets (J A : Type 0) : Type 0 where
 
 -- the jets in hand, by number, and j as the number m
 abbrev pub with : {J : Type 0} → (ℕ → J) → ℕ → J → ℕ → J
-with hand m j i = cond (eqb i m) j (hand i)
+with jet-of m j i = cond (eqb i m) j (jet-of i)
 
 -- each step names numbers before its own; m is the first one's
 unfoldable pub namesEarlier : ℕ → List Step → Bool
@@ -36,23 +37,14 @@ abbrev pub wellFormed : ℕ → ℕ → List Step → Bool
 wellFormed inputs steps program =
     cond (eqb inputs 0) false (cond (ltb 4 inputs) false (cond (eqb steps 0) false (cond (ltb 12 steps) false (namesEarlier inputs program))))
 
--- of the orders of the jets that are there: one is above 20; and the smallest of orders up to 20
-unfoldable pub someAbove20 : List ℕ → Bool
-someAbove20 [] = false
-someAbove20 (n ∷ ns) = cond (ltb 20 n) true (someAbove20 ns)
-
-unfoldable pub smallest : List ℕ → ℕ
-smallest [] = 20
-smallest (n ∷ ns) = min n (smallest ns)
-
 module _ {J A : Type 0} (K : Jets J A) where
   -- the steps in turn, on the jets before the number m: each adds its jet to those in hand, unless it is refused, which is the outcome then;
   -- the last number's jet is the result
   unfoldable pub worked : (ℕ → J) → ℕ → List Step → A
-  worked hand m [] = K .answered (hand (m - 1))
-  worked hand m (s ∷ ss) =
-      let a = K .apply (s .operation) (hand (s .left)) (hand (s .right)) in
-      byVerdict (K .refused) (K .refusal a) (worked (with hand m (K .jet a)) (suc m) ss)
+  worked jet-of m [] = K .answered (jet-of (m - 1))
+  worked jet-of m (s ∷ ss) =
+      let a = K .apply (s .operation) (jet-of (s .left)) (jet-of (s .right)) in
+      byVerdict (K .refused) (K .refusal a) (worked (with jet-of m (K .jet a)) (suc m) ss)
 
   -- the jets that are there have orders up to 20, or it is 1; the recipe is well formed, or it is 4; and every step works at the smallest
   -- order of all the jets given, used or not

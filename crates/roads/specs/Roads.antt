@@ -9,13 +9,13 @@ use Rattle.exact.specs.declared.SurfaceDerivatives.{SurfaceDerivatives}
 use Rattle.exact.specs.declared.ParameterCurve.{ParameterCurve}
 use Rattle.exact.specs.declared.CurveAnswer.{CurveAnswer}
 use Rattle.exact.specs.declared.SurfaceAnswer.{SurfaceAnswer}
-use Rattle.exact.specs.Kinds.{checked}
+use Rattle.exact_formulas.specs.Kinds.{checked}
 use Rattle.exact.specs.Answer.{refusedCurve, refusedSurface, onCurves, onSurfaces}
 use Rattle.exact.specs.Composite.{alongCurve}
 use Rattle.exact.specs.Judged.{byVerdict}
 use Rattle.roads.specs.declared.SurfaceRecipe.{SurfaceRecipe}
 use Rattle.roads.specs.declared.CurveRecipe.{CurveRecipe}
-use Rattle.roads.specs.Operation.{curveOperation, surfaceOperation}
+use Rattle.calculus.specs.Operation.{curveOperation, surfaceOperation}
 use Rattle.roads.specs.Recipe.{Jets, built}
 
 abbrev pub surfaces : Jets SurfaceDerivatives SurfaceAnswer

@@ -2,38 +2,8 @@
 ghost use mathlib.Core.Path.{_≡_};
 ghost use Prim.Native.Nat.{_≤_, min};
 ghost use lib.ListN.{take};
-ghost use Rattle.roads.specs.Recipe.{someAbove20, smallest as Smallest, namesEarlier, wellFormed};
+ghost use Rattle.roads.specs.Recipe.{namesEarlier, wellFormed};
 use crate::Step;
-
-// Whether one of the orders is above 20.
-pub fn some_above_20(orders: &[usize]) -> bool
-    ensures { λ r. ⌜ r ≡ someAbove20 (now (orders .entry)) ⌝ }
-{
-    let mut i = 0;
-    while i < orders.len() {
-        if 20 < orders[i] {
-            return true;
-        }
-        i += 1;
-    }
-    false
-}
-
-// The smallest of the orders, or 20 where that is smaller.
-pub fn smallest(orders: &[usize]) -> usize
-    ensures { λ r. ⌜ r ≡ Smallest (now (orders .entry)) ⌝ }
-{
-    let mut least = 20;
-    let mut i = orders.len();
-    while 0 < i {
-        i -= 1;
-        let n = orders[i];
-        if n < least {
-            least = n;
-        }
-    }
-    least
-}
 
 // Whether each step names numbers before its own.
 fn names_earlier(inputs: usize, steps: usize, program: [Step; 12]) -> bool

@@ -6,7 +6,6 @@ ghost use Prim.Native.Nat.{ℕ, _≤_, _<_};
 ghost use lib.ListN.{length, take, getD};
 ghost use Rattle.roads.specs.Recipe.{namesEarlier, worked};
 ghost use Rattle.roads.specs.Roads.{surfaces as kind, builtSurface};
-use crate::Operation;
 use crate::Step;
 use crate::SurfaceRecipe;
 use crate::checks;
@@ -42,20 +41,6 @@ fn cut(jets: [SurfaceDerivatives; 4], inputs: usize, order: usize) -> [SurfaceDe
     hand
 }
 
-impl Operation {
-    // What a step makes of two surfaces.
-    pub fn on_surfaces(self, a: SurfaceDerivatives, b: SurfaceDerivatives) -> SurfaceAnswer
-        ensures { λ r. ⌜ r ≡ kind .apply self a b ⌝ }
-    {
-        match self {
-            Operation::Sum => a.sum(b),
-            Operation::Difference => a.difference(b),
-            Operation::Product => a.combinatorial_derivatives(b),
-            Operation::Quotient => a.quotient(b),
-        }
-    }
-}
-
 // The steps in turn, on the jets in hand; the last number's jet is the result.
 fn work(
     start: [SurfaceDerivatives; 16],
@@ -75,7 +60,7 @@ fn work(
         let right = s.right;
         let a = hand[left];
         let b = hand[right];
-        let answer = operation.on_surfaces(a, b);
+        let answer = crate::on_surfaces(operation, a, b);
         let number = answer.refusal;
         if number != 0 {
             return exact::refused_surface(number);
@@ -101,13 +86,13 @@ impl SurfaceRecipe {
         let program = self.program;
         let all = orders(jets);
         let count = checks::given(inputs);
-        if checks::some_above_20(&all[..count]) {
+        if calculus::some_above_20(&all[..count]) {
             return exact::refused_surface(1);
         }
         if !checks::well_formed(inputs, steps, program) {
             return exact::refused_surface(4);
         }
-        let order = checks::smallest(&all[..count]);
+        let order = calculus::smallest(&all[..count]);
         let hand = cut(jets, inputs, order);
         work(hand, inputs, steps, program)
     }

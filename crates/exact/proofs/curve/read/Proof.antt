@@ -3,8 +3,9 @@ use mathlib.Core.Path.{refl}
 use Prim.Native.Nat.{suc, _-_}
 use denote.Ref.{now}
 use borrow.Author.Needs.{needs}
-use Rattle.exact.specs.Answer.{curveNumbers, curveValues}
-use Rattle.exact.proofs.Progress.{CurveProgress, curve-begins, curve-goes-on, curve-is}
+use Rattle.exact_formulas.specs.Entries.{curveNumbers, curveValues}
+use Rattle.exact_formulas.proofs.Progress.{CurveProgress, curve-begins, curve-goes-on}
+use Rattle.exact.proofs.Answers.{curve-is}
 use Rattle.exact.proofs.curve.read.Statement.{statement}
 use Rattle.exact.proofs.curve.read.Tie as tie
 

@@ -10,8 +10,9 @@ use lib.ListN.{getD}
 use mir.Syntax.{w64}
 use mir.Val.{SFits}
 use Rattle.calculus.specs.Curve.{derivative}
-use Rattle.exact.specs.Answer.{curveNumbers, curveValues}
-use Rattle.exact.proofs.Progress.{CurveProgress, curve-begins, curve-goes-on, curve-is}
+use Rattle.exact_formulas.specs.Entries.{curveNumbers, curveValues}
+use Rattle.exact_formulas.proofs.Progress.{CurveProgress, curve-begins, curve-goes-on}
+use Rattle.exact.proofs.Answers.{curve-is}
 use Rattle.exact.proofs.curve.shifted.Statement.{statement}
 use Rattle.exact.proofs.curve.shifted.Tie as tie
 

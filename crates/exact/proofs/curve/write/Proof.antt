@@ -10,7 +10,7 @@ use mir.Syntax.{w64}
 use mir.Val.{SFits}
 use mir.Facts.{toZ-ofZ}
 use Rattle.calculus.specs.Order.{curveEntries}
-use Rattle.exact.specs.Answer.{curveNumbers}
+use Rattle.exact_formulas.specs.Entries.{curveNumbers}
 use Rattle.calculus.proofs.Left.{curveLeft, curve-start, curve-next, curve-end}
 use Rattle.calculus.proofs.Writing.{Writing, writing-begins, in-list, writing-goes-on, writing-ends}
 use Rattle.calculus.proofs.Filling.{listed-length}

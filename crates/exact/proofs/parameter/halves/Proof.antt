@@ -1,5 +1,5 @@
 -- `exact::parameter::halves` meets its contract. The invariant: the numbers passed stand in the array. Assumes nothing.
-use mathlib.Core.Path.{refl, ap}
+use mathlib.Core.Path.{refl}
 use Prim.Native.Nat.{suc, _+_, _-_, _*_}
 use native.Mathlib.Omega.{arith}
 use denote.Ref.{now}
@@ -7,8 +7,7 @@ use borrow.Author.Needs.{needs}
 use lib.IntN.{pos}
 use lib.ListN.{getD}
 use Rattle.whole.specs.declared.Whole.the-variants.{Value}
-use Rattle.exact.specs.declared.CurveAnswer.{CurveAnswer}
-use Rattle.exact.proofs.Progress.{CurveProgress, curve-begins, curve-goes-on, curve-is}
+use Rattle.exact_formulas.proofs.Progress.{CurveProgress, curve-begins, curve-goes-on, curve-filled}
 use Rattle.exact.proofs.parameter.halves.Statement.{statement}
 use Rattle.exact.proofs.parameter.halves.Tie as tie
 
@@ -53,10 +52,7 @@ loop-again c =
     curve-goes-on (l .loop .inv) (omega arith) (c .before .loop-test .taken) (search needs) refl
 
 returns : tie.Need-returns Inv-loop μ-loop
-returns c =
-    let a = c .before .before .args in
-    ap (λ (x : CurveAnswer). x .jet .entries)
-    (curve-is (λ m. getD (now (a .list)) (2 * m + a .first) (pos 0)) (c .before .loop .inv) (c .loop-test .left))
+returns c = curve-filled (c .before .loop .inv) (c .loop-test .left)
 
 pub halves-spec : {M : Type 1} → statement M
 halves-spec = tie.close (tie.spec Inv-loop μ-loop loop-holds mul-k add-k mul-r shared-slice-copy-out-r mul-r-2 array-set-from-r add-m loop-less loop-again returns)

@@ -10,10 +10,10 @@ use lib.ListN.{length, getD}
 use mir.Syntax.{w64}
 use mir.Val.{SFits}
 use mir.Facts.{toZ-ofZ}
-use Rattle.exact.specs.Answer.{curveNumbers, pairs}
-use Rattle.exact.proofs.Work.{pairsLeft, pairs-start, pairs-next, pairs-end}
+use Rattle.exact_formulas.specs.Entries.{curveNumbers}
+use Rattle.exact.specs.Answer.{pairs}
+use Rattle.exact.proofs.Pairs.{pairsLeft, pairs-start, pairs-next, pairs-end, pairs-length}
 use Rattle.calculus.proofs.Writing.{Writing, writing-begins, in-list, writing-goes-on, writing-ends}
-use Rattle.exact.proofs.Pairs.{pairs-length}
 use Rattle.exact.proofs.parameter.write.Statement.{statement}
 use Rattle.exact.proofs.parameter.write.Tie as tie
 

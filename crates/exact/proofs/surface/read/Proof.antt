@@ -13,7 +13,8 @@ use Rattle.calculus.proofs.Graded.{room-231}
 use Rattle.calculus.specs.Graded.{triangle}
 use Rattle.calculus.specs.Order.{rowStart, listPlace}
 use Rattle.calculus.proofs.Places.{row-turn, list-place}
-use Rattle.exact.proofs.Progress.{SurfaceProgress, surface-begins, entry-inside, entry-place, surface-goes-on, surface-turns, surface-is}
+use Rattle.exact_formulas.proofs.Progress.{SurfaceProgress, surface-begins, entry-inside, entry-place, surface-goes-on, surface-turns}
+use Rattle.exact.proofs.Answers.{surface-is}
 use Rattle.exact.proofs.surface.read.Statement.{statement}
 use Rattle.exact.proofs.surface.read.Tie as tie
 

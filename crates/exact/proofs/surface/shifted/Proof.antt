@@ -10,8 +10,9 @@ use mir.Syntax.{w64}
 use mir.Val.{SFits}
 use Rattle.whole.specs.declared.Whole.the-variants.{Value}
 use Rattle.calculus.proofs.Table.{in-array}
-use Rattle.exact.specs.Answer.{surfaceNumbers}
-use Rattle.exact.proofs.Progress.{SurfaceProgress, surface-begins, entry-inside, entry-place, surface-goes-on, surface-turns, surface-is}
+use Rattle.exact_formulas.specs.Entries.{surfaceNumbers}
+use Rattle.exact_formulas.proofs.Progress.{SurfaceProgress, surface-begins, entry-inside, entry-place, surface-goes-on, surface-turns}
+use Rattle.exact.proofs.Answers.{surface-is}
 use Rattle.exact.proofs.surface.shifted.Statement.{statement}
 use Rattle.exact.proofs.surface.shifted.Tie as tie
 

@@ -4,7 +4,8 @@ use mathlib.Core.Bool.{true, false}
 use lib.ListN.{take}
 use borrow.Author.Tests.{not-true, not-false}
 use borrow.Author.Needs.{needs}
-use Rattle.roads.specs.Recipe.{someAbove20, wellFormed}
+use Rattle.calculus.specs.Orders.{someAbove20}
+use Rattle.roads.specs.Recipe.{wellFormed}
 use Rattle.roads.specs.Roads.{surfaces}
 use Rattle.roads.proofs.Inputs.{Counts, counts}
 use Rattle.roads.proofs.Building.{Given, given-length, too-high, ill-formed, builds}

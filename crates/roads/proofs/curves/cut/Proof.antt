@@ -8,10 +8,10 @@ use Rattle.roads.proofs.curves.cut.Statement.{statement}
 use Rattle.roads.proofs.curves.cut.Tie as tie
 
 abbrev Inv-loop : tie.InvT-loop
-Inv-loop inputs order jets hand₀ i₀ hand i = Cutting curves jets order inputs hand i
+Inv-loop inputs order jets hand₀ i₀ jet-of i = Cutting curves jets order inputs jet-of i
 
 abbrev μ-loop : tie.MeasureT-loop
-μ-loop inputs order jets hand₀ i₀ hand i = inputs - i
+μ-loop inputs order jets hand₀ i₀ jet-of i = inputs - i
 
 refused-curve-requires : tie.Need-refused-curve-requires Inv-loop μ-loop
 refused-curve-requires c κs = search needs

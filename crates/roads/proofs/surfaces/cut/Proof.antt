@@ -8,10 +8,10 @@ use Rattle.roads.proofs.surfaces.cut.Statement.{statement}
 use Rattle.roads.proofs.surfaces.cut.Tie as tie
 
 abbrev Inv-loop : tie.InvT-loop
-Inv-loop inputs order jets hand₀ i₀ hand i = Cutting surfaces jets order inputs hand i
+Inv-loop inputs order jets hand₀ i₀ jet-of i = Cutting surfaces jets order inputs jet-of i
 
 abbrev μ-loop : tie.MeasureT-loop
-μ-loop inputs order jets hand₀ i₀ hand i = inputs - i
+μ-loop inputs order jets hand₀ i₀ jet-of i = inputs - i
 
 refused-surface-requires : tie.Need-refused-surface-requires Inv-loop μ-loop
 refused-surface-requires c κs = search needs

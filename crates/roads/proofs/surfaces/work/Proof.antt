@@ -9,10 +9,10 @@ use Rattle.roads.proofs.surfaces.work.Statement.{statement}
 use Rattle.roads.proofs.surfaces.work.Tie as tie
 
 abbrev Inv-loop : tie.InvT-loop
-Inv-loop inputs steps program hand₀ i₀ hand i = Working surfaces hand₀ inputs steps program hand i
+Inv-loop inputs steps program hand₀ i₀ jet-of i = Working surfaces hand₀ inputs steps program jet-of i
 
 abbrev μ-loop : tie.MeasureT-loop
-μ-loop inputs steps program hand₀ i₀ hand i = steps - i
+μ-loop inputs steps program hand₀ i₀ jet-of i = steps - i
 
 loop-holds : tie.Need-loop-holds Inv-loop μ-loop
 loop-holds c = work-begins surfaces (c .pre .1) (c .pre .2) (search needs) (search needs) (c .pre .3)

@@ -1,0 +1,67 @@
+-- `exact_carry::derivative` meets its contract. The invariant: the total is that of the lens passed. Assumes nothing.
+use mathlib.Core.Path.{_≡_, refl, _∙_, ap₂}
+use mathlib.Core.List.{List}
+use native.Mathlib.Numerals.{add-one}
+use lib.IntN.{ℤ}
+use denote.Ref.{now}
+use Rattle.partitions.specs.Parts.{lists}
+use Rattle.calculus.specs.Kind.{regular}
+use Rattle.calculus.specs.InTurn.{alongList}
+use Rattle.calculus.specs.Carry.{summand, throughLen, coordinates, surfaceEntry}
+use Rattle.whole.specs.declared.Whole.{Whole}
+use Rattle.exact_formulas.specs.Kinds.{checked}
+use Rattle.exact_formulas.specs.Entries.{curveValues, surfaceValues}
+use Prim.Native.Nat.{ℕ, _-_, _≤_}
+use native.Mathlib.Omega.{arith}
+use borrow.Author.Needs.{needs}
+use Rattle.exact_carry.proofs.derivative.Statement.{statement}
+use Rattle.exact_carry.proofs.derivative.Tie as tie
+
+abbrev through : List ℤ → List ℤ → List ℤ → ℕ → ℕ → Whole
+through entries u v = throughLen (regular checked) 2 (coordinates (curveValues u) (curveValues v)) (surfaceEntry (surfaceValues entries))
+
+abbrev Inv-loop : tie.InvT-loop
+Inv-loop entries u v order n total₀ len₀ total len = (total ≡ through entries u v n len) × (len ≤ n)
+
+abbrev μ-loop : tie.MeasureT-loop
+μ-loop entries u v order n total₀ len₀ total len = n - len
+
+smaller-requires : tie.Need-smaller-requires Inv-loop μ-loop
+smaller-requires c κs = search needs
+
+loop-holds : tie.Need-loop-holds Inv-loop μ-loop
+unfolding throughLen
+loop-holds c = (refl, omega arith)
+
+add-len : tie.Need-add-len Inv-loop μ-loop
+add-len c = search needs
+
+along-lists-requires : tie.Need-along-lists-requires Inv-loop μ-loop
+along-lists-requires c κs = (omega arith, omega arith, omega arith)
+
+loop-less : tie.Need-loop-less Inv-loop μ-loop
+loop-less c = search needs
+
+loop-again : tie.Need-loop-again Inv-loop μ-loop
+unfolding throughLen
+loop-again c =
+    let l = c .before .before in
+    let k = l .before in
+    let s = k .before .args in
+    let e = summand (regular checked) 2 (coordinates (curveValues (now (s .u))) (curveValues (now (s .v)))) (surfaceEntry (surfaceValues (now (s .entries)))) in (
+      rw add-one (c .along-lists .ensures ∙ ap₂ (λ x n. alongList (checked .plus) x e (lists (k .smaller .result) n)) (l .loop .inv .0) (add-one (l .loop .len))),
+      omega arith,
+    )
+
+returns : tie.Need-returns Inv-loop μ-loop
+returns c =
+    let l = c .before in
+    let k = l .before in
+    let s = k .before .args in
+    let e : l .loop .len ≡ k .smaller .result = omega arith in
+    l .loop .inv .0 ∙ ap₂ (through (now (s .entries)) (now (s .u)) (now (s .v))) (k .smaller .ensures) (e ∙ k .smaller .ensures)
+
+pub derivative-spec : {M : Type 1} → statement M
+derivative-spec =
+    tie.close
+    (tie.spec Inv-loop μ-loop smaller-requires loop-holds add-len along-lists-requires loop-less loop-again returns)
