@@ -1,67 +1,58 @@
--- The answers on jets of floats: arrays that have been computed, derivatives of surfaces, and jets that go whole into a list. Assumes nothing.
-use mathlib.Core.Path.{_≡_, refl, sym, ap, ap₂, _∙_, fun-ext}
+-- The answers on jets of floats: arrays that have been computed, and jets that go whole into a list. Assumes nothing.
+use Rattle.calculus.proofs.Cut.{uncut}
+use mathlib.Core.Path.{_≡_, refl, sym, ap, _∙_}
 use mathlib.Core.Bool.{true, cond, not}
 use mathlib.Core.List.{List}
-use Prim.Native.Nat.{ℕ, suc, _+_, _≤_}
-use native.Mathlib.Nat.{add-zero}
+use Prim.Native.Nat.{ℕ, suc, _+_, _-_, _≤_, min}
 use native.Mathlib.Numerals.{add-one}
 use native.Mathlib.Omega.{arith}
 use lib.ListN.{length}
 use lib.Ieee.{Float, nan}
 use lib.Ieee.Scale.{finite}
 use borrow.Author.Tests.{lt-ltb}
-use Rattle.ieee.proofs.Tests.{first}
+use Rattle.booleans.proofs.Tests.{first}
 use Rattle.calculus.specs.Graded.{triangle, graded}
 use Rattle.calculus.specs.Array.{filled, curveArray, surfaceArray}
 use Rattle.calculus.specs.Order.{curveEntries, surfaceEntries}
-use Rattle.calculus.specs.Surface.{derivativeU, derivativeV}
 use Rattle.calculus.proofs.Filling.{filled-at}
 use Rattle.calculus.proofs.Graded.{room-231}
 use Rattle.derivatives.specs.declared.CurveDerivatives.{CurveDerivatives}
 use Rattle.derivatives.specs.declared.SurfaceDerivatives.{SurfaceDerivatives}
-use Rattle.vectors.specs.Answers.{nought}
-use Rattle.derivatives.specs.Answer.{curveNumbers, surfaceNumbers, allFinite, finiteCurve, finiteSurface, refusedCurve, refusedSurface, madeCurve, madeSurface, returnedCurve, returnedSurface, curves, surfaces, curveIntoList, surfaceIntoList}
-use Rattle.derivatives.proofs.Finite.{same, surface-finite}
+use Rattle.ieee_vectors.specs.Vectors.{positiveZero}
+use Rattle.formulas.specs.Numbers.{curveNumbers, surfaceNumbers, allFinite, finiteCurve, finiteSurface}
+use Rattle.derivatives.specs.Answer.{refusedCurve, refusedSurface, madeCurve, madeSurface, returnedCurve, returnedSurface, curves, surfaces, curveIntoList, surfaceIntoList}
+use Rattle.formulas.proofs.Finite.{same, surface-finite}
 use Rattle.derivatives.proofs.Tested.{returned-as, pair, into-worked}
 
 -- ---- the array is finite as far as it is filled where its entries are
 module _ (w : ℕ) (f : ℕ → Float) (n : ℕ) where
-  pub filled-finite : n ≤ w → allFinite (curveNumbers (filled w nought f n)) n ≡ allFinite f n
+  pub filled-finite : n ≤ w → allFinite (curveNumbers (filled w positiveZero f n)) n ≡ allFinite f n
   filled-finite l =
-      same finite (curveNumbers (filled w nought f n)) f n
-      (λ k h. filled-at w nan nought f n k (omega arith) ∙ first (f k) nought (lt-ltb k n h))
+      same finite (curveNumbers (filled w positiveZero f n)) f n
+      (λ k h. filled-at w nan positiveZero f n k (omega arith) ∙ first (f k) positiveZero (lt-ltb k n h))
 
 -- a surface's array
-pub array-finite : (f : ℕ → ℕ → Float) (n : ℕ) → n ≤ 20 → finiteSurface (surfaceNumbers (surfaceArray nought f n)) n ≡ finiteSurface f n
+pub array-finite : (f : ℕ → ℕ → Float) (n : ℕ) → n ≤ 20 → finiteSurface (surfaceNumbers (surfaceArray positiveZero f n)) n ≡ finiteSurface f n
 array-finite f n l =
-    sym (surface-finite (surfaceArray nought f n) n)
+    sym (surface-finite (surfaceArray positiveZero f n) n)
     ∙ filled-finite 231 (graded f) (triangle (suc n)) (room-231 n l)
 
 -- ---- what has been computed
 module _ (n : ℕ) (l : n ≤ 20) {r : List Float} where
-  pub curve-returned : (f : ℕ → Float) → r ≡ curveArray nought f n →
+  pub curve-returned : (f : ℕ → Float) → r ≡ curveArray positiveZero f (min n 20) →
       cond (finiteCurve (curveNumbers r) n) (madeCurve n r) (refusedCurve 10) ≡ returnedCurve n f
   curve-returned f e =
-      returned-as (λ x. finiteCurve (curveNumbers x) n) (madeCurve n) (refusedCurve 10) e (filled-finite 21 f (suc n) (omega arith))
+      returned-as (λ x. finiteCurve (curveNumbers x) n) (madeCurve n) (refusedCurve 10) (e ∙ uncut (curveArray positiveZero f) l) (filled-finite 21 f (suc n) (omega arith))
 
-  pub surface-returned : (s : ℕ → ℕ → Float) → r ≡ surfaceArray nought s n →
+  pub surface-returned : (s : ℕ → ℕ → Float) → r ≡ surfaceArray positiveZero s (min n 20) →
       cond (finiteSurface (surfaceNumbers r) n) (madeSurface n r) (refusedSurface 10) ≡ returnedSurface n s
-  surface-returned s e = returned-as (λ x. finiteSurface (surfaceNumbers x) n) (madeSurface n) (refusedSurface 10) e (array-finite s n l)
+  surface-returned s e = returned-as (λ x. finiteSurface (surfaceNumbers x) n) (madeSurface n) (refusedSurface 10) (e ∙ uncut (surfaceArray positiveZero s) l) (array-finite s n l)
 
--- ---- once by u, and once by v: what is made of the derivative
-module _ {A : Type 0} where
-  pub u-entries : (s : ℕ → ℕ → A) → (λ i j. s (i + 1) (j + 0)) ≡ derivativeU s
-  u-entries s = fun-ext (λ i. fun-ext (λ j. ap₂ (λ (x y : ℕ). s x y) (add-one i) (add-zero j)))
-
-  pub v-entries : (s : ℕ → ℕ → A) → (λ i j. s (i + 0) (j + 1)) ≡ derivativeV s
-  v-entries s = fun-ext (λ i. fun-ext (λ j. ap₂ (λ (x y : ℕ). s x y) (add-zero i) (add-one j)))
-
-  module _ {B : Type 0} (make : ((ℕ → ℕ → A) → ℕ → ℕ → A) → B) where
-    pub by-u : make (λ s i j. s (i + 1) (j + 0)) ≡ make derivativeU
-    by-u = ap make (fun-ext u-entries)
-
-    pub by-v : make (λ s i j. s (i + 0) (j + 1)) ≡ make derivativeV
-    by-v = ap make (fun-ext v-entries)
+-- ---- the order of a derivative is not cut
+pub less-uncut : {A : Type 0} (f : ℕ → A) (n : ℕ) → n ≤ 20 → f (min (n - 1) 19) ≡ f (n - 1)
+less-uncut f n l =
+    let h : n - 1 ≤ 19 = omega (arith, l) in
+    uncut f h
 
 -- ---- a jet goes whole into a list of its length
 pub into-is : (a : CurveDerivatives) (out : List Float) → a .order ≤ 20 → length out ≡ a .order + 1 →

@@ -11,8 +11,9 @@ use lib.Ieee.{Float, nan}
 use Rattle.calculus.specs.Array.{curveArray}
 use Rattle.calculus.proofs.Writing.{Writing, writing-goes-on}
 use Rattle.derivatives.specs.declared.ParameterCurve.{ParameterCurve}
-use Rattle.vectors.specs.Answers.{nought}
-use Rattle.derivatives.specs.Answer.{curveNumbers, finiteCurve, madeParameter, answeredParameter, parameters, pairs, parameterIntoList}
+use Rattle.ieee_vectors.specs.Vectors.{positiveZero}
+use Rattle.formulas.specs.Numbers.{curveNumbers, finiteCurve}
+use Rattle.derivatives.specs.Answer.{madeParameter, answeredParameter, parameters, pairs, parameterIntoList}
 use Rattle.derivatives.proofs.Tested.{pair, into-worked}
 
 -- every other number of a list
@@ -61,10 +62,10 @@ two-more u v {n} {m} {all} {out} w h =
 pub twice : (n : ℕ) → 2 * (n + 1) ≡ 2 * suc n
 twice n = ap (λ (x : ℕ). 2 * x) (add-one n)
 
-pub parameter-made : (n : ℕ) (l : List Float) {u v : List Float} → u ≡ curveArray nought (every l 0) n → v ≡ curveArray nought (every l 1) n →
+pub parameter-made : (n : ℕ) (l : List Float) {u v : List Float} → u ≡ curveArray positiveZero (every l 0) n → v ≡ curveArray positiveZero (every l 1) n →
     madeParameter n u v ≡ answeredParameter n (λ m. getD l (2 * m) nan) (λ m. getD l (2 * m + 1) nan)
 parameter-made n l a b =
-    ap₂ (madeParameter n) (a ∙ ap (λ (f : ℕ → Float). curveArray nought f n) (fun-ext (λ m. ap (λ (k : ℕ). getD l k nan) (add-zero (2 * m))))) b
+    ap₂ (madeParameter n) (a ∙ ap (λ (f : ℕ → Float). curveArray positiveZero f n) (fun-ext (λ m. ap (λ (k : ℕ). getD l k nan) (add-zero (2 * m))))) b
 
 pub into-is : (a : ParameterCurve) (out : List Float) → a .order ≤ 20 → length out ≡ 2 * (a .order + 1) →
     finiteCurve (curveNumbers (a .u)) (a .order) ≡ true → finiteCurve (curveNumbers (a .v)) (a .order) ≡ true →

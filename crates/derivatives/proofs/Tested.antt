@@ -8,7 +8,8 @@ use lib.Dec.{ltb}
 use lib.ListN.{length}
 use lib.Ieee.{Float}
 use borrow.Author.Tests.{ltb-false, lt-ltb, le-ltb, eq-eqb, ne-eqb, not-true, not-false}
-use Rattle.derivatives.specs.Answer.{far, finiteList, Reading, onOne, onOneLess, onTwo, onTwoAt, fromList, intoList}
+use Rattle.derivatives.specs.Answer.{above20, Reading, onOne, onOneLess, onTwo, onTwoAt, fromList, intoList}
+use Rattle.formulas.specs.Numbers.{finiteList}
 
 -- ---- orders that are not above 20
 split-first : (p q : Bool) → (p || q) ≡ false → p ≡ false
@@ -19,11 +20,11 @@ split-second : (p q : Bool) → (p || q) ≡ false → q ≡ false
 split-second true q e = ap (λ (b : Bool). cond b q false) e
 split-second false q e = e
 
-pub near : {b : Bool} (m n : ℕ) → b ≡ far m n → b ≡ false → {k : ℕ} → k ≡ min m n → k ≤ 20
+pub near : {b : Bool} (m n : ℕ) → b ≡ above20 m n → b ≡ false → {k : ℕ} → k ≡ min m n → k ≤ 20
 near m n h e q = omega (arith, ltb-false 20 m (split-first (ltb 20 m) (ltb 20 n) (sym h ∙ e)), q)
 
-pub near-at : {b : Bool} (m n k : ℕ) → b ≡ (far m n || ltb 20 k) → b ≡ false → k ≤ 20
-near-at m n k h e = ltb-false 20 k (split-second (far m n) (ltb 20 k) (sym h ∙ e))
+pub near-at : {b : Bool} (m n k : ℕ) → b ≡ (above20 m n || ltb 20 k) → b ≡ false → k ≤ 20
+near-at m n k h e = ltb-false 20 k (split-second (above20 m n) (ltb 20 k) (sym h ∙ e))
 
 -- ---- an array that has been computed, and is tested
 pub returned-as : {A : Type 0} (finite : List Float → Bool) (made : List Float → A) (refused : A) {r s : List Float} {b : Bool} → r ≡ s → finite s ≡ b →
@@ -32,9 +33,9 @@ returned-as finite made refused e h = ap₂ (λ (b : Bool) (x : List Float). con
 
 -- ---- work on two jets: f is the test of their orders, and t the test whether they are finite
 module _ {J K M N A : Type 0} (R : Reading J M) (S : Reading K N) (refused : ℕ → A) where
-  module _ (op : M → N → ℕ → A) (a : J) (b : K) {f : Bool} (g : f ≡ far (R .order a) (S .order b)) where
-    pub two-far : f ≡ true → refused 1 ≡ onTwo R S refused op a b
-    two-far e = rw (sym g ∙ e)
+  module _ (op : M → N → ℕ → A) (a : J) (b : K) {f : Bool} (g : f ≡ above20 (R .order a) (S .order b)) where
+    pub two-above-20 : f ≡ true → refused 1 ≡ onTwo R S refused op a b
+    two-above-20 e = rw (sym g ∙ e)
 
     module _ (e : f ≡ false) {n : ℕ} (m : n ≡ min (R .order a) (S .order b)) {t : Bool} (h : t ≡ (R .finite (R .numbers a) n && S .finite (S .numbers b) n)) where
       pub two-infinite : not t ≡ true → refused 5 ≡ onTwo R S refused op a b
@@ -44,9 +45,9 @@ module _ {J K M N A : Type 0} (R : Reading J M) (S : Reading K N) (refused : ℕ
       two-worked i = rw (sym g ∙ e, ← m, sym h ∙ not-false t i)
 
   -- at an order that is asked
-  module _ (op : M → N → A) (a : J) (b : K) (m : ℕ) {f : Bool} (g : f ≡ (far (R .order a) (S .order b) || ltb 20 m)) where
-    pub at-far : f ≡ true → refused 1 ≡ onTwoAt R S refused op a b m
-    at-far e = rw (sym g ∙ e)
+  module _ (op : M → N → A) (a : J) (b : K) (m : ℕ) {f : Bool} (g : f ≡ (above20 (R .order a) (S .order b) || ltb 20 m)) where
+    pub at-above-20 : f ≡ true → refused 1 ≡ onTwoAt R S refused op a b m
+    at-above-20 e = rw (sym g ∙ e)
 
     module _ (e : f ≡ false) {n : ℕ} (q : n ≡ min (R .order a) (S .order b)) where
       pub at-beyond : n < m → refused 2 ≡ onTwoAt R S refused op a b m
@@ -61,11 +62,11 @@ module _ {J K M N A : Type 0} (R : Reading J M) (S : Reading K N) (refused : ℕ
 
 -- ---- work on one jet
 module _ {J M A : Type 0} (R : Reading J M) (refused : ℕ → A) (op : M → ℕ → A) (a : J) where
-  pub one-far : 20 < R .order a → refused 1 ≡ onOne R refused op a
-  one-far h = rw (lt-ltb 20 (R .order a) h)
+  pub one-above-20 : 20 < R .order a → refused 1 ≡ onOne R refused op a
+  one-above-20 h = rw (lt-ltb 20 (R .order a) h)
 
-  pub less-far : 20 < R .order a → refused 1 ≡ onOneLess R refused op a
-  less-far h = rw (lt-ltb 20 (R .order a) h)
+  pub less-above-20 : 20 < R .order a → refused 1 ≡ onOneLess R refused op a
+  less-above-20 h = rw (lt-ltb 20 (R .order a) h)
 
   module _ (l : R .order a ≤ 20) where
     pub less-none : R .order a ≡ 0 → refused 2 ≡ onOneLess R refused op a
@@ -87,8 +88,8 @@ module _ {J M A : Type 0} (R : Reading J M) (refused : ℕ → A) (op : M → �
 
 -- ---- from a list: k is the count that is due
 module _ {A : Type 0} (refused : ℕ → A) (n count : ℕ) (l : List Float) (r : A) where
-  pub list-far : 20 < n → refused 1 ≡ fromList refused n count l r
-  list-far h = rw (lt-ltb 20 n h)
+  pub list-above-20 : 20 < n → refused 1 ≡ fromList refused n count l r
+  list-above-20 h = rw (lt-ltb 20 n h)
 
   module _ (h : n ≤ 20) {k : ℕ} (c : k ≡ count) where
     pub list-length : ¬ (length l ≡ k) → refused 2 ≡ fromList refused n count l r
@@ -106,8 +107,8 @@ abbrev pub pair : ℕ → List Float → ℕ × List Float
 pair c l = (c, l)
 
 module _ {J M : Type 0} (R : Reading J M) (count : ℕ → ℕ) (entries : M → ℕ → List Float) (a : J) (out : List Float) where
-  pub into-far : 20 < R .order a → pair 1 out ≡ intoList R count entries a out
-  into-far h = rw (lt-ltb 20 (R .order a) h)
+  pub into-above-20 : 20 < R .order a → pair 1 out ≡ intoList R count entries a out
+  into-above-20 h = rw (lt-ltb 20 (R .order a) h)
 
   module _ (h : R .order a ≤ 20) {k : ℕ} (c : k ≡ count (R .order a)) where
     pub into-length : ¬ (length out ≡ k) → pair 2 out ≡ intoList R count entries a out

@@ -1,16 +1,16 @@
 -- What a function on jets of floats answers: the jet, with zeros past its order, beside 0; or the number of the first refusal, beside the
 -- zero jet of order 0. Checked as 1, 2, 5; then 7; 10 last. Assumes nothing.
-use mathlib.Core.Bool.{Bool, true, false, cond, not, _&&_, _||_}
+use mathlib.Core.Bool.{Bool, false, cond, not, _&&_, _||_}
 use mathlib.Core.List.{List, [], _∷_}
 use Prim.Native.Nat.{ℕ, zero, suc, _+_, _*_, _-_, min}
 use lib.Dec.{ltb, eqb}
 use lib.ListN.{length, getD, replicate}
 use lib.Ieee.{Float, nan}
 use lib.Ieee.Scale.{finite}
-use Rattle.ieee.specs.declared.Real.{Real}
-use Rattle.ieee.specs.declared.Real.the-variants.{Refused}
-use Rattle.ieee.specs.Answer.{returned}
-use Rattle.calculus.specs.Graded.{triangle, index, graded}
+use Rattle.vectors.specs.declared.Real.{Real}
+use Rattle.vectors.specs.declared.Real.the-variants.{Refused}
+use Rattle.vectors.specs.Answers.{returned}
+use Rattle.calculus.specs.Graded.{triangle}
 use Rattle.calculus.specs.Array.{curveArray, surfaceArray}
 use Rattle.calculus.specs.Curve.{derivative}
 use Rattle.derivatives.specs.declared.CurveDerivatives.{CurveDerivatives}
@@ -20,33 +20,9 @@ use Rattle.derivatives.specs.declared.CurveAnswer.{CurveAnswer}
 use Rattle.derivatives.specs.declared.SurfaceAnswer.{SurfaceAnswer}
 use Rattle.derivatives.specs.declared.ParameterAnswer.{ParameterAnswer}
 use Rattle.calculus.specs.Order.{curveEntries, surfaceEntries, listPlace}
-use Rattle.vectors.specs.Answers.{nought}
-use Rattle.derivatives.specs.Real.{isZero}
-
--- ---- the entries of an array as a jet. No formula reads past the array's end, where the logic has a NaN
-abbrev pub curveNumbers : List Float → ℕ → Float
-curveNumbers l m = getD l m nan
-
-abbrev pub surfaceNumbers : List Float → ℕ → ℕ → Float
-surfaceNumbers l i j = getD l (index i j) nan
-
--- ---- whether the first n pass a test
-unfoldable pub allPass : {A : Type 0} → (A → Bool) → (ℕ → A) → ℕ → Bool
-allPass test a zero = true
-allPass test a (suc n) = allPass test a n && test (a n)
-
--- whether the first n numbers are finite, and the entries up to the order n
-abbrev pub allFinite : (ℕ → Float) → ℕ → Bool
-allFinite = allPass finite
-
-abbrev pub finiteList : List Float → Bool
-finiteList l = allFinite (λ k. getD l k nan) (length l)
-
-abbrev pub finiteCurve : (ℕ → Float) → ℕ → Bool
-finiteCurve a n = allFinite a (suc n)
-
-abbrev pub finiteSurface : (ℕ → ℕ → Float) → ℕ → Bool
-finiteSurface s n = allFinite (graded s) (triangle (suc n))
+use Rattle.ieee_vectors.specs.Vectors.{positiveZero}
+use Rattle.formulas.specs.Real.{isZero}
+use Rattle.formulas.specs.Numbers.{curveNumbers, surfaceNumbers, finiteList, finiteCurve, finiteSurface}
 
 -- ---- a refusal's number beside the zero jet of order 0, and a jet beside 0
 abbrev pub madeCurve : ℕ → List Float → CurveAnswer
@@ -59,22 +35,22 @@ abbrev pub madeParameter : ℕ → List Float → List Float → ParameterAnswer
 madeParameter n u v = record { refusal = 0; jet = record { order = n; u = u; v = v } }
 
 abbrev pub refusedCurve : ℕ → CurveAnswer
-refusedCurve c = record { refusal = c; jet = record { order = 0; entries = replicate 21 nought } }
+refusedCurve c = record { refusal = c; jet = record { order = 0; entries = replicate 21 positiveZero } }
 
 abbrev pub refusedSurface : ℕ → SurfaceAnswer
-refusedSurface c = record { refusal = c; jet = record { order = 0; entries = replicate 231 nought } }
+refusedSurface c = record { refusal = c; jet = record { order = 0; entries = replicate 231 positiveZero } }
 
 abbrev pub refusedParameter : ℕ → ParameterAnswer
-refusedParameter c = record { refusal = c; jet = record { order = 0; u = replicate 21 nought; v = replicate 21 nought } }
+refusedParameter c = record { refusal = c; jet = record { order = 0; u = replicate 21 positiveZero; v = replicate 21 positiveZero } }
 
 abbrev pub answeredCurve : ℕ → (ℕ → Float) → CurveAnswer
-answeredCurve n a = madeCurve n (curveArray nought a n)
+answeredCurve n a = madeCurve n (curveArray positiveZero a n)
 
 abbrev pub answeredSurface : ℕ → (ℕ → ℕ → Float) → SurfaceAnswer
-answeredSurface n s = madeSurface n (surfaceArray nought s n)
+answeredSurface n s = madeSurface n (surfaceArray positiveZero s n)
 
 abbrev pub answeredParameter : ℕ → (ℕ → Float) → (ℕ → Float) → ParameterAnswer
-answeredParameter n u v = madeParameter n (curveArray nought u n) (curveArray nought v n)
+answeredParameter n u v = madeParameter n (curveArray positiveZero u n) (curveArray positiveZero v n)
 
 -- ---- what has been computed: 10 where an entry is not finite
 abbrev pub returnedCurve : ℕ → (ℕ → Float) → CurveAnswer
@@ -85,10 +61,10 @@ returnedSurface n s = cond (finiteSurface s n) (answeredSurface n s) (refusedSur
 
 -- ---- the tests before the work: an order is above 20, an order or a length does not fit, what is read is finite
 abbrev pub tested : {R : Type 0} → (ℕ → R) → Bool → Bool → Bool → R → R
-tested refused far unfit finite r = cond far (refused 1) (cond unfit (refused 2) (cond finite r (refused 5)))
+tested refused above20 unfit finite r = cond above20 (refused 1) (cond unfit (refused 2) (cond finite r (refused 5)))
 
-abbrev pub far : ℕ → ℕ → Bool
-far m n = ltb 20 m || ltb 20 n
+abbrev pub above20 : ℕ → ℕ → Bool
+above20 m n = ltb 20 m || ltb 20 n
 
 -- ---- how a jet is read: its order, its entries, and whether those up to an order are finite
 pub record Reading (J N : Type 0) : Type 0 where
@@ -132,14 +108,14 @@ module _ {J K M N A : Type 0} (R : Reading J M) (S : Reading K N) (refused : ℕ
       let n = min (R .order a) (S .order b) in
       let x = R .numbers a in
       let y = S .numbers b in
-      tested refused (far (R .order a) (S .order b)) false (R .finite x n && S .finite y n) (op x y n)
+      tested refused (above20 (R .order a) (S .order b)) false (R .finite x n && S .finite y n) (op x y n)
 
   -- work on two jets, at an order that is asked
   abbrev pub onTwoAt : (M → N → A) → J → K → ℕ → A
   onTwoAt op a b n =
       let x = R .numbers a in
       let y = S .numbers b in
-      tested refused (far (R .order a) (S .order b) || ltb 20 n) (ltb (min (R .order a) (S .order b)) n) (R .finite x n && S .finite y n) (op x y)
+      tested refused (above20 (R .order a) (S .order b) || ltb 20 n) (ltb (min (R .order a) (S .order b)) n) (R .finite x n && S .finite y n) (op x y)
 
 -- from a list, which has `count` floats where it is one of the order n
 abbrev pub fromList : {A : Type 0} → (ℕ → A) → ℕ → ℕ → List Float → A → A

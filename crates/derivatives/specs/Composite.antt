@@ -1,14 +1,14 @@
 -- What carrying a surface of floats along a curve answers, at the order asked: 1, 2, 5, and 10 last. Assumes nothing.
 use Prim.Native.Nat.{ℕ}
-use Rattle.ieee.specs.declared.Real.{Real}
-use Rattle.ieee.specs.declared.Real.the-variants.{Refused}
-use Rattle.ieee.specs.Answer.{returned}
+use Rattle.vectors.specs.declared.Real.{Real}
+use Rattle.vectors.specs.declared.Real.the-variants.{Refused}
+use Rattle.vectors.specs.Answers.{returned}
 use Rattle.calculus.specs.Kind.{regular}
 use Rattle.calculus.specs.Carry.{compositeDerivative, compositeDerivatives}
 use Rattle.derivatives.specs.declared.SurfaceDerivatives.{SurfaceDerivatives}
 use Rattle.derivatives.specs.declared.ParameterCurve.{ParameterCurve}
 use Rattle.derivatives.specs.declared.CurveAnswer.{CurveAnswer}
-use Rattle.derivatives.specs.Real.{real}
+use Rattle.formulas.specs.Real.{real}
 use Rattle.derivatives.specs.Answer.{refusedCurve, returnedCurve, surfaces, parameters, onTwoAt}
 
 abbrev pub alongCurveAt : SurfaceDerivatives → ParameterCurve → ℕ → Real

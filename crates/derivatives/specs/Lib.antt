@@ -1,13 +1,8 @@
-pub mod Real
-pub mod Rational
-pub mod Norm
 pub mod Answer
-pub mod Formula
 pub mod Composite
-pub mod Vector
 pub mod VectorAnswer
-pub mod VectorFormula
 pub mod VectorSurfaceAnswer
 pub mod VectorComposite
 pub mod VectorSurfaceNorm
 pub mod Lists
+pub mod Inner

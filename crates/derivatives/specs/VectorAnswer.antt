@@ -6,27 +6,25 @@ use Prim.Native.Nat.{ℕ, suc, _*_}
 use lib.Dec.{ltb}
 use lib.ListN.{replicate}
 use lib.Ieee.{Float}
-use Rattle.ieee.specs.SquareRoot.{squareRoot}
-use Rattle.vectors.specs.declared.Vector3.{Vector3}
+use Rattle.ieee_vectors.specs.declared.Vector3.{Vector3}
 use Rattle.vectors.specs.declared.VectorAnswer.{VectorAnswer}
 use Rattle.vectors.specs.declared.VectorAnswer.the-variants.{Refused}
-use Rattle.vectors.specs.Vectors.{quotient, dot}
-use Rattle.vectors.specs.Answers.{nought, returnedVector}
+use Rattle.ieee_vectors.specs.Vectors.{quotient, positiveZero}
+use Rattle.vectors.specs.Answers.{returnedVector}
 use Rattle.calculus.specs.Array.{listed}
 use Rattle.calculus.specs.Curve.{derivative}
 use Rattle.derivatives.specs.declared.CurveDerivatives.{CurveDerivatives}
 use Rattle.derivatives.specs.declared.CurveAnswer.{CurveAnswer}
 use Rattle.derivatives.specs.declared.VectorCurveDerivatives.{VectorCurveDerivatives}
 use Rattle.derivatives.specs.declared.VectorCurveAnswer.{VectorCurveAnswer}
-use Rattle.derivatives.specs.Real.{real, isZero}
-use Rattle.derivatives.specs.Rational.{rational}
-use Rattle.derivatives.specs.Norm.{norm}
+use Rattle.formulas.specs.Real.{isZero}
+use Rattle.calculus.specs.Rational.{rational}
 use Rattle.derivatives.specs.Answer.{Reading, refusedCurve, returnedCurve, curves, onOne, onOneLess, onTwo, onTwoAt, fromList, intoList}
-use Rattle.derivatives.specs.Vector.{vectors, vectorNumbers, flat, vectorArray, finiteVectorCurve}
+use Rattle.vector_formulas.specs.Vector.{vectors, vectorNumbers, flat, vectorArray, vectorNorm, finiteVectorCurve}
 
 -- ---- a refusal's number beside the zero jet of order 0, a jet beside 0, and a jet that has been computed: 10 where it is not finite
 abbrev pub refusedVectorCurve : ℕ → VectorCurveAnswer
-refusedVectorCurve c = record { refusal = c; jet = record { order = 0; entries = replicate 63 nought } }
+refusedVectorCurve c = record { refusal = c; jet = record { order = 0; entries = replicate 63 positiveZero } }
 
 abbrev pub madeVectorCurve : ℕ → List Float → VectorCurveAnswer
 madeVectorCurve n l = record { refusal = 0; jet = record { order = n; entries = l } }
@@ -68,9 +66,6 @@ abbrev pub onWeightedAt : ((ℕ → Vector3) → (ℕ → Float) → ℕ → Vec
 onWeightedAt op a b m = onTwoAt vectorCurves curves Refused (λ x y. returnedVector (op x y m)) a b m
 
 -- ---- the norm: 7 where it divides by its first entry, as it does from the order 1 on, and that is zero
-abbrev pub vectorNorm : (ℕ → Vector3) → ℕ → Float
-vectorNorm = norm real squareRoot dot
-
 abbrev pub vectorCurveAbsolute : VectorCurveDerivatives → CurveAnswer
 vectorCurveAbsolute =
     onOne vectorCurves refusedCurve

@@ -8,7 +8,7 @@ use Rattle.derivatives.specs.declared.VectorSurfaceDerivatives.{VectorSu
 use Rattle.derivatives.specs.declared.ParameterCurve.{ParameterCurve}
 use Rattle.derivatives.specs.declared.VectorCurveAnswer.{VectorCurveAnswer}
 use Rattle.derivatives.specs.Answer.{parameters, onTwoAt}
-use Rattle.derivatives.specs.Vector.{vectors}
+use Rattle.vector_formulas.specs.Vector.{vectors}
 use Rattle.derivatives.specs.VectorAnswer.{refusedVectorCurve, returnedVectorCurve}
 use Rattle.derivatives.specs.VectorSurfaceAnswer.{vectorSurfaces}
 

@@ -4,13 +4,12 @@ use mathlib.Core.List.{List}
 use Prim.Native.Nat.{ℕ, suc, _+_, _*_}
 use lib.ListN.{replicate}
 use lib.Ieee.{Float}
-use Rattle.vectors.specs.declared.Vector3.{Vector3}
+use Rattle.ieee_vectors.specs.declared.Vector3.{Vector3}
 use Rattle.vectors.specs.declared.VectorAnswer.{VectorAnswer}
 use Rattle.vectors.specs.declared.VectorAnswer.the-variants.{Refused}
-use Rattle.vectors.specs.Answers.{nought, returnedVector}
-use Rattle.vectors.specs.Vectors.{multiple, quotient, dot, cross}
+use Rattle.ieee_vectors.specs.Vectors.{positiveZero, quotient, dot}
+use Rattle.vectors.specs.Answers.{returnedVector}
 use Rattle.calculus.specs.Kind.{regular}
-use Rattle.calculus.specs.Rising.{risingRows}
 use Rattle.calculus.specs.Graded.{triangle}
 use Rattle.calculus.specs.Order.{surfaceEntries, listPlace}
 use Rattle.calculus.specs.Surface
@@ -18,17 +17,14 @@ use Rattle.derivatives.specs.declared.SurfaceDerivatives.{SurfaceDerivat
 use Rattle.derivatives.specs.declared.SurfaceAnswer.{SurfaceAnswer}
 use Rattle.derivatives.specs.declared.VectorSurfaceDerivatives.{VectorSurfaceDerivatives}
 use Rattle.derivatives.specs.declared.VectorSurfaceAnswer.{VectorSurfaceAnswer}
-use Rattle.derivatives.specs.declared.vector_entries.VectorFormula.{VectorFormula}
-use Rattle.derivatives.specs.declared.vector_entries.VectorFormula.the-variants as vector
-use Rattle.derivatives.specs.Real.{real, isZero}
-use Rattle.derivatives.specs.Rational.{surfaceRational, surfaceRationalEntry}
-use Rattle.derivatives.specs.Answer.{Reading, surfaceNumbers, refusedSurface, returnedSurface, surfaces, onOneLess, onTwo, onTwoAt, fromList, intoList}
-use Rattle.derivatives.specs.Vector.{origin, vectors, vectorNumbers, flat, vectorSurfaceNumbers, vectorSurfaceArray, finiteVectorSurface}
-use Rattle.derivatives.specs.VectorFormula.{vectorDivisionByZero}
+use Rattle.formulas.specs.Real.{real, isZero}
+use Rattle.calculus.specs.Rational.{surfaceRational}
+use Rattle.derivatives.specs.Answer.{Reading, refusedSurface, returnedSurface, surfaces, onOneLess, onTwo, onTwoAt, fromList, intoList}
+use Rattle.vector_formulas.specs.Vector.{vectors, vectorNumbers, flat, vectorSurfaceNumbers, vectorSurfaceArray, finiteVectorSurface}
 
 -- ---- a refusal's number beside the zero jet of order 0, a jet beside 0, and a jet that has been computed: 10 where it is not finite
 abbrev pub refusedVectorSurface : ℕ → VectorSurfaceAnswer
-refusedVectorSurface c = record { refusal = c; jet = record { order = 0; entries = replicate 693 nought } }
+refusedVectorSurface c = record { refusal = c; jet = record { order = 0; entries = replicate 693 positiveZero } }
 
 abbrev pub madeVectorSurface : ℕ → List Float → VectorSurfaceAnswer
 madeVectorSurface n l = record { refusal = 0; jet = record { order = n; entries = l } }
@@ -59,21 +55,6 @@ bySurfaceWeights f x w n = returnedVectorSurface n (f x w)
 abbrev pub vectorSurfaceQuotient : (ℕ → ℕ → Vector3) → (ℕ → ℕ → Float) → ℕ → VectorSurfaceAnswer
 vectorSurfaceQuotient x w n =
     cond (isZero (w 0 0)) (refusedVectorSurface 7) (returnedVectorSurface n (surfaceRational vectors quotient x w))
-
--- ---- the formulas that the loops share: of x and y, or of x and the floats w; q holds the entries before
-abbrev pub vectorSurfaceFormula : VectorFormula → (ℕ → ℕ → Vector3) → (ℕ → ℕ → Vector3) → (ℕ → ℕ → Float) → (ℕ → ℕ → Vector3) → ℕ → ℕ → Vector3
-vectorSurfaceFormula vector.Sum x y w q m n = Surface.sum vectors x y m n
-vectorSurfaceFormula vector.Difference x y w q m n = Surface.difference vectors x y m n
-vectorSurfaceFormula vector.Cross x y w q m n = Surface.productBy vectors cross x y m n
-vectorSurfaceFormula vector.Scaled x y w q m n = Surface.productBy vectors multiple x w m n
-vectorSurfaceFormula vector.Rational x y w q m n = surfaceRationalEntry vectors quotient x w q m n
-
-abbrev pub byVectorSurfaceEntries : VectorFormula → (ℕ → ℕ → Vector3) → (ℕ → ℕ → Vector3) → ℕ → VectorSurfaceAnswer
-byVectorSurfaceEntries f x y n = returnedVectorSurface n (risingRows origin (vectorSurfaceFormula f x y (surfaceNumbers (replicate 231 nought))))
-
-abbrev pub bySurfaceWeightedEntries : VectorFormula → (ℕ → ℕ → Vector3) → (ℕ → ℕ → Float) → ℕ → VectorSurfaceAnswer
-bySurfaceWeightedEntries f x w n =
-    cond (vectorDivisionByZero f (w 0 0)) (refusedVectorSurface 7) (returnedVectorSurface n (risingRows origin (vectorSurfaceFormula f x x w)))
 
 -- the dot product, whose entries are floats
 abbrev pub vectorSurfaceDot : VectorSurfaceDerivatives → VectorSurfaceDerivatives → SurfaceAnswer

@@ -2,21 +2,20 @@
 ghost use mathlib.Core.Path.{_≡_};
 ghost use mathlib.Core.Bool.{_&&_};
 ghost use Prim.Native.Nat.{_≤_};
-ghost use Rattle.derivatives.specs.Answer.{curveNumbers, surfaceNumbers, finiteCurve, finiteSurface};
+ghost use Rattle.formulas.specs.Numbers.{curveNumbers, surfaceNumbers, finiteCurve, finiteSurface};
 ghost use Rattle.derivatives.specs.Composite.{alongCurveAt, alongCurve};
 use crate::CurveAnswer;
 use crate::ParameterCurve;
 use crate::SurfaceDerivatives;
-use crate::carry;
 use crate::orders;
-use ieee::Real;
+use vectors::Real;
 
 // Whether the entries up to the order n of the surface, of u and of v are finite.
 fn all_finite(entries: &[f64; 231], u: &[f64; 21], v: &[f64; 21], n: usize) -> bool
     requires { ⌜ n ≤ 20 ⌝ }
     ensures { λ r. ⌜ r ≡ (finiteSurface (surfaceNumbers (now (entries .entry))) n && (finiteCurve (curveNumbers (now (u .entry))) n && finiteCurve (curveNumbers (now (v .entry))) n)) ⌝ }
 {
-    ieee::both(
+    booleans::both(
         crate::finite_surface(entries, n),
         crate::curves_finite(u, v, n),
     )
@@ -29,7 +28,7 @@ impl SurfaceDerivatives {
     {
         let m = self.order;
         let n = curve.order;
-        if orders::far_at(m, n, order) {
+        if orders::above_20_at(m, n, order) {
             return Real::Refused(1);
         }
         if calculus::smaller(m, n) < order {
@@ -41,7 +40,7 @@ impl SurfaceDerivatives {
         if !all_finite(&entries, &u, &v, order) {
             return Real::Refused(5);
         }
-        ieee::returned(carry::derivative(&entries, &u, &v, order))
+        vectors::returned(formulas::composite(&entries, &u, &v, order))
     }
 
     // The derivatives of all orders up to `order`, with the entry [0][0] at order 0.
@@ -50,7 +49,7 @@ impl SurfaceDerivatives {
     {
         let m = self.order;
         let n = curve.order;
-        if orders::far_at(m, n, order) {
+        if orders::above_20_at(m, n, order) {
             return crate::refused_curve(1);
         }
         if calculus::smaller(m, n) < order {
@@ -62,7 +61,7 @@ impl SurfaceDerivatives {
         if !all_finite(&entries, &u, &v, order) {
             return crate::refused_curve(5);
         }
-        let r = carry::derivatives(&entries, &u, &v, order);
+        let r = formulas::composites(&entries, &u, &v, order);
         crate::returned_curve(r, order)
     }
 }

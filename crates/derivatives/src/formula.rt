@@ -1,22 +1,16 @@
-// The formulas on two jets of floats, by which each entry is formed.
+// Which of the operations on two jets divides.
 ghost use mathlib.Core.Path.{_≡_};
-ghost use Rattle.derivatives.specs.Formula.{divisionByZero};
+ghost use Rattle.derivatives.specs.Inner.{divisionByZero};
+use calculus::Operation;
 
-pub enum Formula {
-    Sum,
-    Difference,
-    Product,
-    Quotient,
-}
-
-// Whether the formula divides by y where that is zero.
-pub fn division_by_zero(f: Formula, y: f64) -> bool
+// Whether the operation divides by y where that is zero.
+pub fn division_by_zero(f: Operation, y: f64) -> bool
     ensures { λ r. ⌜ r ≡ divisionByZero f y ⌝ }
 {
     match f {
-        Formula::Sum => false,
-        Formula::Difference => false,
-        Formula::Product => false,
-        Formula::Quotient => y == 0.0,
+        Operation::Sum => false,
+        Operation::Difference => false,
+        Operation::Product => false,
+        Operation::Quotient => y == 0.0,
     }
 }

@@ -3,29 +3,23 @@
 ghost use mathlib.Core.Path.{_≡_};
 ghost use mathlib.Core.Bool.{cond, _&&_};
 ghost use Prim.Native.Nat.{_+_, _≤_};
-ghost use lib.IntN.{pos};
-ghost use lib.Ieee.{binary64, ofInt};
 ghost use Rattle.calculus.specs.Graded.{index as indexOf};
-ghost use Rattle.calculus.specs.Choose.{choose, binomialTable};
-ghost use Rattle.derivatives.specs.Answer.{curveNumbers, surfaceNumbers, finiteList, finiteCurve, finiteSurface, refusedCurve, refusedSurface, refusedParameter, madeCurve, madeSurface};
+ghost use Rattle.formulas.specs.Numbers.{curveNumbers, surfaceNumbers, finiteCurve, finiteSurface};
+ghost use Rattle.derivatives.specs.Answer.{refusedCurve, refusedSurface, refusedParameter, madeCurve, madeSurface};
 
-mod carry;
 mod composite;
 mod curve;
 mod formula;
 pub mod lists;
 mod orders;
 mod parameter;
-pub mod raw;
 mod surface;
 mod vector_array;
-mod vector_carry;
 mod vector_composite;
 mod vector_curve;
-mod vector_entries;
+mod vector_lists;
 mod vector_surface;
-mod vector_surface_entries;
-mod vector_surface_norm;
+mod vector_surface_lists;
 
 // The derivatives of a curve, of the orders 0 to `order`.
 pub struct CurveDerivatives {
@@ -130,71 +124,22 @@ fn index(i: usize, j: usize) -> usize
     requires { ⌜ i + j ≤ 20 ⌝ }
     ensures { λ r. ⌜ r ≡ indexOf i j ⌝ }
 {
-    let n = i + j;
-    n * (n + 1) / 2 + i
+    formulas::index(i, j)
 }
 
-// The i-th binomial coefficient of the order m.
-fn binomial(c: &[u32; 231], m: usize, i: usize) -> u32
-    requires { ⌜ (i ≤ m) × (m ≤ 20) × (now c ≡ binomialTable) ⌝ }
-    ensures { λ r. ⌜ r ≡ choose m i ⌝ }
-{
-    let k = index(i, m - i);
-    c[k]
-}
-
-fn float(x: u32) -> f64
-    ensures { λ r. ⌜ r ≡ ofInt binary64 (pos x) ⌝ }
-{
-    x as f64
-}
-
-// Whether the floats of a list are finite.
-fn finite_list(a: &[f64]) -> bool
-    ensures { λ r. ⌜ r ≡ finiteList (now (a .entry)) ⌝ }
-{
-    let mut i = 0;
-    while i < a.len() {
-        let x = a[i];
-        if !ieee::is_finite(x) {
-            return false;
-        }
-        i += 1;
-    }
-    true
-}
-
-// Whether a curve's entries up to the order n are.
+// Whether the entries up to the order n of a curve are finite, and of a surface.
 fn finite_curve(a: &[f64; 21], n: usize) -> bool
     requires { ⌜ n ≤ 20 ⌝ }
     ensures { λ r. ⌜ r ≡ finiteCurve (curveNumbers (now (a .entry))) n ⌝ }
 {
-    let mut i = 0;
-    while i <= n {
-        let x = a[i];
-        if !ieee::is_finite(x) {
-            return false;
-        }
-        i += 1;
-    }
-    true
+    formulas::finite_curve(a, n)
 }
 
-// Whether a surface's entries up to the order n are.
 fn finite_surface(a: &[f64; 231], n: usize) -> bool
     requires { ⌜ n ≤ 20 ⌝ }
     ensures { λ r. ⌜ r ≡ finiteSurface (surfaceNumbers (now (a .entry))) n ⌝ }
 {
-    let k = calculus::surface_count(n);
-    let mut i = 0;
-    while i < k {
-        let x = a[i];
-        if !ieee::is_finite(x) {
-            return false;
-        }
-        i += 1;
-    }
-    true
+    formulas::finite_surface(a, n)
 }
 
 // Whether those of two curves are, and of two surfaces.
@@ -202,14 +147,14 @@ fn curves_finite(a: &[f64; 21], b: &[f64; 21], n: usize) -> bool
     requires { ⌜ n ≤ 20 ⌝ }
     ensures { λ r. ⌜ r ≡ (finiteCurve (curveNumbers (now (a .entry))) n && finiteCurve (curveNumbers (now (b .entry))) n) ⌝ }
 {
-    ieee::both(finite_curve(a, n), finite_curve(b, n))
+    booleans::both(finite_curve(a, n), finite_curve(b, n))
 }
 
 fn surfaces_finite(a: &[f64; 231], b: &[f64; 231], n: usize) -> bool
     requires { ⌜ n ≤ 20 ⌝ }
     ensures { λ r. ⌜ r ≡ (finiteSurface (surfaceNumbers (now (a .entry))) n && finiteSurface (surfaceNumbers (now (b .entry))) n) ⌝ }
 {
-    ieee::both(finite_surface(a, n), finite_surface(b, n))
+    booleans::both(finite_surface(a, n), finite_surface(b, n))
 }
 
 // A jet that has been computed: 10 where it is not finite.

@@ -5,15 +5,16 @@ ghost use Prim.Native.Nat.{ℕ, suc, _+_, _*_, _≤_};
 ghost use lib.Ieee.{Float, nan};
 ghost use lib.ListN.{length, getD};
 ghost use Rattle.calculus.specs.Array.{curveArray};
-ghost use Rattle.vectors.specs.Answers.{nought};
-ghost use Rattle.derivatives.specs.Answer.{curveNumbers, pairs, parameterFromList, parameterIntoList};
+ghost use Rattle.ieee_vectors.specs.Vectors.{positiveZero};
+ghost use Rattle.formulas.specs.Numbers.{curveNumbers};
+ghost use Rattle.derivatives.specs.Answer.{pairs, parameterFromList, parameterIntoList};
 use crate::ParameterAnswer;
 use crate::ParameterCurve;
 
 // Every other number of a list, from the one at `from` on.
 pub fn read(list: &[f64], n: usize, from: usize) -> [f64; 21]
     requires { ⌜ (n ≤ 20) × (from ≤ 1) × (length (now list) ≡ 2 * suc n) ⌝ }
-    ensures { λ r. ⌜ r ≡ curveArray nought (λ m. getD (now (list .entry)) (2 * m + from) nan) n ⌝ }
+    ensures { λ r. ⌜ r ≡ curveArray positiveZero (λ m. getD (now (list .entry)) (2 * m + from) nan) n ⌝ }
 {
     let mut r = [0.0f64; 21];
     let mut m = 0;
@@ -49,7 +50,7 @@ impl ParameterCurve {
         if list.len() != 2 * (order + 1) {
             return crate::refused_parameter(2);
         }
-        if !crate::finite_list(list) {
+        if !formulas::finite_list(list) {
             return crate::refused_parameter(5);
         }
         let u = read(list, order, 0);

@@ -2,15 +2,14 @@
 ghost use mathlib.Core.Path.{_≡_};
 ghost use mathlib.Core.Bool.{_&&_};
 ghost use Prim.Native.Nat.{_≤_};
-ghost use Rattle.derivatives.specs.Answer.{curveNumbers, finiteCurve};
-ghost use Rattle.derivatives.specs.Vector.{vectorSurfaceNumbers, finiteVectorSurface};
+ghost use Rattle.formulas.specs.Numbers.{curveNumbers, finiteCurve};
+ghost use Rattle.vector_formulas.specs.Vector.{vectorSurfaceNumbers, finiteVectorSurface};
 ghost use Rattle.derivatives.specs.VectorComposite.{vectorAlongCurveAt, vectorAlongCurve};
 use crate::ParameterCurve;
 use crate::VectorCurveAnswer;
 use crate::VectorSurfaceDerivatives;
 use crate::orders;
 use crate::vector_array;
-use crate::vector_carry;
 use vectors::VectorAnswer;
 
 // Whether the entries up to the order n of the surface, of u and of v are finite.
@@ -18,7 +17,7 @@ fn all_finite(entries: &[f64; 693], u: &[f64; 21], v: &[f64; 21], n: usize) -> b
     requires { ⌜ n ≤ 20 ⌝ }
     ensures { λ r. ⌜ r ≡ (finiteVectorSurface (vectorSurfaceNumbers (now (entries .entry))) n && (finiteCurve (curveNumbers (now (u .entry))) n && finiteCurve (curveNumbers (now (v .entry))) n)) ⌝ }
 {
-    ieee::both(
+    booleans::both(
         vector_array::surface_finite(entries, n),
         crate::curves_finite(u, v, n),
     )
@@ -31,7 +30,7 @@ impl VectorSurfaceDerivatives {
     {
         let m = self.order;
         let n = curve.order;
-        if orders::far_at(m, n, order) {
+        if orders::above_20_at(m, n, order) {
             return VectorAnswer::Refused(1);
         }
         if calculus::smaller(m, n) < order {
@@ -43,7 +42,7 @@ impl VectorSurfaceDerivatives {
         if !all_finite(&entries, &u, &v, order) {
             return VectorAnswer::Refused(5);
         }
-        vectors::answers::returned_vector(vector_carry::derivative(&entries, &u, &v, order))
+        vectors::returned_vector(vector_formulas::composite(&entries, &u, &v, order))
     }
 
     // The derivatives of all orders up to `order`, with the entry [0][0] at order 0.
@@ -52,7 +51,7 @@ impl VectorSurfaceDerivatives {
     {
         let m = self.order;
         let n = curve.order;
-        if orders::far_at(m, n, order) {
+        if orders::above_20_at(m, n, order) {
             return vector_array::refused(1);
         }
         if calculus::smaller(m, n) < order {
@@ -64,7 +63,7 @@ impl VectorSurfaceDerivatives {
         if !all_finite(&entries, &u, &v, order) {
             return vector_array::refused(5);
         }
-        let r = vector_carry::derivatives(&entries, &u, &v, order);
+        let r = vector_formulas::composites(&entries, &u, &v, order);
         vector_array::returned(r, order)
     }
 }

@@ -3,28 +3,26 @@ ghost use mathlib.Core.Path.{_≡_};
 ghost use mathlib.Core.List.{List};
 ghost use Prim.Native.Nat.{ℕ};
 ghost use lib.Ieee.{Float};
-ghost use Rattle.ieee.specs.Answer.{returned};
-ghost use Rattle.ieee.specs.declared.Real.the-variants.{Refused as RealRefused};
+ghost use Rattle.vectors.specs.Answers.{returned, returnedVector};
+ghost use Rattle.vectors.specs.declared.Real.the-variants.{Refused as RealRefused};
 ghost use Rattle.vectors.specs.declared.VectorAnswer.the-variants.{Refused};
-ghost use Rattle.vectors.specs.Vectors.{multiple, dot, cross};
-ghost use Rattle.vectors.specs.Answers.{returnedVector};
+ghost use Rattle.ieee_vectors.specs.Vectors.{multiple, dot, cross};
 ghost use Rattle.calculus.specs.Kind.{regular};
 ghost use Rattle.calculus.specs.Curve.{sum as sums, difference as differences, productBy};
-ghost use Rattle.derivatives.specs.Real.{real};
+ghost use Rattle.formulas.specs.Real.{real};
 ghost use Rattle.derivatives.specs.Answer.{refusedCurve};
-ghost use Rattle.derivatives.specs.Vector.{vectors};
+ghost use Rattle.vector_formulas.specs.Vector.{vectors};
 ghost use Rattle.derivatives.specs.VectorAnswer.{refusedVectorCurve, onVectors, onWeighted, byVectorFormula, byNumberFormula, byWeights, vectorQuotient, onVectorsAt, onWeightedAt, vectorCurveAbsolute, vectorCurveDerivative, vectorCurveFromList, vectorCurveIntoList};
-ghost use Rattle.derivatives.specs.VectorFormula.{vectorDivisionByZero, byVectorEntries, byWeightedEntries};
+ghost use Rattle.derivatives.specs.Inner.{vectorDivisionByZero, byVectorEntries, byWeightedEntries};
 use crate::CurveAnswer;
 use crate::CurveDerivatives;
 use crate::VectorCurveAnswer;
 use crate::VectorCurveDerivatives;
 use crate::orders;
 use crate::vector_array;
-use crate::vector_entries;
-use crate::vector_entries::NumberFormula;
-use crate::vector_entries::VectorFormula;
-use ieee::Real;
+use crate::vector_lists;
+use vector_formulas::VectorFormula;
+use vectors::Real;
 use vectors::VectorAnswer;
 
 // A formula on two jets of vectors, at the smaller order.
@@ -37,7 +35,7 @@ fn on_two(
 {
     let m = a.order;
     let n = b.order;
-    if orders::far(m, n) {
+    if orders::above_20(m, n) {
         return vector_array::refused(1);
     }
     let k = calculus::smaller(m, n);
@@ -47,7 +45,7 @@ fn on_two(
         return vector_array::refused(5);
     }
     let z = [0.0f64; 21];
-    let r = vector_entries::entries(f, &x, &y, &z, k);
+    let r = vector_formulas::curve(f, &x, &y, &z, k);
     vector_array::returned(r, k)
 }
 
@@ -74,7 +72,7 @@ fn on_weighted(
 {
     let m = a.order;
     let n = b.order;
-    if orders::far(m, n) {
+    if orders::above_20(m, n) {
         return vector_array::refused(1);
     }
     let k = calculus::smaller(m, n);
@@ -87,7 +85,7 @@ fn on_weighted(
     if division_by_zero(f, w) {
         return vector_array::refused(7);
     }
-    let r = vector_entries::entries(f, &x, &x, &y, k);
+    let r = vector_formulas::curve(f, &x, &x, &y, k);
     vector_array::returned(r, k)
 }
 
@@ -101,10 +99,10 @@ impl VectorCurveDerivatives {
         if list.len() != 3 * (order + 1) {
             return vector_array::refused(2);
         }
-        if !crate::finite_list(list) {
+        if !formulas::finite_list(list) {
             return vector_array::refused(5);
         }
-        let r = vector_entries::taken(list, 0, order);
+        let r = vector_formulas::read(list, order);
         VectorCurveAnswer {
             refusal: 0,
             jet: VectorCurveDerivatives { order, entries: r },
@@ -125,7 +123,7 @@ impl VectorCurveDerivatives {
         if !vector_array::curve_finite(&a, n) {
             return 5;
         }
-        vector_entries::write(&a, n, out);
+        vector_lists::write(&a, n, out);
         0
     }
 
@@ -156,7 +154,7 @@ impl VectorCurveDerivatives {
             return vector_array::refused(5);
         }
         let k = n - 1;
-        let r = vector_entries::shifted(&a, k);
+        let r = vector_formulas::derivative(&a, k);
         VectorCurveAnswer {
             refusal: 0,
             jet: VectorCurveDerivatives {
@@ -176,7 +174,7 @@ impl VectorCurveDerivatives {
     {
         let m = self.order;
         let n = other.order;
-        if orders::far_at(m, n, order) {
+        if orders::above_20_at(m, n, order) {
             return VectorAnswer::Refused(1);
         }
         if calculus::smaller(m, n) < order {
@@ -187,8 +185,7 @@ impl VectorCurveDerivatives {
         if !vector_array::weighted_finite(&x, &y, order) {
             return VectorAnswer::Refused(5);
         }
-        let c = calculus::binomials();
-        vectors::answers::returned_vector(vector_entries::scaled_entry(&x, &y, &c, order))
+        vectors::returned_vector(vector_formulas::scaled(&x, &y, order))
     }
 
     // One entry of the dot product.
@@ -197,7 +194,7 @@ impl VectorCurveDerivatives {
     {
         let m = self.order;
         let n = other.order;
-        if orders::far_at(m, n, order) {
+        if orders::above_20_at(m, n, order) {
             return Real::Refused(1);
         }
         if calculus::smaller(m, n) < order {
@@ -208,8 +205,7 @@ impl VectorCurveDerivatives {
         if !vector_array::both_finite(&x, &y, order) {
             return Real::Refused(5);
         }
-        let c = calculus::binomials();
-        ieee::returned(vector_entries::dot_entry(&x, &y, &c, order))
+        vectors::returned(vector_formulas::dot(&x, &y, order))
     }
 
     // One entry of the cross product.
@@ -222,7 +218,7 @@ impl VectorCurveDerivatives {
     {
         let m = self.order;
         let n = other.order;
-        if orders::far_at(m, n, order) {
+        if orders::above_20_at(m, n, order) {
             return VectorAnswer::Refused(1);
         }
         if calculus::smaller(m, n) < order {
@@ -233,8 +229,7 @@ impl VectorCurveDerivatives {
         if !vector_array::both_finite(&x, &y, order) {
             return VectorAnswer::Refused(5);
         }
-        let c = calculus::binomials();
-        vectors::answers::returned_vector(vector_entries::cross_entry(&x, &y, &c, order))
+        vectors::returned_vector(vector_formulas::cross(&x, &y, order))
     }
 
     pub fn combinatorial_derivatives_scaled(self, other: CurveDerivatives) -> VectorCurveAnswer
@@ -248,7 +243,7 @@ impl VectorCurveDerivatives {
     {
         let m = self.order;
         let n = other.order;
-        if orders::far(m, n) {
+        if orders::above_20(m, n) {
             return crate::refused_curve(1);
         }
         let k = calculus::smaller(m, n);
@@ -257,7 +252,7 @@ impl VectorCurveDerivatives {
         if !vector_array::both_finite(&x, &y, k) {
             return crate::refused_curve(5);
         }
-        let r = vector_entries::numbers(NumberFormula::Dot, &x, &y, k);
+        let r = vector_formulas::dots(&x, &y, k);
         crate::returned_curve(r, k)
     }
 
@@ -286,7 +281,7 @@ impl VectorCurveDerivatives {
         if !vector_array::curve_finite(&x, n) {
             return crate::refused_curve(5);
         }
-        let r = vector_entries::numbers(NumberFormula::Norm, &x, &x, n);
+        let r = vector_formulas::norm(&x, n);
         let first = r[0];
         if vector_array::norm_divides(n, first) {
             return crate::refused_curve(7);

@@ -2,20 +2,20 @@
 ghost use mathlib.Core.Path.{_≡_};
 ghost use mathlib.Core.List.{List};
 ghost use mathlib.Core.Bool.{cond, _&&_};
-ghost use Prim.Native.Nat.{ℕ, _+_, _≤_};
+ghost use Prim.Native.Nat.{ℕ, _≤_, _<_};
 ghost use lib.Ieee.{Float};
-ghost use Rattle.vectors.specs.Vectors.{multiple, dot, cross};
-ghost use Rattle.ieee.specs.Answer.{returned as returnedReal};
-ghost use Rattle.ieee.specs.declared.Real.the-variants.{Refused as RealRefused};
+ghost use Rattle.ieee_vectors.specs.Vectors.{multiple, dot, cross};
+ghost use Rattle.vectors.specs.Answers.{returned as returnedReal, returnedVector};
+ghost use Rattle.vectors.specs.declared.Real.the-variants.{Refused as RealRefused};
 ghost use Rattle.vectors.specs.declared.VectorAnswer.the-variants.{Refused};
-ghost use Rattle.vectors.specs.Answers.{returnedVector};
 ghost use Rattle.calculus.specs.Kind.{regular};
-ghost use Rattle.derivatives.specs.Real.{real};
-ghost use Rattle.calculus.specs.Surface.{derivativeU, derivativeV, sum as sums, difference as differences, productBy};
-ghost use Rattle.derivatives.specs.Answer.{surfaceNumbers, finiteSurface};
-ghost use Rattle.derivatives.specs.Vector.{vectors, vectorSurfaceNumbers, finiteVectorSurface};
+ghost use Rattle.formulas.specs.Real.{real};
+ghost use Rattle.calculus.specs.Surface.{derivativeU, derivativeV, derivativeBy, sum as sums, difference as differences, productBy};
+ghost use Rattle.formulas.specs.Numbers.{surfaceNumbers, finiteSurface};
+ghost use Rattle.vector_formulas.specs.Vector.{vectors, vectorSurfaceNumbers, vectorSurfaceArray, finiteVectorSurface};
 ghost use Rattle.derivatives.specs.VectorSurfaceNorm.{vectorSurfaceAbsolute};
-ghost use Rattle.derivatives.specs.VectorSurfaceAnswer.{refusedVectorSurface, madeVectorSurface, vectorSurfaceDot, vectorSurfaceDerivative, vectorSurfaceFromList, vectorSurfaceIntoList, onVectorSurfaces, onWeightedSurface, onVectorSurfacesAt, onWeightedSurfaceAt, byVectorSurfaceFormula, bySurfaceWeights, vectorSurfaceQuotient, byVectorSurfaceEntries, bySurfaceWeightedEntries};
+ghost use Rattle.derivatives.specs.VectorSurfaceAnswer.{refusedVectorSurface, madeVectorSurface, vectorSurfaceDot, vectorSurfaceDerivative, vectorSurfaceFromList, vectorSurfaceIntoList, onVectorSurfaces, onWeightedSurface, onVectorSurfacesAt, onWeightedSurfaceAt, byVectorSurfaceFormula, bySurfaceWeights, vectorSurfaceQuotient};
+ghost use Rattle.derivatives.specs.Inner.{byVectorSurfaceEntries, bySurfaceWeightedEntries};
 use crate::SurfaceAnswer;
 use crate::SurfaceDerivatives;
 use crate::VectorSurfaceAnswer;
@@ -23,11 +23,11 @@ use crate::VectorSurfaceDerivatives;
 use crate::orders;
 use crate::vector_array;
 use crate::vector_curve;
-use crate::vector_entries::VectorFormula;
-use crate::vector_surface_entries;
-use crate::vector_surface_norm;
-use ieee::Real;
-use ieee::both;
+use crate::vector_surface_lists;
+use booleans::both;
+use calculus::By;
+use vector_formulas::VectorFormula;
+use vectors::Real;
 use vectors::VectorAnswer;
 
 pub fn refused(c: u8) -> VectorSurfaceAnswer
@@ -91,7 +91,7 @@ fn on_two(
 {
     let m = a.order;
     let n = b.order;
-    if orders::far(m, n) {
+    if orders::above_20(m, n) {
         return refused(1);
     }
     let k = calculus::smaller(m, n);
@@ -101,7 +101,7 @@ fn on_two(
         return refused(5);
     }
     let z = [0.0f64; 231];
-    let r = vector_surface_entries::entries(f, &x, &y, &z, k);
+    let r = vector_surface_formulas::surface(f, &x, &y, &z, k);
     returned(r, k)
 }
 
@@ -115,7 +115,7 @@ fn on_weighted(
 {
     let m = a.order;
     let n = b.order;
-    if orders::far(m, n) {
+    if orders::above_20(m, n) {
         return refused(1);
     }
     let k = calculus::smaller(m, n);
@@ -128,14 +128,23 @@ fn on_weighted(
     if vector_curve::division_by_zero(f, w) {
         return refused(7);
     }
-    let r = vector_surface_entries::entries(f, &x, &x, &y, k);
+    let r = vector_surface_formulas::surface(f, &x, &x, &y, k);
     returned(r, k)
 }
 
-// The derivative p times by u and q times by v, where p + q is 1.
-fn derivative(a: VectorSurfaceDerivatives, p: usize, q: usize) -> VectorSurfaceAnswer
-    requires { ⌜ p + q ≡ 1 ⌝ }
-    ensures { λ r. ⌜ r ≡ vectorSurfaceDerivative (λ s i j. s (i + p) (j + q)) a ⌝ }
+// The entries up to the order n of the derivative by u or by v.
+fn shifted(by: By, a: &[f64; 693], n: usize) -> [f64; 693]
+    requires { ⌜ n < 20 ⌝ }
+    ensures { λ r. ⌜ r ≡ vectorSurfaceArray (derivativeBy by (vectorSurfaceNumbers (now (a .entry)))) n ⌝ }
+{
+    match by {
+        By::U => vector_formulas::derivative_u(a, n),
+        By::V => vector_formulas::derivative_v(a, n),
+    }
+}
+
+fn derivative(by: By, a: VectorSurfaceDerivatives) -> VectorSurfaceAnswer
+    ensures { λ r. ⌜ r ≡ vectorSurfaceDerivative (derivativeBy by) a ⌝ }
 {
     let n = a.order;
     if 20 < n {
@@ -149,7 +158,7 @@ fn derivative(a: VectorSurfaceDerivatives, p: usize, q: usize) -> VectorSurfaceA
         return refused(5);
     }
     let k = n - 1;
-    let r = vector_surface_entries::shifted(&x, k, p, q);
+    let r = shifted(by, &x, k);
     VectorSurfaceAnswer {
         refusal: 0,
         jet: VectorSurfaceDerivatives {
@@ -170,10 +179,10 @@ impl VectorSurfaceDerivatives {
         if list.len() != 3 * k {
             return refused(2);
         }
-        if !crate::finite_list(list) {
+        if !formulas::finite_list(list) {
             return refused(5);
         }
-        let r = vector_surface_entries::read(list, order);
+        let r = vector_surface_lists::read(list, order);
         VectorSurfaceAnswer {
             refusal: 0,
             jet: VectorSurfaceDerivatives { order, entries: r },
@@ -195,20 +204,20 @@ impl VectorSurfaceDerivatives {
         if !vector_array::surface_finite(&a, n) {
             return 5;
         }
-        vector_surface_entries::write(&a, n, out);
+        vector_surface_lists::write(&a, n, out);
         0
     }
 
     pub fn derivative_u(self) -> VectorSurfaceAnswer
         ensures { λ r. ⌜ r ≡ vectorSurfaceDerivative derivativeU self ⌝ }
     {
-        derivative(self, 1, 0)
+        derivative(By::U, self)
     }
 
     pub fn derivative_v(self) -> VectorSurfaceAnswer
         ensures { λ r. ⌜ r ≡ vectorSurfaceDerivative derivativeV self ⌝ }
     {
-        derivative(self, 0, 1)
+        derivative(By::V, self)
     }
 
     pub fn sum(self, other: VectorSurfaceDerivatives) -> VectorSurfaceAnswer
@@ -234,7 +243,7 @@ impl VectorSurfaceDerivatives {
     {
         let k = self.order;
         let l = other.order;
-        if orders::far_sum_at(k, l, m, n) {
+        if orders::above_20_sum_at(k, l, m, n) {
             return VectorAnswer::Refused(1);
         }
         let o = m + n;
@@ -246,8 +255,7 @@ impl VectorSurfaceDerivatives {
         if !weighted_finite(&x, &y, o) {
             return VectorAnswer::Refused(5);
         }
-        let c = calculus::binomials();
-        vectors::answers::returned_vector(vector_surface_entries::scaled_entry(&x, &y, &c, m, n))
+        vectors::returned_vector(vector_surface_formulas::scaled(&x, &y, m, n))
     }
 
     // One entry of the dot product.
@@ -261,7 +269,7 @@ impl VectorSurfaceDerivatives {
     {
         let k = self.order;
         let l = other.order;
-        if orders::far_sum_at(k, l, m, n) {
+        if orders::above_20_sum_at(k, l, m, n) {
             return Real::Refused(1);
         }
         let o = m + n;
@@ -273,8 +281,7 @@ impl VectorSurfaceDerivatives {
         if !both_finite(&x, &y, o) {
             return Real::Refused(5);
         }
-        let c = calculus::binomials();
-        ieee::returned(vector_surface_entries::dot_entry(&x, &y, &c, m, n))
+        vectors::returned(vector_surface_formulas::dot(&x, &y, m, n))
     }
 
     // One entry of the cross product.
@@ -288,7 +295,7 @@ impl VectorSurfaceDerivatives {
     {
         let k = self.order;
         let l = other.order;
-        if orders::far_sum_at(k, l, m, n) {
+        if orders::above_20_sum_at(k, l, m, n) {
             return VectorAnswer::Refused(1);
         }
         let o = m + n;
@@ -300,8 +307,7 @@ impl VectorSurfaceDerivatives {
         if !both_finite(&x, &y, o) {
             return VectorAnswer::Refused(5);
         }
-        let c = calculus::binomials();
-        vectors::answers::returned_vector(vector_surface_entries::cross_entry(&x, &y, &c, m, n))
+        vectors::returned_vector(vector_surface_formulas::cross(&x, &y, m, n))
     }
 
     pub fn combinatorial_derivatives_scaled(self, other: SurfaceDerivatives) -> VectorSurfaceAnswer
@@ -315,7 +321,7 @@ impl VectorSurfaceDerivatives {
     {
         let m = self.order;
         let n = other.order;
-        if orders::far(m, n) {
+        if orders::above_20(m, n) {
             return crate::refused_surface(1);
         }
         let k = calculus::smaller(m, n);
@@ -324,7 +330,7 @@ impl VectorSurfaceDerivatives {
         if !both_finite(&x, &y, k) {
             return crate::refused_surface(5);
         }
-        let r = vector_surface_entries::dots(&x, &y, k);
+        let r = vector_surface_formulas::dots(&x, &y, k);
         crate::returned_surface(r, k)
     }
 
@@ -356,7 +362,7 @@ impl VectorSurfaceDerivatives {
         if !vector_array::surface_finite(&x, n) {
             return crate::refused_surface(5);
         }
-        let r = vector_surface_norm::norms(&x, n);
+        let r = vector_surface_formulas::norm(&x, n);
         let first = r[0];
         if vector_array::norm_divides(n, first) {
             return crate::refused_surface(7);

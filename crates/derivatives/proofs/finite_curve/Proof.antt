@@ -1,66 +1,17 @@
--- `derivatives::finite_curve` meets its contract. The invariant: those passed are finite. Assumes nothing.
-use lib.Ieee.Scale.{finite}
-use Rattle.derivatives.proofs.Finite.{none, more, stop}
-use Rattle.derivatives.specs.Answer.{curveNumbers, allFinite}
-use borrow.Author.Tests.{not-true, not-false}
-use mathlib.Core.Bool.{true}
+-- `derivatives::finite_curve` meets its contract. Assumes nothing.
+use mathlib.Core.Path.{_∙_}
 use denote.Ref.{now}
-use mathlib.Core.Path.{_≡_, sym, ap, _∙_}
-use Prim.Native.Nat.{suc, _-_, _≤_}
-use native.Mathlib.Omega.{arith}
+use Rattle.calculus.proofs.Cut.{uncut}
+use Rattle.formulas.specs.Numbers.{curveNumbers, finiteCurve}
 use borrow.Author.Needs.{needs}
 use Rattle.derivatives.proofs.finite_curve.Statement.{statement}
 use Rattle.derivatives.proofs.finite_curve.Tie as tie
 
-abbrev Inv-loop : tie.InvT-loop
-Inv-loop a n i₀ i = (allFinite (curveNumbers a) i ≡ true) × (i ≤ suc n)
+finite-curve-requires : tie.Need-finite-curve-requires
+finite-curve-requires c κs = search needs
 
-abbrev μ-loop : tie.MeasureT-loop
-μ-loop a n i₀ i = suc n - i
-
-loop-holds : tie.Need-loop-holds Inv-loop μ-loop
-loop-holds c = (none finite _, omega arith)
-
-mul-x : tie.Need-mul-x Inv-loop μ-loop
-mul-x c = search needs
-
-element-copy-out-x : tie.Need-element-copy-out-x Inv-loop μ-loop
-element-copy-out-x c = search needs
-
-is-finite-requires : tie.Need-is-finite-requires Inv-loop μ-loop
-is-finite-requires c κs = search needs
-
-returns : tie.Need-returns Inv-loop μ-loop
-returns c = let s = c .before .before .before .before .before .args in
-    stop finite (curveNumbers (now (s .a))) (suc (s .n)) (omega arith) (sym (c .before .is-finite .ensures) ∙ not-true _ (c .if1 .taken))
-
-add-i : tie.Need-add-i Inv-loop μ-loop
-add-i c = search needs
-
-loop-less : tie.Need-loop-less Inv-loop μ-loop
-loop-less c = search needs
-
-loop-again : tie.Need-loop-again Inv-loop μ-loop
-loop-again c = let s = c .before .before .before .before .before .args in
-    (more finite (curveNumbers (now (s .a))) (c .before .before .before .before .loop .i) (c .before .before .before .before .loop .inv .0) (sym (c .before .is-finite .ensures) ∙ not-false _ (c .if1 .left)), omega arith)
-
-returns-2 : tie.Need-returns-2 Inv-loop μ-loop
-returns-2 c = let s = c .before .before .args in
-    let e : c .before .loop .i ≡ suc (s .n) = omega arith in
-    sym (c .before .loop .inv .0) ∙ ap (allFinite (curveNumbers (now (s .a)))) e
+returns : tie.Need-returns
+returns c = c .finite-curve .ensures ∙ uncut (finiteCurve (curveNumbers (now (c .before .args .a)))) (c .before .pre)
 
 pub finite-curve-spec : {M : Type 1} → statement M
-finite-curve-spec =
-    tie.close
-    (tie.spec
-    Inv-loop
-    μ-loop
-    loop-holds
-    mul-x
-    element-copy-out-x
-    is-finite-requires
-    returns
-    add-i
-    loop-less
-    loop-again
-    returns-2)
+finite-curve-spec = tie.close (tie.spec finite-curve-requires returns)

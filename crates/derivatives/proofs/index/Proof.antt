@@ -1,28 +1,16 @@
 -- `derivatives::index` meets its contract. Assumes nothing.
-use mathlib.Core.Path.{refl}
-use Rattle.derivatives.proofs.Terms.{small-square}
+use mathlib.Core.Path.{_∙_}
 use Rattle.calculus.specs.Graded.{index}
-use Prim.Native.Nat.{_+_}
-use native.Mathlib.Omega.{arith}
+use Rattle.calculus.proofs.Cut.{uncut-entry}
 use borrow.Author.Needs.{needs}
 use Rattle.derivatives.proofs.index.Statement.{statement}
 use Rattle.derivatives.proofs.index.Tie as tie
 
-add-n : tie.Need-add-n
-add-n c = search needs
-
-add-result : tie.Need-add-result
-add-result c = search needs
-
-mul-result : tie.Need-mul-result
-mul-result c = record { fits = omega (arith, small-square (c .args .i + c .args .j) (search needs)) }
-
-add-result-2 : tie.Need-add-result-2
-add-result-2 c = record { fits = omega (arith, small-square (c .args .i + c .args .j) (search needs)) }
+index-requires : tie.Need-index-requires
+index-requires c κs = search needs
 
 returns : tie.Need-returns
-unfolding index
-returns c = refl
+returns c = c .index .ensures ∙ uncut-entry index (c .before .pre)
 
 pub index-spec : {M : Type 1} → statement M
-index-spec = tie.close (tie.spec add-n add-result mul-result add-result-2 returns)
+index-spec = tie.close (tie.spec index-requires returns)

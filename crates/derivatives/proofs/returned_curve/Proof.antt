@@ -1,7 +1,6 @@
 -- `derivatives::returned_curve` meets its contract. Assumes nothing.
-use Rattle.ieee.proofs.Tests.{first, second}
-use Rattle.derivatives.specs.Answer.{madeCurve}
-use Rattle.derivatives.specs.Answer.{refusedCurve}
+use Rattle.booleans.proofs.Tests.{first, second}
+use Rattle.derivatives.specs.Answer.{madeCurve, refusedCurve}
 use borrow.Author.Tests.{not-true, not-false}
 use mathlib.Core.Path.{sym, _∙_}
 use borrow.Author.Needs.{needs}

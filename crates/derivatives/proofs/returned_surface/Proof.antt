@@ -1,7 +1,6 @@
 -- `derivatives::returned_surface` meets its contract. Assumes nothing.
-use Rattle.ieee.proofs.Tests.{first, second}
-use Rattle.derivatives.specs.Answer.{madeSurface}
-use Rattle.derivatives.specs.Answer.{refusedSurface}
+use Rattle.booleans.proofs.Tests.{first, second}
+use Rattle.derivatives.specs.Answer.{madeSurface, refusedSurface}
 use borrow.Author.Tests.{not-true, not-false}
 use borrow.Author.Needs.{needs}
 use mathlib.Core.Path.{sym, _∙_}

@@ -1,51 +1,50 @@
 -- `derivatives::CurveDerivatives::combinatorial_derivative` meets its contract. Assumes nothing.
-use Rattle.derivatives.proofs.Tested.{near-at, at-far, at-beyond, at-infinite, at-worked}
-use Rattle.ieee.specs.declared.Real.the-variants.{Refused}
-use Rattle.ieee.specs.Answer.{returned}
+use Rattle.formulas.specs.Numbers.{curveNumbers}
+use Rattle.calculus.proofs.Cut.{uncut}
+use Rattle.derivatives.proofs.Tested.{near-at, at-above-20, at-beyond, at-infinite, at-worked}
+use Rattle.vectors.specs.declared.Real.the-variants.{Refused}
+use Rattle.vectors.specs.Answers.{returned}
 use Rattle.calculus.specs.Curve.{product}
-use Rattle.derivatives.specs.Real.{real}
+use Rattle.formulas.specs.Real.{real}
 use Rattle.derivatives.specs.Answer.{curves}
 use mathlib.Core.Path.{ap, _∙_}
 use borrow.Author.Needs.{needs}
 use Rattle.derivatives.proofs.CurveDerivatives.combinatorial_derivative.Statement.{statement}
 use Rattle.derivatives.proofs.CurveDerivatives.combinatorial_derivative.Tie as tie
 
-far-at-requires : tie.Need-far-at-requires
-far-at-requires c κs = search needs
+above-20-at-requires : tie.Need-above-20-at-requires
+above-20-at-requires c κs = search needs
 
 returns : tie.Need-returns
 returns c = let s = c .before .before .args in
-    at-far curves curves Refused (λ x y. returned (product real x y (s .order))) (s .self) (s .other) (s .order) (c .before .far-at .ensures) (c .if1 .taken)
+    at-above-20 curves curves Refused (λ x y. returned (product real x y (s .order))) (s .self) (s .other) (s .order) (c .before .above-20-at .ensures) (c .if1 .taken)
 
 smaller-requires : tie.Need-smaller-requires
 smaller-requires c κs = search needs
 
 returns-2 : tie.Need-returns-2
 returns-2 c = let p = c .before in let s = p .before .before .before .args in
-    at-beyond curves curves Refused (λ x y. returned (product real x y (s .order))) (s .self) (s .other) (s .order) (p .before .before .far-at .ensures) (p .before .if1 .left) (p .smaller .ensures) (c .if2 .taken)
+    at-beyond curves curves Refused (λ x y. returned (product real x y (s .order))) (s .self) (s .other) (s .order) (p .before .before .above-20-at .ensures) (p .before .if1 .left) (p .smaller .ensures) (c .if2 .taken)
 
 curves-finite-requires : tie.Need-curves-finite-requires
 curves-finite-requires c κs = let p = c .before .before .before .before .before in let s = p .before .before .before .args in
-    near-at (s .self .order) (s .other .order) (s .order) (p .before .before .far-at .ensures) (p .before .if1 .left)
+    near-at (s .self .order) (s .other .order) (s .order) (p .before .before .above-20-at .ensures) (p .before .if1 .left)
 
 returns-3 : tie.Need-returns-3
 returns-3 c = let p = c .before .before .before .before .before .before .before in let s = p .before .before .before .args in
-    at-infinite curves curves Refused (λ x y. returned (product real x y (s .order))) (s .self) (s .other) (s .order) (p .before .before .far-at .ensures) (p .before .if1 .left) (p .smaller .ensures) (c .before .before .before .before .before .before .if2 .left) (c .before .curves-finite .ensures) (c .if3 .taken)
+    at-infinite curves curves Refused (λ x y. returned (product real x y (s .order))) (s .self) (s .other) (s .order) (p .before .before .above-20-at .ensures) (p .before .if1 .left) (p .smaller .ensures) (c .before .before .before .before .before .before .if2 .left) (c .before .curves-finite .ensures) (c .if3 .taken)
 
-binomials-requires : tie.Need-binomials-requires
-binomials-requires c κs = search needs
-
-product-entry-requires : tie.Need-product-entry-requires
-product-entry-requires c κs = let p = c .before .before .before .before .before .before .before .before .before .before .before in let s = p .before .before .before .args in
-    (near-at (s .self .order) (s .other .order) (s .order) (p .before .before .far-at .ensures) (p .before .if1 .left), search needs)
+product-requires : tie.Need-product-requires
+product-requires c κs = search needs
 
 returned-requires : tie.Need-returned-requires
 returned-requires c κs = search needs
 
 returns-4 : tie.Need-returns-4
-returns-4 c = let p = c .before .before .before .before .before .before .before .before .before .before .before .before .before in let s = p .before .before .before .args in
-    c .returned .ensures ∙ ap returned (c .before .product-entry .ensures)
-    ∙ at-worked curves curves Refused (λ x y. returned (product real x y (s .order))) (s .self) (s .other) (s .order) (p .before .before .far-at .ensures) (p .before .if1 .left) (p .smaller .ensures) (c .before .before .before .before .before .before .before .before .before .before .before .before .if2 .left) (c .before .before .before .before .before .before .before .curves-finite .ensures) (c .before .before .before .before .before .before .if3 .left)
+returns-4 c = let q = c .before .before .before .before in
+    let p = q .before .before .before .before .before .before .before in let s = p .before .before .before .args in
+    c .returned .ensures ∙ ap returned (c .before .product .ensures ∙ uncut (product real (curveNumbers (s .self .entries)) (curveNumbers (s .other .entries))) (near-at (s .self .order) (s .other .order) (s .order) (p .before .before .above-20-at .ensures) (p .before .if1 .left)))
+    ∙ at-worked curves curves Refused (λ x y. returned (product real x y (s .order))) (s .self) (s .other) (s .order) (p .before .before .above-20-at .ensures) (p .before .if1 .left) (p .smaller .ensures) (q .before .before .before .before .before .before .if2 .left) (q .before .curves-finite .ensures) (q .if3 .left)
 
 pub combinatorial-derivative-spec : {M : Type 1} → statement M
-combinatorial-derivative-spec = tie.close (tie.spec far-at-requires returns smaller-requires returns-2 curves-finite-requires returns-3 binomials-requires product-entry-requires returned-requires returns-4)
+combinatorial-derivative-spec = tie.close (tie.spec above-20-at-requires returns smaller-requires returns-2 curves-finite-requires returns-3 product-requires returned-requires returns-4)

@@ -1,8 +1,13 @@
 -- `derivatives::CurveDerivatives::derivative` meets its contract. Assumes nothing.
-use Rattle.derivatives.proofs.Tested.{less-far, less-none, less-infinite, less-worked}
+use Prim.Native.Nat.{_-_}
+use Rattle.formulas.specs.Numbers.{curveNumbers}
+use Rattle.ieee_vectors.specs.Vectors.{positiveZero}
+use Rattle.calculus.specs.Array.{curveArray}
+use Rattle.derivatives.proofs.Answers.{less-uncut}
+use Rattle.derivatives.proofs.Tested.{less-above-20, less-none, less-infinite, less-worked}
 use Rattle.calculus.specs.Curve.{derivative}
-use Rattle.derivatives.specs.Answer.{refusedCurve, answeredCurve, curves}
-use mathlib.Core.Path.{_∙_}
+use Rattle.derivatives.specs.Answer.{refusedCurve, answeredCurve, curves, madeCurve}
+use mathlib.Core.Path.{_∙_, ap}
 use borrow.Author.Needs.{needs}
 use Rattle.derivatives.proofs.CurveDerivatives.derivative.Statement.{statement}
 use Rattle.derivatives.proofs.CurveDerivatives.derivative.Tie as tie
@@ -12,7 +17,7 @@ refused-curve-requires c κs = search needs
 
 returns : tie.Need-returns
 returns c = let s = c .before .before .args in
-    c .refused-curve .ensures ∙ less-far curves refusedCurve (λ x n. answeredCurve n (derivative x)) (s .self) (c .before .if1 .taken)
+    c .refused-curve .ensures ∙ less-above-20 curves refusedCurve (λ x n. answeredCurve n (derivative x)) (s .self) (c .before .if1 .taken)
 
 refused-curve-requires-2 : tie.Need-refused-curve-requires-2
 refused-curve-requires-2 c κs = search needs
@@ -31,15 +36,16 @@ returns-3 : tie.Need-returns-3
 returns-3 c = let p = c .before .before .before .before .before .before in let s = p .before .args in
     c .refused-curve3 .ensures ∙ less-infinite curves refusedCurve (λ x n. answeredCurve n (derivative x)) (s .self) (p .if1 .left) (c .before .before .finite-curve .ensures) (c .before .before .before .before .before .if2 .left) (c .before .if3 .taken)
 
-sub-shifted : tie.Need-sub-shifted
-sub-shifted c = search needs
+sub-k : tie.Need-sub-k
+sub-k c = search needs
 
-shifted-requires : tie.Need-shifted-requires
-shifted-requires c κs = search needs
+derivative-requires : tie.Need-derivative-requires
+derivative-requires c κs = search needs
 
 returns-4 : tie.Need-returns-4
 returns-4 c = let p = c .before .before .before .before .before .before .before in let s = p .before .args in
-    c .shifted .ensures ∙ less-worked curves refusedCurve (λ x n. answeredCurve n (derivative x)) (s .self) (p .if1 .left) (c .before .before .before .finite-curve .ensures) (c .before .before .before .before .before .before .if2 .left) (c .before .before .if3 .left)
+    ap (madeCurve (s .self .order - 1)) (c .derivative .ensures ∙ less-uncut (curveArray positiveZero (derivative (curveNumbers (s .self .entries)))) (s .self .order) (p .if1 .left))
+    ∙ less-worked curves refusedCurve (λ x n. answeredCurve n (derivative x)) (s .self) (p .if1 .left) (c .before .before .before .finite-curve .ensures) (c .before .before .before .before .before .before .if2 .left) (c .before .before .if3 .left)
 
 pub derivative-spec : {M : Type 1} → statement M
-derivative-spec = tie.close (tie.spec refused-curve-requires returns refused-curve-requires-2 returns-2 finite-curve-requires refused-curve-requires-3 returns-3 sub-shifted shifted-requires returns-4)
+derivative-spec = tie.close (tie.spec refused-curve-requires returns refused-curve-requires-2 returns-2 finite-curve-requires refused-curve-requires-3 returns-3 sub-k derivative-requires returns-4)

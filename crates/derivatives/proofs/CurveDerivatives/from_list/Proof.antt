@@ -1,6 +1,7 @@
 -- `derivatives::CurveDerivatives::from_list` meets its contract. Assumes nothing.
-use Rattle.derivatives.proofs.Tested.{list-far, list-length, list-infinite, list-is}
-use Rattle.derivatives.specs.Answer.{curveNumbers, refusedCurve, answeredCurve}
+use Rattle.derivatives.proofs.Tested.{list-above-20, list-length, list-infinite, list-is}
+use Rattle.formulas.specs.Numbers.{curveNumbers}
+use Rattle.derivatives.specs.Answer.{refusedCurve, answeredCurve}
 use mathlib.Core.Path.{_∙_}
 use Prim.Native.Nat.{suc}
 use native.Mathlib.Numerals.{add-one}
@@ -14,7 +15,7 @@ refused-curve-requires c κs = search needs
 
 returns : tie.Need-returns
 returns c = let s = c .before .before .before .args in
-    c .refused-curve .ensures ∙ list-far refusedCurve (s .order) (suc (s .order)) (now (s .list)) (answeredCurve (s .order) (curveNumbers (now (s .list)))) (c .before .if1 .taken)
+    c .refused-curve .ensures ∙ list-above-20 refusedCurve (s .order) (suc (s .order)) (now (s .list)) (answeredCurve (s .order) (curveNumbers (now (s .list)))) (c .before .if1 .taken)
 
 add-if2 : tie.Need-add-if2
 add-if2 c = search needs

@@ -1,5 +1,5 @@
 -- `derivatives::CurveDerivatives::into_list` meets its contract. Assumes nothing.
-use Rattle.derivatives.proofs.Tested.{pair, into-far, into-length, into-infinite, into-worked}
+use Rattle.derivatives.proofs.Tested.{pair, into-above-20, into-length, into-infinite, into-worked}
 use Rattle.calculus.specs.Order.{curveEntries}
 use Rattle.derivatives.specs.Answer.{curves}
 use Prim.Native.Nat.{suc}
@@ -12,7 +12,7 @@ use Rattle.derivatives.proofs.CurveDerivatives.into_list.Tie as tie
 
 returns : tie.Need-returns
 returns c = let s = c .before .before .args in
-    into-far curves (suc) (curveEntries) (s .self) (now (s .out)) (c .if1 .taken)
+    into-above-20 curves (suc) (curveEntries) (s .self) (now (s .out)) (c .if1 .taken)
 
 add-if2 : tie.Need-add-if2
 add-if2 c = search needs

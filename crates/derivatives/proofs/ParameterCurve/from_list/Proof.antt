@@ -1,5 +1,5 @@
 -- `derivatives::ParameterCurve::from_list` meets its contract. Assumes nothing.
-use Rattle.derivatives.proofs.Tested.{list-far, list-length, list-infinite, list-is}
+use Rattle.derivatives.proofs.Tested.{list-above-20, list-length, list-infinite, list-is}
 use Rattle.derivatives.proofs.Parameters.{twice, parameter-made}
 use Rattle.derivatives.specs.Answer.{refusedParameter, answeredParameter}
 use mathlib.Core.Path.{_∙_}
@@ -16,7 +16,7 @@ refused-parameter-requires c κs = search needs
 
 returns : tie.Need-returns
 returns c = let s = c .before .before .before .args in
-    c .refused-parameter .ensures ∙ list-far refusedParameter (s .order) (2 * suc (s .order)) (now (s .list)) (answeredParameter (s .order) (λ m. getD (now (s .list)) (2 * m) nan) (λ m. getD (now (s .list)) (2 * m + 1) nan)) (c .before .if1 .taken)
+    c .refused-parameter .ensures ∙ list-above-20 refusedParameter (s .order) (2 * suc (s .order)) (now (s .list)) (answeredParameter (s .order) (λ m. getD (now (s .list)) (2 * m) nan) (λ m. getD (now (s .list)) (2 * m + 1) nan)) (c .before .if1 .taken)
 
 add-if2 : tie.Need-add-if2
 add-if2 c = search needs

@@ -1,5 +1,5 @@
 -- `derivatives::ParameterCurve::into_list` meets its contract. Assumes nothing.
-use Rattle.derivatives.proofs.Tested.{pair, into-far, into-length, into-infinite, into-worked}
+use Rattle.derivatives.proofs.Tested.{pair, into-above-20, into-length, into-infinite, into-worked}
 use Rattle.derivatives.proofs.Parameters.{twice}
 use Rattle.derivatives.specs.Answer.{parameters, pairs}
 use Prim.Native.Nat.{suc, _*_}
@@ -11,7 +11,7 @@ use Rattle.derivatives.proofs.ParameterCurve.into_list.Tie as tie
 
 returns : tie.Need-returns
 returns c = let s = c .before .before .args in
-    into-far parameters (λ n. 2 * suc n) (λ w n. pairs (w .0) (w .1) 0 (suc n)) (s .self) (now (s .out)) (c .if1 .taken)
+    into-above-20 parameters (λ n. 2 * suc n) (λ w n. pairs (w .0) (w .1) 0 (suc n)) (s .self) (now (s .out)) (c .if1 .taken)
 
 add-if2 : tie.Need-add-if2
 add-if2 c = search needs

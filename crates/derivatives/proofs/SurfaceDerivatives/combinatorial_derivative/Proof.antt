@@ -1,9 +1,11 @@
 -- `derivatives::SurfaceDerivatives::combinatorial_derivative` meets its contract. Assumes nothing.
-use Rattle.derivatives.proofs.Tested.{near-at, at-far, at-beyond, at-infinite, at-worked}
-use Rattle.ieee.specs.declared.Real.the-variants.{Refused}
-use Rattle.ieee.specs.Answer.{returned}
+use Rattle.formulas.specs.Numbers.{surfaceNumbers}
+use Rattle.calculus.proofs.Cut.{uncut-entry}
+use Rattle.derivatives.proofs.Tested.{near-at, at-above-20, at-beyond, at-infinite, at-worked}
+use Rattle.vectors.specs.declared.Real.the-variants.{Refused}
+use Rattle.vectors.specs.Answers.{returned}
 use Rattle.calculus.specs.Surface.{product}
-use Rattle.derivatives.specs.Real.{real}
+use Rattle.formulas.specs.Real.{real}
 use Rattle.derivatives.specs.Answer.{surfaces}
 use mathlib.Core.Path.{ap, _∙_}
 use borrow.Author.Needs.{needs}
@@ -12,46 +14,43 @@ use native.Mathlib.Omega.{arith}
 use Rattle.derivatives.proofs.SurfaceDerivatives.combinatorial_derivative.Statement.{statement}
 use Rattle.derivatives.proofs.SurfaceDerivatives.combinatorial_derivative.Tie as tie
 
-far-sum-at-requires : tie.Need-far-sum-at-requires
-far-sum-at-requires c κs = search needs
+above-20-sum-at-requires : tie.Need-above-20-sum-at-requires
+above-20-sum-at-requires c κs = search needs
 
 returns : tie.Need-returns
 returns c = let s = c .before .before .args in
-    at-far surfaces surfaces Refused (λ x y. returned (product real x y (s .m) (s .n))) (s .self) (s .other) (s .m + s .n) (c .before .far-sum-at .ensures) (c .if1 .taken)
+    at-above-20 surfaces surfaces Refused (λ x y. returned (product real x y (s .m) (s .n))) (s .self) (s .other) (s .m + s .n) (c .before .above-20-sum-at .ensures) (c .if1 .taken)
 
 add-o : tie.Need-add-o
 add-o c = let s = c .before .before .args in
-    omega (arith, near-at (s .self .order) (s .other .order) (s .m + s .n) (c .before .far-sum-at .ensures) (c .if1 .left))
+    omega (arith, near-at (s .self .order) (s .other .order) (s .m + s .n) (c .before .above-20-sum-at .ensures) (c .if1 .left))
 
 smaller-requires : tie.Need-smaller-requires
 smaller-requires c κs = search needs
 
 returns-2 : tie.Need-returns-2
 returns-2 c = let p = c .before in let s = p .before .before .before .args in
-    at-beyond surfaces surfaces Refused (λ x y. returned (product real x y (s .m) (s .n))) (s .self) (s .other) (s .m + s .n) (p .before .before .far-sum-at .ensures) (p .before .if1 .left) (p .smaller .ensures) (c .if2 .taken)
+    at-beyond surfaces surfaces Refused (λ x y. returned (product real x y (s .m) (s .n))) (s .self) (s .other) (s .m + s .n) (p .before .before .above-20-sum-at .ensures) (p .before .if1 .left) (p .smaller .ensures) (c .if2 .taken)
 
 surfaces-finite-requires : tie.Need-surfaces-finite-requires
 surfaces-finite-requires c κs = let p = c .before .before .before .before .before in let s = p .before .before .before .args in
-    near-at (s .self .order) (s .other .order) (s .m + s .n) (p .before .before .far-sum-at .ensures) (p .before .if1 .left)
+    near-at (s .self .order) (s .other .order) (s .m + s .n) (p .before .before .above-20-sum-at .ensures) (p .before .if1 .left)
 
 returns-3 : tie.Need-returns-3
 returns-3 c = let p = c .before .before .before .before .before .before .before in let s = p .before .before .before .args in
-    at-infinite surfaces surfaces Refused (λ x y. returned (product real x y (s .m) (s .n))) (s .self) (s .other) (s .m + s .n) (p .before .before .far-sum-at .ensures) (p .before .if1 .left) (p .smaller .ensures) (c .before .before .before .before .before .before .if2 .left) (c .before .surfaces-finite .ensures) (c .if3 .taken)
+    at-infinite surfaces surfaces Refused (λ x y. returned (product real x y (s .m) (s .n))) (s .self) (s .other) (s .m + s .n) (p .before .before .above-20-sum-at .ensures) (p .before .if1 .left) (p .smaller .ensures) (c .before .before .before .before .before .before .if2 .left) (c .before .surfaces-finite .ensures) (c .if3 .taken)
 
-binomials-requires : tie.Need-binomials-requires
-binomials-requires c κs = search needs
-
-product-entry-requires : tie.Need-product-entry-requires
-product-entry-requires c κs = let p = c .before .before .before .before .before .before .before .before .before .before .before in let s = p .before .before .before .args in
-    (near-at (s .self .order) (s .other .order) (s .m + s .n) (p .before .before .far-sum-at .ensures) (p .before .if1 .left), search needs)
+surface-product-requires : tie.Need-surface-product-requires
+surface-product-requires c κs = search needs
 
 returned-requires : tie.Need-returned-requires
 returned-requires c κs = search needs
 
 returns-4 : tie.Need-returns-4
-returns-4 c = let p = c .before .before .before .before .before .before .before .before .before .before .before .before .before in let s = p .before .before .before .args in
-    c .returned .ensures ∙ ap returned (c .before .product-entry .ensures)
-    ∙ at-worked surfaces surfaces Refused (λ x y. returned (product real x y (s .m) (s .n))) (s .self) (s .other) (s .m + s .n) (p .before .before .far-sum-at .ensures) (p .before .if1 .left) (p .smaller .ensures) (c .before .before .before .before .before .before .before .before .before .before .before .before .if2 .left) (c .before .before .before .before .before .before .before .surfaces-finite .ensures) (c .before .before .before .before .before .before .if3 .left)
+returns-4 c = let q = c .before .before .before .before in
+    let p = q .before .before .before .before .before .before .before in let s = p .before .before .before .args in
+    c .returned .ensures ∙ ap returned (c .before .surface-product .ensures ∙ uncut-entry (product real (surfaceNumbers (s .self .entries)) (surfaceNumbers (s .other .entries))) (near-at (s .self .order) (s .other .order) (s .m + s .n) (p .before .before .above-20-sum-at .ensures) (p .before .if1 .left)))
+    ∙ at-worked surfaces surfaces Refused (λ x y. returned (product real x y (s .m) (s .n))) (s .self) (s .other) (s .m + s .n) (p .before .before .above-20-sum-at .ensures) (p .before .if1 .left) (p .smaller .ensures) (q .before .before .before .before .before .before .if2 .left) (q .before .surfaces-finite .ensures) (q .if3 .left)
 
 pub combinatorial-derivative-spec : {M : Type 1} → statement M
-combinatorial-derivative-spec = tie.close (tie.spec far-sum-at-requires returns add-o smaller-requires returns-2 surfaces-finite-requires returns-3 binomials-requires product-entry-requires returned-requires returns-4)
+combinatorial-derivative-spec = tie.close (tie.spec above-20-sum-at-requires returns add-o smaller-requires returns-2 surfaces-finite-requires returns-3 surface-product-requires returned-requires returns-4)

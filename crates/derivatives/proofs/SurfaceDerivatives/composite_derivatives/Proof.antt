@@ -1,25 +1,25 @@
 -- `derivatives::SurfaceDerivatives::composite_derivatives` meets its contract. Assumes nothing.
-use Rattle.derivatives.proofs.Tested.{near-at, at-far, at-beyond, at-infinite, at-worked}
+use Rattle.derivatives.proofs.Tested.{near-at, at-above-20, at-beyond, at-infinite, at-worked}
 use Rattle.derivatives.proofs.Answers.{curve-returned}
-use Rattle.derivatives.proofs.Carries.{carriedJet}
+use Rattle.formulas.proofs.Carries.{carriedJet}
 use Rattle.calculus.specs.Kind.{regular}
 use Rattle.calculus.specs.Carry.{compositeDerivatives}
-use Rattle.derivatives.specs.Real.{real}
+use Rattle.formulas.specs.Real.{real}
 use Rattle.derivatives.specs.Answer.{refusedCurve, returnedCurve, surfaces, parameters}
 use mathlib.Core.Path.{_∙_}
 use borrow.Author.Needs.{needs}
 use Rattle.derivatives.proofs.SurfaceDerivatives.composite_derivatives.Statement.{statement}
 use Rattle.derivatives.proofs.SurfaceDerivatives.composite_derivatives.Tie as tie
 
-far-at-requires : tie.Need-far-at-requires
-far-at-requires c κs = search needs
+above-20-at-requires : tie.Need-above-20-at-requires
+above-20-at-requires c κs = search needs
 
 refused-curve-requires : tie.Need-refused-curve-requires
 refused-curve-requires c κs = search needs
 
 returns : tie.Need-returns
 returns c = let s = c .before .before .before .args in
-    c .refused-curve .ensures ∙ at-far surfaces parameters refusedCurve (λ x y. returnedCurve (s .order) (compositeDerivatives (regular real) (y .0) (y .1) x)) (s .self) (s .curve) (s .order) (c .before .before .far-at .ensures) (c .before .if1 .taken)
+    c .refused-curve .ensures ∙ at-above-20 surfaces parameters refusedCurve (λ x y. returnedCurve (s .order) (compositeDerivatives (regular real) (y .0) (y .1) x)) (s .self) (s .curve) (s .order) (c .before .before .above-20-at .ensures) (c .before .if1 .taken)
 
 smaller-requires : tie.Need-smaller-requires
 smaller-requires c κs = search needs
@@ -29,32 +29,31 @@ refused-curve-requires-2 c κs = search needs
 
 returns-2 : tie.Need-returns-2
 returns-2 c = let p = c .before .before in let s = p .before .before .before .args in
-    c .refused-curve2 .ensures ∙ at-beyond surfaces parameters refusedCurve (λ x y. returnedCurve (s .order) (compositeDerivatives (regular real) (y .0) (y .1) x)) (s .self) (s .curve) (s .order) (p .before .before .far-at .ensures) (p .before .if1 .left) (p .smaller .ensures) (c .before .if2 .taken)
+    c .refused-curve2 .ensures ∙ at-beyond surfaces parameters refusedCurve (λ x y. returnedCurve (s .order) (compositeDerivatives (regular real) (y .0) (y .1) x)) (s .self) (s .curve) (s .order) (p .before .before .above-20-at .ensures) (p .before .if1 .left) (p .smaller .ensures) (c .before .if2 .taken)
 
 all-finite-requires : tie.Need-all-finite-requires
 all-finite-requires c κs = let p = c .before .before .before .before .before .before .before in let s = p .before .before .before .args in
-    near-at (s .self .order) (s .curve .order) (s .order) (p .before .before .far-at .ensures) (p .before .if1 .left)
+    near-at (s .self .order) (s .curve .order) (s .order) (p .before .before .above-20-at .ensures) (p .before .if1 .left)
 
 refused-curve-requires-3 : tie.Need-refused-curve-requires-3
 refused-curve-requires-3 c κs = search needs
 
 returns-3 : tie.Need-returns-3
 returns-3 c = let p = c .before .before .before .before .before .before .before .before .before .before in let s = p .before .before .before .args in
-    c .refused-curve3 .ensures ∙ at-infinite surfaces parameters refusedCurve (λ x y. returnedCurve (s .order) (compositeDerivatives (regular real) (y .0) (y .1) x)) (s .self) (s .curve) (s .order) (p .before .before .far-at .ensures) (p .before .if1 .left) (p .smaller .ensures) (c .before .before .before .before .before .before .before .before .before .if2 .left) (c .before .before .all-finite .ensures) (c .before .if3 .taken)
+    c .refused-curve3 .ensures ∙ at-infinite surfaces parameters refusedCurve (λ x y. returnedCurve (s .order) (compositeDerivatives (regular real) (y .0) (y .1) x)) (s .self) (s .curve) (s .order) (p .before .before .above-20-at .ensures) (p .before .if1 .left) (p .smaller .ensures) (c .before .before .before .before .before .before .before .before .before .if2 .left) (c .before .before .all-finite .ensures) (c .before .if3 .taken)
 
-derivatives-requires : tie.Need-derivatives-requires
-derivatives-requires c κs = let p = c .before .before .before .before .before .before .before .before .before .before .before .before in let s = p .before .before .before .args in
-    near-at (s .self .order) (s .curve .order) (s .order) (p .before .before .far-at .ensures) (p .before .if1 .left)
+composites-requires : tie.Need-composites-requires
+composites-requires c κs = search needs
 
 returned-curve-requires : tie.Need-returned-curve-requires
 returned-curve-requires c κs = let p = c .before .before .before .before .before .before .before .before .before .before .before .before .before in let s = p .before .before .before .args in
-    near-at (s .self .order) (s .curve .order) (s .order) (p .before .before .far-at .ensures) (p .before .if1 .left)
+    near-at (s .self .order) (s .curve .order) (s .order) (p .before .before .above-20-at .ensures) (p .before .if1 .left)
 
 returns-4 : tie.Need-returns-4
 returns-4 c = let p = c .before .before .before .before .before .before .before .before .before .before .before .before .before .before in let s = p .before .before .before .args in
     c .returned-curve .ensures
-    ∙ curve-returned (s .order) (near-at (s .self .order) (s .curve .order) (s .order) (p .before .before .far-at .ensures) (p .before .if1 .left)) (carriedJet (s .self .entries) (s .curve .u) (s .curve .v)) (c .before .derivatives .ensures)
-    ∙ at-worked surfaces parameters refusedCurve (λ x y. returnedCurve (s .order) (compositeDerivatives (regular real) (y .0) (y .1) x)) (s .self) (s .curve) (s .order) (p .before .before .far-at .ensures) (p .before .if1 .left) (p .smaller .ensures) (c .before .before .before .before .before .before .before .before .before .before .before .before .before .if2 .left) (c .before .before .before .before .before .before .all-finite .ensures) (c .before .before .before .before .before .if3 .left)
+    ∙ curve-returned (s .order) (near-at (s .self .order) (s .curve .order) (s .order) (p .before .before .above-20-at .ensures) (p .before .if1 .left)) (carriedJet (s .self .entries) (s .curve .u) (s .curve .v)) (c .before .composites .ensures)
+    ∙ at-worked surfaces parameters refusedCurve (λ x y. returnedCurve (s .order) (compositeDerivatives (regular real) (y .0) (y .1) x)) (s .self) (s .curve) (s .order) (p .before .before .above-20-at .ensures) (p .before .if1 .left) (p .smaller .ensures) (c .before .before .before .before .before .before .before .before .before .before .before .before .before .if2 .left) (c .before .before .before .before .before .before .all-finite .ensures) (c .before .before .before .before .before .if3 .left)
 
 pub composite-derivatives-spec : {M : Type 1} → statement M
-composite-derivatives-spec = tie.close (tie.spec far-at-requires refused-curve-requires returns smaller-requires refused-curve-requires-2 returns-2 all-finite-requires refused-curve-requires-3 returns-3 derivatives-requires returned-curve-requires returns-4)
+composite-derivatives-spec = tie.close (tie.spec above-20-at-requires refused-curve-requires returns smaller-requires refused-curve-requires-2 returns-2 all-finite-requires refused-curve-requires-3 returns-3 composites-requires returned-curve-requires returns-4)

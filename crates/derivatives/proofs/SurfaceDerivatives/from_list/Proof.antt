@@ -1,6 +1,6 @@
 -- `derivatives::SurfaceDerivatives::from_list` meets its contract. Assumes nothing.
-use Rattle.derivatives.proofs.Tested.{list-far, list-length, list-infinite, list-is}
-use Rattle.derivatives.proofs.Finite.{counted}
+use Rattle.derivatives.proofs.Tested.{list-above-20, list-length, list-infinite, list-is}
+use Rattle.formulas.proofs.Finite.{counted}
 use Rattle.calculus.specs.Graded.{triangle}
 use Rattle.calculus.specs.Order.{listPlace}
 use Rattle.derivatives.specs.Answer.{refusedSurface, answeredSurface}
@@ -18,7 +18,7 @@ refused-surface-requires c κs = search needs
 
 returns : tie.Need-returns
 returns c = let s = c .before .before .before .args in
-    c .refused-surface .ensures ∙ list-far refusedSurface (s .order) (triangle (suc (s .order))) (now (s .list)) (answeredSurface (s .order) (λ i j. getD (now (s .list)) (listPlace (s .order) i j) nan)) (c .before .if1 .taken)
+    c .refused-surface .ensures ∙ list-above-20 refusedSurface (s .order) (triangle (suc (s .order))) (now (s .list)) (answeredSurface (s .order) (λ i j. getD (now (s .list)) (listPlace (s .order) i j) nan)) (c .before .if1 .taken)
 
 surface-count-requires : tie.Need-surface-count-requires
 surface-count-requires c κs = search needs

@@ -1,6 +1,6 @@
 -- `derivatives::SurfaceDerivatives::into_list` meets its contract. Assumes nothing.
-use Rattle.derivatives.proofs.Tested.{pair, into-far, into-length, into-infinite, into-worked}
-use Rattle.derivatives.proofs.Finite.{counted}
+use Rattle.derivatives.proofs.Tested.{pair, into-above-20, into-length, into-infinite, into-worked}
+use Rattle.formulas.proofs.Finite.{counted}
 use Rattle.calculus.specs.Graded.{triangle}
 use Rattle.calculus.specs.Order.{surfaceEntries}
 use Rattle.derivatives.specs.Answer.{surfaces}
@@ -13,7 +13,7 @@ use Rattle.derivatives.proofs.SurfaceDerivatives.into_list.Tie as tie
 
 returns : tie.Need-returns
 returns c = let s = c .before .before .args in
-    into-far surfaces (λ n. triangle (suc n)) (surfaceEntries) (s .self) (now (s .out)) (c .if1 .taken)
+    into-above-20 surfaces (λ n. triangle (suc n)) (surfaceEntries) (s .self) (now (s .out)) (c .if1 .taken)
 
 surface-count-requires : tie.Need-surface-count-requires
 surface-count-requires c κs = search needs

@@ -1,12 +1,13 @@
 -- `derivatives::VectorCurveDerivatives::absolute_derivatives` meets its contract. Assumes nothing.
-use Rattle.derivatives.proofs.Tested.{one-far, one-infinite, one-worked}
-use Rattle.ieee.proofs.Tests.{first, second}
+use Prim.Native.Nat.{min}
+use Rattle.derivatives.proofs.Tested.{one-above-20, one-infinite, one-worked}
+use Rattle.booleans.proofs.Tests.{first, second}
 use Rattle.derivatives.proofs.Answers.{curve-returned}
 use Rattle.derivatives.proofs.VectorAnswers.{first-entry}
-use Rattle.derivatives.specs.Real.{isZero}
+use Rattle.formulas.specs.Real.{isZero}
 use Rattle.derivatives.specs.Answer.{refusedCurve, returnedCurve}
-use Rattle.derivatives.specs.Vector.{vectorNumbers}
-use Rattle.derivatives.specs.VectorAnswer.{vectorCurves, vectorNorm}
+use Rattle.vector_formulas.specs.Vector.{vectorNumbers, vectorNorm}
+use Rattle.derivatives.specs.VectorAnswer.{vectorCurves}
 use mathlib.Core.Bool.{cond, _&&_}
 use lib.Dec.{ltb}
 use mathlib.Core.Path.{sym, ap, _∙_}
@@ -19,7 +20,7 @@ refused-curve-requires c κs = search needs
 
 returns : tie.Need-returns
 returns c = let s = c .before .before .args in
-    c .refused-curve .ensures ∙ one-far vectorCurves refusedCurve (λ x n. cond (ltb 0 n && isZero (vectorNorm x 0)) (refusedCurve 7) (returnedCurve n (vectorNorm x))) (s .self) (c .before .if1 .taken)
+    c .refused-curve .ensures ∙ one-above-20 vectorCurves refusedCurve (λ x n. cond (ltb 0 n && isZero (vectorNorm x 0)) (refusedCurve 7) (returnedCurve n (vectorNorm x))) (s .self) (c .before .if1 .taken)
 
 curve-finite-requires : tie.Need-curve-finite-requires
 curve-finite-requires c κs = search needs
@@ -31,8 +32,8 @@ returns-2 : tie.Need-returns-2
 returns-2 c = let q = c .before .before .before .before .before in let s = q .before .args in
     c .refused-curve2 .ensures ∙ one-infinite vectorCurves refusedCurve (λ x n. cond (ltb 0 n && isZero (vectorNorm x 0)) (refusedCurve 7) (returnedCurve n (vectorNorm x))) (s .self) (q .if1 .left) (c .before .before .curve-finite .ensures) (c .before .if2 .taken)
 
-numbers-requires : tie.Need-numbers-requires
-numbers-requires c κs = search needs
+norm-requires : tie.Need-norm-requires
+norm-requires c κs = search needs
 
 array-read-first : tie.Need-array-read-first
 array-read-first c = search needs
@@ -44,18 +45,22 @@ refused-curve-requires-3 : tie.Need-refused-curve-requires-3
 refused-curve-requires-3 c κs = search needs
 
 returns-3 : tie.Need-returns-3
-returns-3 c = let q = c .before .before .before .before .before .before .before .before .before .before in let s = q .before .args in
-    c .refused-curve3 .ensures ∙ sym (first (refusedCurve 7) (returnedCurve (s .self .order) (vectorNorm (vectorNumbers (s .self .entries)))) (sym (c .before .before .norm-divides .ensures ∙ ap (λ d. ltb 0 (s .self .order) && isZero d) (first-entry (vectorNorm (vectorNumbers (s .self .entries))) (s .self .order) (c .before .before .before .numbers .ensures))) ∙ c .before .if3 .taken))
-    ∙ one-worked vectorCurves refusedCurve (λ x n. cond (ltb 0 n && isZero (vectorNorm x 0)) (refusedCurve 7) (returnedCurve n (vectorNorm x))) (s .self) (q .if1 .left) (c .before .before .before .before .before .before .before .curve-finite .ensures) (c .before .before .before .before .before .before .if2 .left)
+returns-3 c = let t = c .before .before .before .before .before in
+    let q = t .before .before .before .before in
+    let s = q .before .args in
+    c .refused-curve3 .ensures ∙ sym (first (refusedCurve 7) (returnedCurve (s .self .order) (vectorNorm (vectorNumbers (s .self .entries)))) (sym (c .before .before .norm-divides .ensures ∙ ap (λ d. ltb 0 (s .self .order) && isZero d) (first-entry (vectorNorm (vectorNumbers (s .self .entries))) (min (s .self .order) 20) (c .before .before .before .norm .ensures))) ∙ c .before .if3 .taken))
+    ∙ one-worked vectorCurves refusedCurve (λ x n. cond (ltb 0 n && isZero (vectorNorm x 0)) (refusedCurve 7) (returnedCurve n (vectorNorm x))) (s .self) (q .if1 .left) (t .before .curve-finite .ensures) (t .if2 .left)
 
 returned-curve-requires : tie.Need-returned-curve-requires
 returned-curve-requires c κs = search needs
 
 returns-4 : tie.Need-returns-4
-returns-4 c = let q = c .before .before .before .before .before .before .before .before .before .before in let s = q .before .args in
-    c .returned-curve .ensures ∙ curve-returned (s .self .order) (q .if1 .left) (vectorNorm (vectorNumbers (s .self .entries))) (c .before .before .before .numbers .ensures)
-    ∙ sym (second (refusedCurve 7) (returnedCurve (s .self .order) (vectorNorm (vectorNumbers (s .self .entries)))) (sym (c .before .before .norm-divides .ensures ∙ ap (λ d. ltb 0 (s .self .order) && isZero d) (first-entry (vectorNorm (vectorNumbers (s .self .entries))) (s .self .order) (c .before .before .before .numbers .ensures))) ∙ c .before .if3 .left))
-    ∙ one-worked vectorCurves refusedCurve (λ x n. cond (ltb 0 n && isZero (vectorNorm x 0)) (refusedCurve 7) (returnedCurve n (vectorNorm x))) (s .self) (q .if1 .left) (c .before .before .before .before .before .before .before .curve-finite .ensures) (c .before .before .before .before .before .before .if2 .left)
+returns-4 c = let t = c .before .before .before .before .before in
+    let q = t .before .before .before .before in
+    let s = q .before .args in
+    c .returned-curve .ensures ∙ curve-returned (s .self .order) (q .if1 .left) (vectorNorm (vectorNumbers (s .self .entries))) (c .before .before .before .norm .ensures)
+    ∙ sym (second (refusedCurve 7) (returnedCurve (s .self .order) (vectorNorm (vectorNumbers (s .self .entries)))) (sym (c .before .before .norm-divides .ensures ∙ ap (λ d. ltb 0 (s .self .order) && isZero d) (first-entry (vectorNorm (vectorNumbers (s .self .entries))) (min (s .self .order) 20) (c .before .before .before .norm .ensures))) ∙ c .before .if3 .left))
+    ∙ one-worked vectorCurves refusedCurve (λ x n. cond (ltb 0 n && isZero (vectorNorm x 0)) (refusedCurve 7) (returnedCurve n (vectorNorm x))) (s .self) (q .if1 .left) (t .before .curve-finite .ensures) (t .if2 .left)
 
 pub absolute-derivatives-spec : {M : Type 1} → statement M
-absolute-derivatives-spec = tie.close (tie.spec refused-curve-requires returns curve-finite-requires refused-curve-requires-2 returns-2 numbers-requires array-read-first norm-divides-requires refused-curve-requires-3 returns-3 returned-curve-requires returns-4)
+absolute-derivatives-spec = tie.close (tie.spec refused-curve-requires returns curve-finite-requires refused-curve-requires-2 returns-2 norm-requires array-read-first norm-divides-requires refused-curve-requires-3 returns-3 returned-curve-requires returns-4)

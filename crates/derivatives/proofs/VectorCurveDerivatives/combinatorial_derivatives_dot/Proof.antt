@@ -1,57 +1,54 @@
 -- `derivatives::VectorCurveDerivatives::combinatorial_derivatives_dot` meets its contract. Assumes nothing.
-use Rattle.derivatives.proofs.Tested.{near, two-far, two-infinite, two-worked}
+use Rattle.derivatives.proofs.Tested.{near, two-above-20, two-infinite, two-worked}
 use Rattle.derivatives.proofs.Answers.{curve-returned}
-use Rattle.derivatives.proofs.VectorCurves.{numbersOf}
-use Rattle.vectors.specs.Vectors.{dot}
+use Rattle.ieee_vectors.specs.Vectors.{dot}
 use Rattle.calculus.specs.Kind.{regular}
 use Rattle.calculus.specs.Curve.{productBy}
-use Rattle.derivatives.specs.declared.vector_entries.NumberFormula.the-variants.{Dot}
-use Rattle.derivatives.specs.Real.{real}
+use Rattle.formulas.specs.Real.{real}
 use Rattle.derivatives.specs.Answer.{refusedCurve}
-use Rattle.derivatives.specs.Vector.{vectorNumbers}
+use Rattle.vector_formulas.specs.Vector.{vectorNumbers}
 use Rattle.derivatives.specs.VectorAnswer.{vectorCurves, byNumberFormula}
 use mathlib.Core.Path.{_∙_}
 use borrow.Author.Needs.{needs}
 use Rattle.derivatives.proofs.VectorCurveDerivatives.combinatorial_derivatives_dot.Statement.{statement}
 use Rattle.derivatives.proofs.VectorCurveDerivatives.combinatorial_derivatives_dot.Tie as tie
 
-far-requires : tie.Need-far-requires
-far-requires c κs = search needs
+above-20-requires : tie.Need-above-20-requires
+above-20-requires c κs = search needs
 
 refused-curve-requires : tie.Need-refused-curve-requires
 refused-curve-requires c κs = search needs
 
 returns : tie.Need-returns
 returns c = let s = c .before .before .before .args in
-    c .refused-curve .ensures ∙ two-far vectorCurves vectorCurves refusedCurve (byNumberFormula (productBy (regular real) dot)) (s .self) (s .other) (c .before .before .far .ensures) (c .before .if1 .taken)
+    c .refused-curve .ensures ∙ two-above-20 vectorCurves vectorCurves refusedCurve (byNumberFormula (productBy (regular real) dot)) (s .self) (s .other) (c .before .before .above-20 .ensures) (c .before .if1 .taken)
 
 smaller-requires : tie.Need-smaller-requires
 smaller-requires c κs = search needs
 
 both-finite-requires : tie.Need-both-finite-requires
 both-finite-requires c κs = let p = c .before .before .before .before in let s = p .before .before .before .args in
-    near (s .self .order) (s .other .order) (p .before .before .far .ensures) (p .before .if1 .left) (p .smaller .ensures)
+    near (s .self .order) (s .other .order) (p .before .before .above-20 .ensures) (p .before .if1 .left) (p .smaller .ensures)
 
 refused-curve-requires-2 : tie.Need-refused-curve-requires-2
 refused-curve-requires-2 c κs = search needs
 
 returns-2 : tie.Need-returns-2
 returns-2 c = let p = c .before .before .before .before .before .before .before in let s = p .before .before .before .args in
-    c .refused-curve2 .ensures ∙ two-infinite vectorCurves vectorCurves refusedCurve (byNumberFormula (productBy (regular real) dot)) (s .self) (s .other) (p .before .before .far .ensures) (p .before .if1 .left) (p .smaller .ensures) (c .before .before .both-finite .ensures) (c .before .if2 .taken)
+    c .refused-curve2 .ensures ∙ two-infinite vectorCurves vectorCurves refusedCurve (byNumberFormula (productBy (regular real) dot)) (s .self) (s .other) (p .before .before .above-20 .ensures) (p .before .if1 .left) (p .smaller .ensures) (c .before .before .both-finite .ensures) (c .before .if2 .taken)
 
-numbers-requires : tie.Need-numbers-requires
-numbers-requires c κs = let p = c .before .before .before .before .before .before .before .before in let s = p .before .before .before .args in
-    near (s .self .order) (s .other .order) (p .before .before .far .ensures) (p .before .if1 .left) (p .smaller .ensures)
+dots-requires : tie.Need-dots-requires
+dots-requires c κs = search needs
 
 returned-curve-requires : tie.Need-returned-curve-requires
 returned-curve-requires c κs = let p = c .before .before .before .before .before .before .before .before .before in let s = p .before .before .before .args in
-    near (s .self .order) (s .other .order) (p .before .before .far .ensures) (p .before .if1 .left) (p .smaller .ensures)
+    near (s .self .order) (s .other .order) (p .before .before .above-20 .ensures) (p .before .if1 .left) (p .smaller .ensures)
 
 returns-3 : tie.Need-returns-3
 returns-3 c = let p = c .before .before .before .before .before .before .before .before .before .before in let s = p .before .before .before .args in
     c .returned-curve .ensures
-    ∙ curve-returned (p .smaller .result) (near (s .self .order) (s .other .order) (p .before .before .far .ensures) (p .before .if1 .left) (p .smaller .ensures)) (numbersOf Dot (vectorNumbers (s .self .entries)) (vectorNumbers (s .other .entries))) (c .before .numbers .ensures)
-    ∙ two-worked vectorCurves vectorCurves refusedCurve (byNumberFormula (productBy (regular real) dot)) (s .self) (s .other) (p .before .before .far .ensures) (p .before .if1 .left) (p .smaller .ensures) (c .before .before .before .before .before .both-finite .ensures) (c .before .before .before .before .if2 .left)
+    ∙ curve-returned (p .smaller .result) (near (s .self .order) (s .other .order) (p .before .before .above-20 .ensures) (p .before .if1 .left) (p .smaller .ensures)) (productBy (regular real) dot (vectorNumbers (s .self .entries)) (vectorNumbers (s .other .entries))) (c .before .dots .ensures)
+    ∙ two-worked vectorCurves vectorCurves refusedCurve (byNumberFormula (productBy (regular real) dot)) (s .self) (s .other) (p .before .before .above-20 .ensures) (p .before .if1 .left) (p .smaller .ensures) (c .before .before .before .before .before .both-finite .ensures) (c .before .before .before .before .if2 .left)
 
 pub combinatorial-derivatives-dot-spec : {M : Type 1} → statement M
-combinatorial-derivatives-dot-spec = tie.close (tie.spec far-requires refused-curve-requires returns smaller-requires both-finite-requires refused-curve-requires-2 returns-2 numbers-requires returned-curve-requires returns-3)
+combinatorial-derivatives-dot-spec = tie.close (tie.spec above-20-requires refused-curve-requires returns smaller-requires both-finite-requires refused-curve-requires-2 returns-2 dots-requires returned-curve-requires returns-3)

@@ -1,5 +1,7 @@
 -- `derivatives::VectorCurveDerivatives::derivative` meets its contract. Assumes nothing.
-use Rattle.derivatives.proofs.Tested.{less-far, less-none, less-infinite, less-worked}
+use Rattle.vector_formulas.specs.Vector.{vectorNumbers, vectorArray}
+use Rattle.derivatives.proofs.Answers.{less-uncut}
+use Rattle.derivatives.proofs.Tested.{less-above-20, less-none, less-infinite, less-worked}
 use Rattle.calculus.specs.Curve.{derivative}
 use Rattle.derivatives.specs.VectorAnswer.{vectorCurves, refusedVectorCurve, madeVectorCurve, answeredVectorCurve}
 use mathlib.Core.Path.{ap, _∙_}
@@ -13,7 +15,7 @@ refused-requires c κs = search needs
 
 returns : tie.Need-returns
 returns c = let s = c .before .before .args in
-    c .refused .ensures ∙ less-far vectorCurves refusedVectorCurve (λ x n. answeredVectorCurve n (derivative x)) (s .self) (c .before .if1 .taken)
+    c .refused .ensures ∙ less-above-20 vectorCurves refusedVectorCurve (λ x n. answeredVectorCurve n (derivative x)) (s .self) (c .before .if1 .taken)
 
 refused-requires-2 : tie.Need-refused-requires-2
 refused-requires-2 c κs = search needs
@@ -35,12 +37,13 @@ returns-3 c = let p = c .before .before .before .before .before .before in let s
 sub-k : tie.Need-sub-k
 sub-k c = search needs
 
-shifted-requires : tie.Need-shifted-requires
-shifted-requires c κs = search needs
+derivative-requires : tie.Need-derivative-requires
+derivative-requires c κs = search needs
 
 returns-4 : tie.Need-returns-4
 returns-4 c = let p = c .before .before .before .before .before .before .before in let s = p .before .args in
-    ap (madeVectorCurve (s .self .order - 1)) (c .shifted .ensures) ∙ less-worked vectorCurves refusedVectorCurve (λ x n. answeredVectorCurve n (derivative x)) (s .self) (p .if1 .left) (c .before .before .before .curve-finite .ensures) (c .before .before .before .before .before .before .if2 .left) (c .before .before .if3 .left)
+    ap (madeVectorCurve (s .self .order - 1)) (c .derivative .ensures ∙ less-uncut (vectorArray (derivative (vectorNumbers (s .self .entries)))) (s .self .order) (p .if1 .left))
+    ∙ less-worked vectorCurves refusedVectorCurve (λ x n. answeredVectorCurve n (derivative x)) (s .self) (p .if1 .left) (c .before .before .before .curve-finite .ensures) (c .before .before .before .before .before .before .if2 .left) (c .before .before .if3 .left)
 
 pub derivative-spec : {M : Type 1} → statement M
-derivative-spec = tie.close (tie.spec refused-requires returns refused-requires-2 returns-2 curve-finite-requires refused-requires-3 returns-3 sub-k shifted-requires returns-4)
+derivative-spec = tie.close (tie.spec refused-requires returns refused-requires-2 returns-2 curve-finite-requires refused-requires-3 returns-3 sub-k derivative-requires returns-4)

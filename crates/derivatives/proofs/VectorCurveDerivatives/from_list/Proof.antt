@@ -1,11 +1,10 @@
 -- `derivatives::VectorCurveDerivatives::from_list` meets its contract. Assumes nothing.
-use Rattle.derivatives.proofs.Tested.{list-far, list-length, list-infinite, list-is}
-use Rattle.derivatives.proofs.VectorAnswers.{same-array}
-use Rattle.derivatives.specs.Vector.{vectorNumbers}
+use Rattle.calculus.proofs.Cut.{uncut}
+use Rattle.derivatives.proofs.Tested.{list-above-20, list-length, list-infinite, list-is}
+use Rattle.vector_formulas.specs.Vector.{vectorNumbers, vectorArray}
 use Rattle.derivatives.specs.VectorAnswer.{refusedVectorCurve, madeVectorCurve, answeredVectorCurve}
 use mathlib.Core.Path.{ap, _∙_}
-use Prim.Native.Nat.{suc, _+_, _*_}
-use native.Mathlib.Nat.{zero-add}
+use Prim.Native.Nat.{suc, _*_}
 use native.Mathlib.Numerals.{add-one}
 use denote.Ref.{now}
 use borrow.Author.Needs.{needs}
@@ -17,7 +16,7 @@ refused-requires c κs = search needs
 
 returns : tie.Need-returns
 returns c = let s = c .before .before .before .args in
-    c .refused .ensures ∙ list-far refusedVectorCurve (s .order) (3 * suc (s .order)) (now (s .list)) (answeredVectorCurve (s .order) (vectorNumbers (now (s .list)))) (c .before .if1 .taken)
+    c .refused .ensures ∙ list-above-20 refusedVectorCurve (s .order) (3 * suc (s .order)) (now (s .list)) (answeredVectorCurve (s .order) (vectorNumbers (now (s .list)))) (c .before .if1 .taken)
 
 add-if2 : tie.Need-add-if2
 add-if2 c = search needs
@@ -42,14 +41,14 @@ returns-3 : tie.Need-returns-3
 returns-3 c = let q = c .before .before .before .before in let s = q .before .before .args in
     c .refused3 .ensures ∙ list-infinite refusedVectorCurve (s .order) (3 * suc (s .order)) (now (s .list)) (answeredVectorCurve (s .order) (vectorNumbers (now (s .list)))) (q .if1 .left) (ap (_*_ 3) (add-one (s .order))) (c .before .before .before .if2 .left) (c .before .before .finite-list .ensures) (c .before .if3 .taken)
 
-taken-requires : tie.Need-taken-requires
-taken-requires c κs = search needs
+read-requires : tie.Need-read-requires
+read-requires c κs = search needs
 
 returns-4 : tie.Need-returns-4
 returns-4 c = let q = c .before .before .before .before in let s = q .before .before .args in
     let x = vectorNumbers (now (s .list)) in
-    ap (madeVectorCurve (s .order)) (c .taken .ensures ∙ same-array (λ m. x (0 + m)) x (s .order) (λ k. ap x (zero-add k)))
+    ap (madeVectorCurve (s .order)) (c .read .ensures ∙ uncut (vectorArray x) (q .if1 .left))
     ∙ list-is refusedVectorCurve (s .order) (3 * suc (s .order)) (now (s .list)) (answeredVectorCurve (s .order) (vectorNumbers (now (s .list)))) (q .if1 .left) (ap (_*_ 3) (add-one (s .order))) (c .before .before .before .if2 .left) (c .before .before .finite-list .ensures) (c .before .if3 .left)
 
 pub from-list-spec : {M : Type 1} → statement M
-from-list-spec = tie.close (tie.spec refused-requires returns add-if2 mul-if2 refused-requires-2 returns-2 finite-list-requires refused-requires-3 returns-3 taken-requires returns-4)
+from-list-spec = tie.close (tie.spec refused-requires returns add-if2 mul-if2 refused-requires-2 returns-2 finite-list-requires refused-requires-3 returns-3 read-requires returns-4)

@@ -1,7 +1,7 @@
 -- `derivatives::VectorCurveDerivatives::into_list` meets its contract. Assumes nothing.
-use Rattle.derivatives.proofs.Tested.{pair, into-far, into-length, into-infinite, into-worked}
+use Rattle.derivatives.proofs.Tested.{pair, into-above-20, into-length, into-infinite, into-worked}
 use Rattle.calculus.specs.Array.{listed}
-use Rattle.derivatives.specs.Vector.{flat}
+use Rattle.vector_formulas.specs.Vector.{flat}
 use Rattle.derivatives.specs.VectorAnswer.{vectorCurves}
 use Prim.Native.Nat.{suc, _*_}
 use native.Mathlib.Numerals.{add-one}
@@ -13,7 +13,7 @@ use Rattle.derivatives.proofs.VectorCurveDerivatives.into_list.Tie as t
 
 returns : tie.Need-returns
 returns c = let s = c .before .before .args in
-    into-far vectorCurves (λ n. 3 * suc n) (λ x n. flat (listed x 0 (suc n))) (s .self) (now (s .out)) (c .if1 .taken)
+    into-above-20 vectorCurves (λ n. 3 * suc n) (λ x n. flat (listed x 0 (suc n))) (s .self) (now (s .out)) (c .if1 .taken)
 
 add-if2 : tie.Need-add-if2
 add-if2 c = search needs

@@ -1,13 +1,16 @@
 -- `derivatives::VectorSurfaceDerivatives::absolute_derivatives` meets its contract. Assumes nothing.
-use Rattle.derivatives.proofs.Tested.{one-far, one-infinite, one-worked}
-use Rattle.ieee.proofs.Tests.{first, second}
+use Rattle.ieee_vectors.specs.Vectors.{positiveZero}
+use Rattle.calculus.specs.Array.{surfaceArray}
+use Rattle.calculus.proofs.Cut.{uncut}
+use Rattle.derivatives.proofs.Tested.{one-above-20, one-infinite, one-worked}
+use Rattle.booleans.proofs.Tests.{first, second}
 use Rattle.derivatives.proofs.Answers.{surface-returned}
-use Rattle.derivatives.proofs.VectorSurfaceNorms.{first-entry}
-use Rattle.derivatives.specs.Real.{isZero}
+use Rattle.vector_surface_formulas.proofs.SurfaceNorms.{first-entry}
+use Rattle.formulas.specs.Real.{isZero}
 use Rattle.derivatives.specs.Answer.{refusedSurface, returnedSurface}
-use Rattle.derivatives.specs.Vector.{vectorSurfaceNumbers}
+use Rattle.vector_formulas.specs.Vector.{vectorSurfaceNumbers}
 use Rattle.derivatives.specs.VectorSurfaceAnswer.{vectorSurfaces}
-use Rattle.derivatives.specs.VectorSurfaceNorm.{vectorSurfaceNorm}
+use Rattle.vector_surface_formulas.specs.Formulas.{vectorSurfaceNorm}
 use mathlib.Core.Bool.{cond, _&&_}
 use lib.Dec.{ltb}
 use mathlib.Core.Path.{sym, ap, _∙_}
@@ -20,7 +23,7 @@ refused-surface-requires c κs = search needs
 
 returns : tie.Need-returns
 returns c = let s = c .before .before .args in
-    c .refused-surface .ensures ∙ one-far vectorSurfaces refusedSurface (λ x n. cond (ltb 0 n && isZero (vectorSurfaceNorm x 0 0)) (refusedSurface 7) (returnedSurface n (vectorSurfaceNorm x))) (s .self) (c .before .if1 .taken)
+    c .refused-surface .ensures ∙ one-above-20 vectorSurfaces refusedSurface (λ x n. cond (ltb 0 n && isZero (vectorSurfaceNorm x 0 0)) (refusedSurface 7) (returnedSurface n (vectorSurfaceNorm x))) (s .self) (c .before .if1 .taken)
 
 surface-finite-requires : tie.Need-surface-finite-requires
 surface-finite-requires c κs = search needs
@@ -32,8 +35,8 @@ returns-2 : tie.Need-returns-2
 returns-2 c = let q = c .before .before .before .before .before in let s = q .before .args in
     c .refused-surface2 .ensures ∙ one-infinite vectorSurfaces refusedSurface (λ x n. cond (ltb 0 n && isZero (vectorSurfaceNorm x 0 0)) (refusedSurface 7) (returnedSurface n (vectorSurfaceNorm x))) (s .self) (q .if1 .left) (c .before .before .surface-finite .ensures) (c .before .if2 .taken)
 
-norms-requires : tie.Need-norms-requires
-norms-requires c κs = search needs
+norm-requires : tie.Need-norm-requires
+norm-requires c κs = search needs
 
 array-read-first : tie.Need-array-read-first
 array-read-first c = search needs
@@ -46,7 +49,7 @@ refused-surface-requires-3 c κs = search needs
 
 returns-3 : tie.Need-returns-3
 returns-3 c = let q = c .before .before .before .before .before .before .before .before .before in let s = q .before .args in
-    c .refused-surface3 .ensures ∙ sym (first (refusedSurface 7) (returnedSurface (s .self .order) (vectorSurfaceNorm (vectorSurfaceNumbers (s .self .entries)))) (sym (c .before .before .norm-divides .ensures ∙ ap (λ d. ltb 0 (s .self .order) && isZero d) (first-entry (vectorSurfaceNorm (vectorSurfaceNumbers (s .self .entries))) (s .self .order) (q .if1 .left) (c .before .before .before .norms .ensures))) ∙ c .before .if3 .taken))
+    c .refused-surface3 .ensures ∙ sym (first (refusedSurface 7) (returnedSurface (s .self .order) (vectorSurfaceNorm (vectorSurfaceNumbers (s .self .entries)))) (sym (c .before .before .norm-divides .ensures ∙ ap (λ d. ltb 0 (s .self .order) && isZero d) (first-entry (vectorSurfaceNorm (vectorSurfaceNumbers (s .self .entries))) (s .self .order) (q .if1 .left) (c .before .before .before .norm .ensures ∙ uncut (surfaceArray positiveZero (vectorSurfaceNorm (vectorSurfaceNumbers (s .self .entries)))) (q .if1 .left)))) ∙ c .before .if3 .taken))
     ∙ one-worked vectorSurfaces refusedSurface (λ x n. cond (ltb 0 n && isZero (vectorSurfaceNorm x 0 0)) (refusedSurface 7) (returnedSurface n (vectorSurfaceNorm x))) (s .self) (q .if1 .left) (c .before .before .before .before .before .before .surface-finite .ensures) (c .before .before .before .before .before .if2 .left)
 
 returned-surface-requires : tie.Need-returned-surface-requires
@@ -54,9 +57,9 @@ returned-surface-requires c κs = search needs
 
 returns-4 : tie.Need-returns-4
 returns-4 c = let q = c .before .before .before .before .before .before .before .before .before in let s = q .before .args in
-    c .returned-surface .ensures ∙ surface-returned (s .self .order) (q .if1 .left) (vectorSurfaceNorm (vectorSurfaceNumbers (s .self .entries))) (c .before .before .before .norms .ensures)
-    ∙ sym (second (refusedSurface 7) (returnedSurface (s .self .order) (vectorSurfaceNorm (vectorSurfaceNumbers (s .self .entries)))) (sym (c .before .before .norm-divides .ensures ∙ ap (λ d. ltb 0 (s .self .order) && isZero d) (first-entry (vectorSurfaceNorm (vectorSurfaceNumbers (s .self .entries))) (s .self .order) (q .if1 .left) (c .before .before .before .norms .ensures))) ∙ c .before .if3 .left))
+    c .returned-surface .ensures ∙ surface-returned (s .self .order) (q .if1 .left) (vectorSurfaceNorm (vectorSurfaceNumbers (s .self .entries))) (c .before .before .before .norm .ensures)
+    ∙ sym (second (refusedSurface 7) (returnedSurface (s .self .order) (vectorSurfaceNorm (vectorSurfaceNumbers (s .self .entries)))) (sym (c .before .before .norm-divides .ensures ∙ ap (λ d. ltb 0 (s .self .order) && isZero d) (first-entry (vectorSurfaceNorm (vectorSurfaceNumbers (s .self .entries))) (s .self .order) (q .if1 .left) (c .before .before .before .norm .ensures ∙ uncut (surfaceArray positiveZero (vectorSurfaceNorm (vectorSurfaceNumbers (s .self .entries)))) (q .if1 .left)))) ∙ c .before .if3 .left))
     ∙ one-worked vectorSurfaces refusedSurface (λ x n. cond (ltb 0 n && isZero (vectorSurfaceNorm x 0 0)) (refusedSurface 7) (returnedSurface n (vectorSurfaceNorm x))) (s .self) (q .if1 .left) (c .before .before .before .before .before .before .surface-finite .ensures) (c .before .before .before .before .before .if2 .left)
 
 pub absolute-derivatives-spec : {M : Type 1} → statement M
-absolute-derivatives-spec = tie.close (tie.spec refused-surface-requires returns surface-finite-requires refused-surface-requires-2 returns-2 norms-requires array-read-first norm-divides-requires refused-surface-requires-3 returns-3 returned-surface-requires returns-4)
+absolute-derivatives-spec = tie.close (tie.spec refused-surface-requires returns surface-finite-requires refused-surface-requires-2 returns-2 norm-requires array-read-first norm-divides-requires refused-surface-requires-3 returns-3 returned-surface-requires returns-4)

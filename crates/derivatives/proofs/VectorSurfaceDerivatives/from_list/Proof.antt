@@ -1,10 +1,10 @@
 -- `derivatives::VectorSurfaceDerivatives::from_list` meets its contract. Assumes nothing.
-use Rattle.derivatives.proofs.Tested.{list-far, list-length, list-infinite, list-is}
-use Rattle.derivatives.proofs.Finite.{counted}
+use Rattle.derivatives.proofs.Tested.{list-above-20, list-length, list-infinite, list-is}
+use Rattle.formulas.proofs.Finite.{counted}
 use Rattle.calculus.specs.Graded.{triangle}
 use Rattle.calculus.specs.Order.{listPlace}
 use Rattle.calculus.proofs.Graded.{room-231}
-use Rattle.derivatives.specs.Vector.{vectorNumbers}
+use Rattle.vector_formulas.specs.Vector.{vectorNumbers}
 use Rattle.derivatives.specs.VectorSurfaceAnswer.{refusedVectorSurface, madeVectorSurface, answeredVectorSurface}
 use mathlib.Core.Path.{ap, _∙_}
 use Prim.Native.Nat.{suc, _*_}
@@ -19,7 +19,7 @@ refused-requires c κs = search needs
 
 returns : tie.Need-returns
 returns c = let s = c .before .before .before .args in
-    c .refused .ensures ∙ list-far refusedVectorSurface (s .order) (3 * triangle (suc (s .order))) (now (s .list)) (answeredVectorSurface (s .order) (λ i j. vectorNumbers (now (s .list)) (listPlace (s .order) i j))) (c .before .if1 .taken)
+    c .refused .ensures ∙ list-above-20 refusedVectorSurface (s .order) (3 * triangle (suc (s .order))) (now (s .list)) (answeredVectorSurface (s .order) (λ i j. vectorNumbers (now (s .list)) (listPlace (s .order) i j))) (c .before .if1 .taken)
 
 surface-count-requires : tie.Need-surface-count-requires
 surface-count-requires c κs = search needs

@@ -1,10 +1,10 @@
 -- `derivatives::VectorSurfaceDerivatives::into_list` meets its contract. Assumes nothing.
-use Rattle.derivatives.proofs.Tested.{pair, into-far, into-length, into-infinite, into-worked}
-use Rattle.derivatives.proofs.Finite.{counted}
+use Rattle.derivatives.proofs.Tested.{pair, into-above-20, into-length, into-infinite, into-worked}
+use Rattle.formulas.proofs.Finite.{counted}
 use Rattle.calculus.specs.Graded.{triangle}
 use Rattle.calculus.specs.Order.{surfaceEntries}
 use Rattle.calculus.proofs.Graded.{room-231}
-use Rattle.derivatives.specs.Vector.{flat}
+use Rattle.vector_formulas.specs.Vector.{flat}
 use Rattle.derivatives.specs.VectorSurfaceAnswer.{vectorSurfaces}
 use Prim.Native.Nat.{suc, _*_}
 use native.Mathlib.Omega.{arith}
@@ -16,7 +16,7 @@ use Rattle.derivatives.proofs.VectorSurfaceDerivatives.into_list.Tie as
 
 returns : tie.Need-returns
 returns c = let s = c .before .before .args in
-    into-far vectorSurfaces (λ n. 3 * triangle (suc n)) (λ x n. flat (surfaceEntries x n)) (s .self) (now (s .out)) (c .if1 .taken)
+    into-above-20 vectorSurfaces (λ n. 3 * triangle (suc n)) (λ x n. flat (surfaceEntries x n)) (s .self) (now (s .out)) (c .if1 .taken)
 
 surface-count-requires : tie.Need-surface-count-requires
 surface-count-requires c κs = search needs

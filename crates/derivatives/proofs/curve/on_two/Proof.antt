@@ -1,38 +1,39 @@
 -- `derivatives::curve::on_two` meets its contract. Assumes nothing.
-use Rattle.ieee.proofs.Tests.{first, second}
-use Rattle.derivatives.proofs.Tested.{near, two-far, two-infinite, two-worked}
+use Rattle.booleans.proofs.Tests.{first, second}
+use Rattle.derivatives.proofs.Tested.{near, two-above-20, two-infinite, two-worked}
 use Rattle.derivatives.proofs.Answers.{curve-returned}
-use Rattle.derivatives.proofs.Curves.{curveOf}
-use Rattle.derivatives.specs.Answer.{curveNumbers, refusedCurve, returnedCurve, curves}
-use Rattle.derivatives.specs.Formula.{byCurveEntries}
+use Rattle.formulas.specs.Operations.{curveBy}
+use Rattle.formulas.specs.Numbers.{curveNumbers}
+use Rattle.derivatives.specs.Answer.{refusedCurve, returnedCurve, curves}
+use Rattle.derivatives.specs.Inner.{byCurveEntries}
 use mathlib.Core.Path.{sym, _∙_}
 use borrow.Author.Needs.{needs}
 use Rattle.derivatives.proofs.curve.on_two.Statement.{statement}
 use Rattle.derivatives.proofs.curve.on_two.Tie as tie
 
-far-requires : tie.Need-far-requires
-far-requires c κs = search needs
+above-20-requires : tie.Need-above-20-requires
+above-20-requires c κs = search needs
 
 refused-curve-requires : tie.Need-refused-curve-requires
 refused-curve-requires c κs = search needs
 
 returns : tie.Need-returns
 returns c = let s = c .before .before .before .args in
-    c .refused-curve .ensures ∙ two-far curves curves refusedCurve (byCurveEntries (s .f)) (s .a) (s .b) (c .before .before .far .ensures) (c .before .if1 .taken)
+    c .refused-curve .ensures ∙ two-above-20 curves curves refusedCurve (byCurveEntries (s .f)) (s .a) (s .b) (c .before .before .above-20 .ensures) (c .before .if1 .taken)
 
 smaller-requires : tie.Need-smaller-requires
 smaller-requires c κs = search needs
 
 curves-finite-requires : tie.Need-curves-finite-requires
 curves-finite-requires c κs = let p = c .before .before .before .before in let s = p .before .before .before .args in
-    near (s .a .order) (s .b .order) (p .before .before .far .ensures) (p .before .if1 .left) (p .smaller .ensures)
+    near (s .a .order) (s .b .order) (p .before .before .above-20 .ensures) (p .before .if1 .left) (p .smaller .ensures)
 
 refused-curve-requires-2 : tie.Need-refused-curve-requires-2
 refused-curve-requires-2 c κs = search needs
 
 returns-2 : tie.Need-returns-2
 returns-2 c = let p = c .before .before .before .before .before .before .before in let s = p .before .before .before .args in
-    c .refused-curve2 .ensures ∙ two-infinite curves curves refusedCurve (byCurveEntries (s .f)) (s .a) (s .b) (p .before .before .far .ensures) (p .before .if1 .left) (p .smaller .ensures) (c .before .before .curves-finite .ensures) (c .before .if2 .taken)
+    c .refused-curve2 .ensures ∙ two-infinite curves curves refusedCurve (byCurveEntries (s .f)) (s .a) (s .b) (p .before .before .above-20 .ensures) (p .before .if1 .left) (p .smaller .ensures) (c .before .before .curves-finite .ensures) (c .before .if2 .taken)
 
 array-read-w : tie.Need-array-read-w
 array-read-w c = search needs
@@ -46,23 +47,22 @@ refused-curve-requires-3 c κs = search needs
 returns-3 : tie.Need-returns-3
 returns-3 c = let p = c .before .before .before .before .before .before .before .before .before in let s = p .before .before .before .args in
     c .refused-curve3 .ensures
-    ∙ sym (first (refusedCurve 7) (returnedCurve (p .smaller .result) (curveOf (s .f) (curveNumbers (s .a .entries)) (curveNumbers (s .b .entries)))) (sym (c .before .before .division-by-zero .ensures) ∙ c .before .if3 .taken))
-    ∙ two-worked curves curves refusedCurve (byCurveEntries (s .f)) (s .a) (s .b) (p .before .before .far .ensures) (p .before .if1 .left) (p .smaller .ensures) (c .before .before .before .before .curves-finite .ensures) (c .before .before .before .if2 .left)
+    ∙ sym (first (refusedCurve 7) (returnedCurve (p .smaller .result) (curveBy (s .f) (curveNumbers (s .a .entries)) (curveNumbers (s .b .entries)))) (sym (c .before .before .division-by-zero .ensures) ∙ c .before .if3 .taken))
+    ∙ two-worked curves curves refusedCurve (byCurveEntries (s .f)) (s .a) (s .b) (p .before .before .above-20 .ensures) (p .before .if1 .left) (p .smaller .ensures) (c .before .before .before .before .curves-finite .ensures) (c .before .before .before .if2 .left)
 
-entries-requires : tie.Need-entries-requires
-entries-requires c κs = let p = c .before .before .before .before .before .before .before .before .before .before in let s = p .before .before .before .args in
-    near (s .a .order) (s .b .order) (p .before .before .far .ensures) (p .before .if1 .left) (p .smaller .ensures)
+curve-requires : tie.Need-curve-requires
+curve-requires c κs = search needs
 
 returned-curve-requires : tie.Need-returned-curve-requires
 returned-curve-requires c κs = let p = c .before .before .before .before .before .before .before .before .before .before .before in let s = p .before .before .before .args in
-    near (s .a .order) (s .b .order) (p .before .before .far .ensures) (p .before .if1 .left) (p .smaller .ensures)
+    near (s .a .order) (s .b .order) (p .before .before .above-20 .ensures) (p .before .if1 .left) (p .smaller .ensures)
 
 returns-4 : tie.Need-returns-4
 returns-4 c = let p = c .before .before .before .before .before .before .before .before .before .before .before .before in let s = p .before .before .before .args in
     c .returned-curve .ensures
-    ∙ curve-returned (p .smaller .result) (near (s .a .order) (s .b .order) (p .before .before .far .ensures) (p .before .if1 .left) (p .smaller .ensures)) (curveOf (s .f) (curveNumbers (s .a .entries)) (curveNumbers (s .b .entries))) (c .before .entries .ensures)
-    ∙ sym (second (refusedCurve 7) (returnedCurve (p .smaller .result) (curveOf (s .f) (curveNumbers (s .a .entries)) (curveNumbers (s .b .entries)))) (sym (c .before .before .before .before .before .division-by-zero .ensures) ∙ c .before .before .before .before .if3 .left))
-    ∙ two-worked curves curves refusedCurve (byCurveEntries (s .f)) (s .a) (s .b) (p .before .before .far .ensures) (p .before .if1 .left) (p .smaller .ensures) (c .before .before .before .before .before .before .before .curves-finite .ensures) (c .before .before .before .before .before .before .if2 .left)
+    ∙ curve-returned (p .smaller .result) (near (s .a .order) (s .b .order) (p .before .before .above-20 .ensures) (p .before .if1 .left) (p .smaller .ensures)) (curveBy (s .f) (curveNumbers (s .a .entries)) (curveNumbers (s .b .entries))) (c .before .curve .ensures)
+    ∙ sym (second (refusedCurve 7) (returnedCurve (p .smaller .result) (curveBy (s .f) (curveNumbers (s .a .entries)) (curveNumbers (s .b .entries)))) (sym (c .before .before .before .before .before .division-by-zero .ensures) ∙ c .before .before .before .before .if3 .left))
+    ∙ two-worked curves curves refusedCurve (byCurveEntries (s .f)) (s .a) (s .b) (p .before .before .above-20 .ensures) (p .before .if1 .left) (p .smaller .ensures) (c .before .before .before .before .before .before .before .curves-finite .ensures) (c .before .before .before .before .before .before .if2 .left)
 
 pub on-two-spec : {M : Type 1} → statement M
-on-two-spec = tie.close (tie.spec far-requires refused-curve-requires returns smaller-requires curves-finite-requires refused-curve-requires-2 returns-2 array-read-w division-by-zero-requires refused-curve-requires-3 returns-3 entries-requires returned-curve-requires returns-4)
+on-two-spec = tie.close (tie.spec above-20-requires refused-curve-requires returns smaller-requires curves-finite-requires refused-curve-requires-2 returns-2 array-read-w division-by-zero-requires refused-curve-requires-3 returns-3 curve-requires returned-curve-requires returns-4)

@@ -1,10 +1,10 @@
 -- `derivatives::curve::read` meets its contract. The invariant: the first m entries stand in the array. Assumes nothing.
 use mathlib.Core.List.{List}
 use lib.Ieee.{Float}
-use Rattle.derivatives.proofs.Curves.{CurveFilled}
+use Rattle.formulas.proofs.Curves.{CurveFilled}
 use Rattle.derivatives.specs.Answer.{madeCurve}
-use Rattle.derivatives.specs.Answer.{curveNumbers}
-use Rattle.vectors.specs.Answers.{nought}
+use Rattle.formulas.specs.Numbers.{curveNumbers}
+use Rattle.ieee_vectors.specs.Vectors.{positiveZero}
 use Rattle.calculus.proofs.Filling.{curve-none, curve-more, curve-all}
 use lib.Ieee.{nan}
 use denote.Ref.{now}
@@ -22,7 +22,7 @@ abbrev μ-loop : tie.MeasureT-loop
 μ-loop list n r₀ m₀ r m = suc n - m
 
 loop-holds : tie.Need-loop-holds Inv-loop μ-loop
-loop-holds c = (curve-none 21 nan nought (λ k v. curveNumbers (now (c .args .list)) k ≡ v), omega arith)
+loop-holds c = (curve-none 21 nan positiveZero (λ k v. curveNumbers (now (c .args .list)) k ≡ v), omega arith)
 
 mul-r : tie.Need-mul-r Inv-loop μ-loop
 mul-r c = search needs
@@ -44,11 +44,11 @@ loop-less c = search needs
 
 loop-again : tie.Need-loop-again Inv-loop μ-loop
 loop-again c = let l = c .before .before in
-    (curve-more 21 nan nought (λ k v. curveNumbers (now (l .before .args .list)) k ≡ v) _ (l .loop .inv .0) (omega arith) refl, omega arith)
+    (curve-more 21 nan positiveZero (λ k v. curveNumbers (now (l .before .args .list)) k ≡ v) _ (l .loop .inv .0) (omega arith) refl, omega arith)
 
 returns : tie.Need-returns Inv-loop μ-loop
 returns c = let s = c .before .before .args in
-    ap (λ (l : List Float). madeCurve (s .n) l) (curve-all 21 nan nought (λ k v. curveNumbers (now (s .list)) k ≡ v) (curveNumbers (now (s .list))) (λ k v e. sym e) (suc (s .n)) (c .before .loop .inv .0) (omega arith))
+    ap (λ (l : List Float). madeCurve (s .n) l) (curve-all 21 nan positiveZero (λ k v. curveNumbers (now (s .list)) k ≡ v) (curveNumbers (now (s .list))) (λ k v e. sym e) (suc (s .n)) (c .before .loop .inv .0) (omega arith))
 
 pub read-spec : {M : Type 1} → statement M
 read-spec =

@@ -1,7 +1,7 @@
 -- `derivatives::curve::write` meets its contract. The invariant: the first m entries stand in the list. Assumes nothing.
 use native.Mathlib.Nat.{not-suc-le-zero}
 use Rattle.derivatives.proofs.Curves.{Written, written-more, written-all}
-use Rattle.derivatives.specs.Answer.{curveNumbers}
+use Rattle.formulas.specs.Numbers.{curveNumbers}
 use mathlib.Core.Path.{sym, _∙_}
 use Prim.Native.Nat.{suc, _-_, _≤_}
 use native.Mathlib.Omega.{arith}

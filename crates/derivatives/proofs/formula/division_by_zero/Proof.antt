@@ -1,5 +1,5 @@
 -- `derivatives::formula::division_by_zero` meets its contract. Assumes nothing.
-use Rattle.derivatives.specs.Formula.{divisionByZero}
+use Rattle.derivatives.specs.Inner.{divisionByZero}
 use mathlib.Core.Path.{sym, ap}
 use borrow.Author.Needs.{needs}
 use Rattle.derivatives.proofs.formula.division_by_zero.Statement.{statement}

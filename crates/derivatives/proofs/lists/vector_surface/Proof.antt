@@ -1,11 +1,9 @@
 -- `derivatives::lists::vector_surface` meets its contract. Assumes nothing.
-use Rattle.derivatives.proofs.Finite.{counted}
-use Rattle.derivatives.specs.declared.VectorSurfaceDerivatives.{VectorSurfaceDerivatives}
+use Rattle.derivatives.specs.VectorSurfaceAnswer.{madeVectorSurface}
+use Rattle.formulas.proofs.Finite.{counted}
 use Rattle.calculus.specs.Graded.{triangle}
 use Rattle.calculus.proofs.Graded.{room-231}
-use mathlib.Core.List.{List}
-use lib.Ieee.{Float}
-use Prim.Native.Nat.{ℕ, suc, _*_}
+use Prim.Native.Nat.{suc, _*_}
 use native.Mathlib.Omega.{arith}
 use borrow.Author.Tests.{lt-ltb, le-ltb, eq-eqb, ne-eqb}
 use denote.Ref.{now}
@@ -15,15 +13,12 @@ use borrow.Author.Needs.{needs}
 use Rattle.derivatives.proofs.lists.vector_surface.Statement.{statement}
 use Rattle.derivatives.proofs.lists.vector_surface.Tie as tie
 
-abbrev made : ℕ → List Float → VectorSurfaceDerivatives
-made n l = record { order = n; entries = l }
-
-zero-vector-surface-requires : tie.Need-zero-vector-surface-requires
-zero-vector-surface-requires c κs = search needs
+refused-requires : tie.Need-refused-requires
+refused-requires c κs = search needs
 
 returns : tie.Need-returns
 returns c = let s = c .before .before .before .args in
-    c .zero-vector-surface .ensures ∙ rw (lt-ltb 20 (s .order) (c .before .if1 .taken))
+    c .refused .ensures ∙ rw (lt-ltb 20 (s .order) (c .before .if1 .taken))
 
 surface-count-requires : tie.Need-surface-count-requires
 surface-count-requires c κs = search needs
@@ -32,12 +27,12 @@ mul-if2 : tie.Need-mul-if2
 mul-if2 c = let q = c .before in let n = q .before .before .args .order in
     omega (arith, counted n (q .if1 .left) (c .surface-count .ensures), room-231 n (q .if1 .left))
 
-zero-vector-surface-requires-2 : tie.Need-zero-vector-surface-requires-2
-zero-vector-surface-requires-2 c κs = search needs
+refused-requires-2 : tie.Need-refused-requires-2
+refused-requires-2 c κs = search needs
 
 returns-2 : tie.Need-returns-2
 returns-2 c = let s = c .before .before .before .before .before .args in
-    c .zero-vector-surface2 .ensures ∙ rw (le-ltb 20 (s .order) (c .before .before .before .if1 .left), ne-eqb (length (now (s .list))) (3 * triangle (suc (s .order))) (λ q. c .before .if2 .taken (q ∙ ap (_*_ 3) (sym (counted (s .order) (c .before .before .before .if1 .left) (c .before .before .surface-count .ensures))))))
+    c .refused2 .ensures ∙ rw (le-ltb 20 (s .order) (c .before .before .before .if1 .left), ne-eqb (length (now (s .list))) (3 * triangle (suc (s .order))) (λ q. c .before .if2 .taken (q ∙ ap (_*_ 3) (sym (counted (s .order) (c .before .before .before .if1 .left) (c .before .before .surface-count .ensures))))))
 
 read-requires : tie.Need-read-requires
 read-requires c κs = let q = c .before .before in
@@ -45,17 +40,17 @@ read-requires c κs = let q = c .before .before in
 
 returns-3 : tie.Need-returns-3
 returns-3 c = let s = c .before .before .before .before .before .args in
-    ap (made (s .order)) (c .read .ensures) ∙ rw (le-ltb 20 (s .order) (c .before .before .before .if1 .left), eq-eqb (length (now (s .list))) (3 * triangle (suc (s .order))) (c .before .if2 .left ∙ ap (_*_ 3) (counted (s .order) (c .before .before .before .if1 .left) (c .before .before .surface-count .ensures))))
+    ap (madeVectorSurface (s .order)) (c .read .ensures) ∙ rw (le-ltb 20 (s .order) (c .before .before .before .if1 .left), eq-eqb (length (now (s .list))) (3 * triangle (suc (s .order))) (c .before .if2 .left ∙ ap (_*_ 3) (counted (s .order) (c .before .before .before .if1 .left) (c .before .before .surface-count .ensures))))
 
 pub vector-surface-spec : {M : Type 1} → statement M
 vector-surface-spec =
     tie.close
     (tie.spec
-    zero-vector-surface-requires
+    refused-requires
     returns
     surface-count-requires
     mul-if2
-    zero-vector-surface-requires-2
+    refused-requires-2
     returns-2
     read-requires
     returns-3)

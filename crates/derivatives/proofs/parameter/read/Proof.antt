@@ -1,7 +1,7 @@
 -- `derivatives::parameter::read` meets its contract. The invariant: the first m entries stand in the array. Assumes nothing.
 use Rattle.derivatives.proofs.Parameters.{every}
-use Rattle.derivatives.proofs.Curves.{CurveFilled}
-use Rattle.vectors.specs.Answers.{nought}
+use Rattle.formulas.proofs.Curves.{CurveFilled}
+use Rattle.ieee_vectors.specs.Vectors.{positiveZero}
 use Rattle.calculus.proofs.Filling.{curve-none, curve-more, curve-all}
 use lib.Ieee.{nan}
 use denote.Ref.{now}
@@ -19,7 +19,7 @@ abbrev μ-loop : tie.MeasureT-loop
 μ-loop list n from r₀ m₀ r m = suc n - m
 
 loop-holds : tie.Need-loop-holds Inv-loop μ-loop
-loop-holds c = (curve-none 21 nan nought (λ k v. (every (now (c .args .list)) (c .args .from)) k ≡ v), omega arith)
+loop-holds c = (curve-none 21 nan positiveZero (λ k v. (every (now (c .args .list)) (c .args .from)) k ≡ v), omega arith)
 
 mul-k : tie.Need-mul-k Inv-loop μ-loop
 mul-k c = search needs
@@ -46,10 +46,10 @@ loop-less : tie.Need-loop-less Inv-loop μ-loop
 loop-less c = search needs
 
 loop-again : tie.Need-loop-again Inv-loop μ-loop
-loop-again c = (curve-more 21 nan nought (λ k v. (every (now (c .before .before .before .args .list)) (c .before .before .before .args .from)) k ≡ v) _ (c .before .before .loop .inv .0) (omega arith) refl, omega arith)
+loop-again c = (curve-more 21 nan positiveZero (λ k v. (every (now (c .before .before .before .args .list)) (c .before .before .before .args .from)) k ≡ v) _ (c .before .before .loop .inv .0) (omega arith) refl, omega arith)
 
 returns : tie.Need-returns Inv-loop μ-loop
-returns c = curve-all 21 nan nought (λ k v. (every (now (c .before .before .args .list)) (c .before .before .args .from)) k ≡ v) (every (now (c .before .before .args .list)) (c .before .before .args .from)) (λ k v e. sym e) (suc (c .before .before .args .n)) (c .before .loop .inv .0) (omega arith)
+returns c = curve-all 21 nan positiveZero (λ k v. (every (now (c .before .before .args .list)) (c .before .before .args .from)) k ≡ v) (every (now (c .before .before .args .list)) (c .before .before .args .from)) (λ k v e. sym e) (suc (c .before .before .args .n)) (c .before .loop .inv .0) (omega arith)
 
 pub read-spec : {M : Type 1} → statement M
 read-spec =

@@ -1,11 +1,10 @@
 -- `derivatives::parameter::write` meets its contract. The invariant: the first m pairs are written. Assumes nothing.
-use Rattle.derivatives.proofs.Parameters.{begin}
-use Rattle.derivatives.proofs.Parameters.{left, end, pairs-length, two-more}
+use Rattle.derivatives.proofs.Parameters.{begin, left, end, pairs-length, two-more}
 use Rattle.calculus.proofs.Writing.{Writing, writing-begins, writing-ends}
 use Rattle.derivatives.specs.Answer.{pairs}
+use Rattle.formulas.specs.Numbers.{curveNumbers}
 use lib.ListN.{length-set}
 use Prim.Native.Nat.{_*_}
-use Rattle.derivatives.specs.Answer.{curveNumbers}
 use denote.Ref.{now}
 use mathlib.Core.Path.{sym, _∙_}
 use Prim.Native.Nat.{suc, _-_, _≤_}

@@ -1,9 +1,9 @@
 -- `derivatives::surface::derivative` meets its contract. Assumes nothing.
-use Rattle.derivatives.proofs.Tested.{less-far, less-none, less-infinite, less-worked}
-use Rattle.derivatives.specs.Answer.{refusedSurface, answeredSurface, surfaces}
-use mathlib.Core.Path.{_∙_}
-use Prim.Native.Nat.{_+_}
-use native.Mathlib.Omega.{arith}
+use Rattle.calculus.specs.Surface.{derivativeBy}
+use Rattle.derivatives.proofs.Tested.{less-above-20, less-none, less-infinite, less-worked}
+use Rattle.derivatives.specs.Answer.{refusedSurface, answeredSurface, surfaces, madeSurface}
+use mathlib.Core.Path.{_∙_, ap}
+use Prim.Native.Nat.{_-_}
 use borrow.Author.Needs.{needs}
 use Rattle.derivatives.proofs.surface.derivative.Statement.{statement}
 use Rattle.derivatives.proofs.surface.derivative.Tie as tie
@@ -13,14 +13,14 @@ refused-surface-requires c κs = search needs
 
 returns : tie.Need-returns
 returns c = let s = c .before .before .args in
-    c .refused-surface .ensures ∙ less-far surfaces refusedSurface (λ x n. answeredSurface n (λ i j. x (i + s .p) (j + s .q))) (s .a) (c .before .if1 .taken)
+    c .refused-surface .ensures ∙ less-above-20 surfaces refusedSurface (λ x n. answeredSurface n (derivativeBy (s .by) x)) (s .a) (c .before .if1 .taken)
 
 refused-surface-requires-2 : tie.Need-refused-surface-requires-2
 refused-surface-requires-2 c κs = search needs
 
 returns-2 : tie.Need-returns-2
 returns-2 c = let s = c .before .before .before .args in
-    c .refused-surface2 .ensures ∙ less-none surfaces refusedSurface (λ x n. answeredSurface n (λ i j. x (i + s .p) (j + s .q))) (s .a) (c .before .before .if1 .left) (c .before .if2 .taken)
+    c .refused-surface2 .ensures ∙ less-none surfaces refusedSurface (λ x n. answeredSurface n (derivativeBy (s .by) x)) (s .a) (c .before .before .if1 .left) (c .before .if2 .taken)
 
 finite-surface-requires : tie.Need-finite-surface-requires
 finite-surface-requires c κs = search needs
@@ -30,17 +30,18 @@ refused-surface-requires-3 c κs = search needs
 
 returns-3 : tie.Need-returns-3
 returns-3 c = let p = c .before .before .before .before .before .before in let s = p .before .args in
-    c .refused-surface3 .ensures ∙ less-infinite surfaces refusedSurface (λ x n. answeredSurface n (λ i j. x (i + s .p) (j + s .q))) (s .a) (p .if1 .left) (c .before .before .finite-surface .ensures) (c .before .before .before .before .before .if2 .left) (c .before .if3 .taken)
+    c .refused-surface3 .ensures ∙ less-infinite surfaces refusedSurface (λ x n. answeredSurface n (derivativeBy (s .by) x)) (s .a) (p .if1 .left) (c .before .before .finite-surface .ensures) (c .before .before .before .before .before .if2 .left) (c .before .if3 .taken)
 
-sub-shifted : tie.Need-sub-shifted
-sub-shifted c = search needs
+sub-k : tie.Need-sub-k
+sub-k c = search needs
 
 shifted-requires : tie.Need-shifted-requires
-shifted-requires c κs = omega (arith, c .before .before .before .before .before .before .before .pre)
+shifted-requires c κs = search needs
 
 returns-4 : tie.Need-returns-4
 returns-4 c = let p = c .before .before .before .before .before .before .before in let s = p .before .args in
-    c .shifted .ensures ∙ less-worked surfaces refusedSurface (λ x n. answeredSurface n (λ i j. x (i + s .p) (j + s .q))) (s .a) (p .if1 .left) (c .before .before .before .finite-surface .ensures) (c .before .before .before .before .before .before .if2 .left) (c .before .before .if3 .left)
+    ap (madeSurface (s .a .order - 1)) (c .shifted .ensures)
+    ∙ less-worked surfaces refusedSurface (λ x n. answeredSurface n (derivativeBy (s .by) x)) (s .a) (p .if1 .left) (c .before .before .before .finite-surface .ensures) (c .before .before .before .before .before .before .if2 .left) (c .before .before .if3 .left)
 
 pub derivative-spec : {M : Type 1} → statement M
-derivative-spec = tie.close (tie.spec refused-surface-requires returns refused-surface-requires-2 returns-2 finite-surface-requires refused-surface-requires-3 returns-3 sub-shifted shifted-requires returns-4)
+derivative-spec = tie.close (tie.spec refused-surface-requires returns refused-surface-requires-2 returns-2 finite-surface-requires refused-surface-requires-3 returns-3 sub-k shifted-requires returns-4)

@@ -1,13 +1,12 @@
 -- `derivatives::surface::read` meets its contract. The invariant: the entries passed stand in the array. Assumes nothing.
 use Rattle.derivatives.specs.Answer.{madeSurface}
-use Rattle.calculus.proofs.Graded.{room-231}
+use Rattle.calculus.proofs.Graded.{room-231, index-231}
 use Rattle.calculus.proofs.Places.{row-turn, list-place}
 use Rattle.calculus.specs.Order.{rowStart, listPlace}
 use lib.ListN.{getD}
 use lib.Ieee.{nan}
 use Prim.Native.Nat.{_*_}
-use Rattle.derivatives.proofs.Surfaces.{SurfaceProgress, surface-begins, surface-goes-on, surface-turns, surface-ends}
-use Rattle.calculus.proofs.Graded.{index-231}
+use Rattle.formulas.proofs.Surfaces.{SurfaceProgress, surface-begins, surface-goes-on, surface-turns, surface-ends}
 use denote.Ref.{now}
 use mathlib.Core.Path.{_≡_, refl, sym, ap}
 use Prim.Native.Nat.{ℕ, suc, _+_, _-_, _≤_}

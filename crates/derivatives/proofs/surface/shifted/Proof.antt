@@ -1,96 +1,38 @@
--- `derivatives::surface::shifted` meets its contract. The invariant: the entries passed stand in the array. Assumes nothing.
-use Rattle.derivatives.specs.Answer.{madeSurface}
-use lib.ListN.{getD}
-use lib.Ieee.{nan}
-use Prim.Native.Nat.{_*_}
-use Rattle.derivatives.proofs.Surfaces.{SurfaceProgress, surface-begins, surface-goes-on, surface-turns, surface-ends}
-use Rattle.calculus.proofs.Graded.{index-231}
-use Rattle.derivatives.specs.Answer.{surfaceNumbers}
-use denote.Ref.{now}
-use mathlib.Core.Path.{sym, ap}
-use Prim.Native.Nat.{ℕ, suc, _+_, _-_, _≤_}
+-- `derivatives::surface::shifted` meets its contract. Assumes nothing.
+use mathlib.Core.Path.{sym, ap, _∙_}
 use native.Mathlib.Omega.{arith}
+use denote.Ref.{now}
+use Rattle.calculus.proofs.Cut.{uncut}
+use Rattle.calculus.specs.declared.By.{By}
+use Rattle.calculus.specs.Surface.{derivativeU, derivativeV, derivativeBy}
+use Rattle.calculus.specs.Array.{surfaceArray}
+use Rattle.ieee_vectors.specs.Vectors.{positiveZero}
+use Rattle.formulas.specs.Numbers.{surfaceNumbers}
 use borrow.Author.Needs.{needs}
 use Rattle.derivatives.proofs.surface.shifted.Statement.{statement}
 use Rattle.derivatives.proofs.surface.shifted.Tie as tie
 
-abbrev Inv-loop : tie.InvT-loop
-Inv-loop a n p q r₀ i₀ j₀ r i j = (l : n ≤ 20) × SurfaceProgress (λ x y. surfaceNumbers a (x + p) (y + q)) l i j r
+enum-told : tie.Need-enum-told
+enum-told c = search needs
 
-abbrev μ-loop : tie.MeasureT-loop
-μ-loop a n p q r₀ i₀ j₀ r i j = (suc n - i) * 22 + (suc n - j)
+derivative-u-requires : tie.Need-derivative-u-requires
+derivative-u-requires c κs = search needs
 
-loop-holds : tie.Need-loop-holds Inv-loop μ-loop
-loop-holds c = let b : c .args .n ≤ 20 = omega arith in (b, surface-begins (λ x y. surfaceNumbers (now (c .args .a)) (x + c .args .p) (y + c .args .q)) b)
+enum-told-2 : tie.Need-enum-told-2
+enum-told-2 c = search needs
 
-index-requires : tie.Need-index-requires Inv-loop μ-loop
-index-requires c κs = omega (arith, c .before .loop .inv .1 .inside .1 (c .loop-test .taken))
+derivative-v-requires : tie.Need-derivative-v-requires
+derivative-v-requires c κs = search needs
 
-add-index : tie.Need-add-index Inv-loop μ-loop
-add-index c = omega (arith, c .before .before .loop .inv .1 .inside .1 (c .before .loop-test .taken))
+returns : tie.Need-returns
+returns c = let s = c .before .before .before in
+    c .derivative-u .ensures ∙ uncut (surfaceArray positiveZero (derivativeU (surfaceNumbers (now (s .args .a))))) {k = 19} (omega (arith, s .pre))
+    ∙ sym (ap (λ (b : By). surfaceArray positiveZero (derivativeBy b (surfaceNumbers (now (s .args .a)))) (s .args .n)) (c .before .enum-told .given .1))
 
-add-index-2 : tie.Need-add-index-2 Inv-loop μ-loop
-add-index-2 c = omega (arith, c .before .before .loop .inv .1 .inside .1 (c .before .loop-test .taken))
-
-index-requires-2 : tie.Need-index-requires-2 Inv-loop μ-loop
-index-requires-2 c κs = omega (arith, c .before .before .loop .inv .1 .inside .1 (c .before .loop-test .taken))
-
-mul-r : tie.Need-mul-r Inv-loop μ-loop
-mul-r c = omega (arith, c .index2 .ensures, index-231 (c .before .before .before .loop .i + c .before .before .before .before .args .p) (c .before .before .before .loop .j + c .before .before .before .before .args .q) (omega (arith, c .before .before .before .loop .inv .1 .inside .1 (c .before .before .loop-test .taken))))
-
-element-copy-out-r : tie.Need-element-copy-out-r Inv-loop μ-loop
-element-copy-out-r c = omega (arith, c .index2 .ensures, index-231 (c .before .before .before .loop .i + c .before .before .before .before .args .p) (c .before .before .before .loop .j + c .before .before .before .before .args .q) (omega (arith, c .before .before .before .loop .inv .1 .inside .1 (c .before .before .loop-test .taken))))
-
-mul-r-2 : tie.Need-mul-r-2 Inv-loop μ-loop
-mul-r-2 c = omega (arith, c .before .before .index .ensures, index-231 (c .before .before .before .before .loop .i) (c .before .before .before .before .loop .j) (omega (arith, c .before .before .before .before .loop .inv .1 .inside .1 (c .before .before .before .loop-test .taken))))
-
-array-write-r : tie.Need-array-write-r Inv-loop μ-loop
-array-write-r c = omega (arith, c .before .before .index .ensures, index-231 (c .before .before .before .before .loop .i) (c .before .before .before .before .loop .j) (omega (arith, c .before .before .before .before .loop .inv .1 .inside .1 (c .before .before .before .loop-test .taken))))
-
-add-j : tie.Need-add-j Inv-loop μ-loop
-add-j c = omega (arith, c .before .before .before .before .loop .inv .1 .inside .1 (c .before .before .before .loop-test .taken))
-
-add-if1 : tie.Need-add-if1 Inv-loop μ-loop
-add-if1 c = omega (arith, c .before .before .before .before .loop .inv .1 .inside .1 (c .before .before .before .loop-test .taken))
-
-add-i : tie.Need-add-i Inv-loop μ-loop
-add-i c = search needs
-
-loop-less : tie.Need-loop-less Inv-loop μ-loop
-loop-less c = omega (arith, c .before .before .before .before .before .loop .inv .1 .inside .1 (c .before .before .before .before .loop-test .taken))
-
-loop-again : tie.Need-loop-again Inv-loop μ-loop
-loop-again c = (c .before .before .before .before .before .loop .inv .0, rw (c .before .before .before .index .ensures) (surface-turns (λ x y. surfaceNumbers (now (c .before .before .before .before .before .before .args .a)) (x + c .before .before .before .before .before .before .args .p) (y + c .before .before .before .before .before .before .args .q)) (c .before .before .before .before .before .loop .inv .0) (c .before .before .before .before .before .loop .inv .1) (c .before .before .before .before .loop-test .taken) (ap (λ (k : ℕ). getD (now (c .before .before .before .before .before .before .args .a)) k nan) (sym (c .before .before .index2 .ensures))) (c .if1 .taken)))
-
-loop-less-2 : tie.Need-loop-less-2 Inv-loop μ-loop
-loop-less-2 c = omega (arith, c .before .before .before .before .before .loop .inv .1 .inside .1 (c .before .before .before .before .loop-test .taken))
-
-loop-again-2 : tie.Need-loop-again-2 Inv-loop μ-loop
-loop-again-2 c = (c .before .before .before .before .before .loop .inv .0, rw (c .before .before .before .index .ensures) (surface-goes-on (λ x y. surfaceNumbers (now (c .before .before .before .before .before .before .args .a)) (x + c .before .before .before .before .before .before .args .p) (y + c .before .before .before .before .before .before .args .q)) (c .before .before .before .before .before .loop .inv .0) (c .before .before .before .before .before .loop .inv .1) (c .before .before .before .before .loop-test .taken) (ap (λ (k : ℕ). getD (now (c .before .before .before .before .before .before .args .a)) k nan) (sym (c .before .before .index2 .ensures))) (c .if1 .left)))
-
-returns : tie.Need-returns Inv-loop μ-loop
-returns c = ap (madeSurface (c .before .before .args .n)) (surface-ends (λ x y. surfaceNumbers (now (c .before .before .args .a)) (x + c .before .before .args .p) (y + c .before .before .args .q)) (c .before .loop .inv .0) (c .before .loop .inv .1) (c .loop-test .left))
+returns-2 : tie.Need-returns-2
+returns-2 c = let s = c .before .before .before in
+    c .derivative-v .ensures ∙ uncut (surfaceArray positiveZero (derivativeV (surfaceNumbers (now (s .args .a))))) {k = 19} (omega (arith, s .pre))
+    ∙ sym (ap (λ (b : By). surfaceArray positiveZero (derivativeBy b (surfaceNumbers (now (s .args .a)))) (s .args .n)) (c .before .enum-told2 .given .1))
 
 pub shifted-spec : {M : Type 1} → statement M
-shifted-spec =
-    tie.close
-    (tie.spec
-    Inv-loop
-    μ-loop
-    loop-holds
-    index-requires
-    add-index
-    add-index-2
-    index-requires-2
-    mul-r
-    element-copy-out-r
-    mul-r-2
-    array-write-r
-    add-j
-    add-if1
-    add-i
-    loop-less
-    loop-again
-    loop-less-2
-    loop-again-2
-    returns)
+shifted-spec = tie.close (tie.spec enum-told derivative-u-requires enum-told-2 derivative-v-requires returns returns-2)

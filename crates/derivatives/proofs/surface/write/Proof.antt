@@ -1,12 +1,11 @@
 -- `derivatives::surface::write` meets its contract. The invariant: the entries passed are written. Assumes nothing.
 use Rattle.calculus.proofs.Writing.{Writing, writing-begins, in-list, writing-goes-on, writing-turns, writing-ends, rows-length}
 use Rattle.calculus.proofs.Left.{Inside, surfaceLeft, surface-start, surface-next, surface-row, surface-end}
-use Rattle.calculus.proofs.Graded.{room-231}
+use Rattle.calculus.proofs.Graded.{room-231, index-231}
 use Rattle.calculus.specs.Order.{surfaceEntries}
 use lib.ListN.{length}
 use Prim.Native.Nat.{_*_}
-use Rattle.calculus.proofs.Graded.{index-231}
-use Rattle.derivatives.specs.Answer.{surfaceNumbers}
+use Rattle.formulas.specs.Numbers.{surfaceNumbers}
 use denote.Ref.{now}
 use mathlib.Core.Path.{_≡_, sym, ap, _∙_}
 use Prim.Native.Nat.{suc, _+_, _-_, _<_}

@@ -1,21 +1,17 @@
 -- `derivatives::vector_array::curve_finite` meets its contract. Assumes nothing.
-use Rattle.derivatives.specs.Vector.{vectorNumbers, allVectorsFinite}
-use native.Mathlib.Numerals.{add-one}
+use mathlib.Core.Path.{_∙_}
 use denote.Ref.{now}
-use mathlib.Core.Path.{ap, _∙_}
+use Rattle.calculus.proofs.Cut.{uncut}
+use Rattle.vector_formulas.specs.Vector.{vectorNumbers, finiteVectorCurve}
 use borrow.Author.Needs.{needs}
 use Rattle.derivatives.proofs.vector_array.curve_finite.Statement.{statement}
 use Rattle.derivatives.proofs.vector_array.curve_finite.Tie as tie
 
-add-all-finite : tie.Need-add-all-finite
-add-all-finite c = search needs
-
-all-finite-requires : tie.Need-all-finite-requires
-all-finite-requires c κs = search needs
+finite-vectors-requires : tie.Need-finite-vectors-requires
+finite-vectors-requires c κs = search needs
 
 returns : tie.Need-returns
-returns c = let s = c .before .before .args in
-    c .all-finite .ensures ∙ ap (allVectorsFinite (vectorNumbers (now (s .a)))) (add-one (s .n))
+returns c = c .finite-vectors .ensures ∙ uncut (finiteVectorCurve (vectorNumbers (now (c .before .args .a)))) (c .before .pre)
 
 pub curve-finite-spec : {M : Type 1} → statement M
-curve-finite-spec = tie.close (tie.spec add-all-finite all-finite-requires returns)
+curve-finite-spec = tie.close (tie.spec finite-vectors-requires returns)

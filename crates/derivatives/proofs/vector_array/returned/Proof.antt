@@ -1,7 +1,6 @@
 -- `derivatives::vector_array::returned` meets its contract. Assumes nothing.
-use Rattle.ieee.proofs.Tests.{first, second}
-use Rattle.derivatives.specs.VectorAnswer.{madeVectorCurve}
-use Rattle.derivatives.specs.VectorAnswer.{refusedVectorCurve}
+use Rattle.booleans.proofs.Tests.{first, second}
+use Rattle.derivatives.specs.VectorAnswer.{madeVectorCurve, refusedVectorCurve}
 use borrow.Author.Tests.{not-true, not-false}
 use mathlib.Core.Path.{sym, _∙_}
 use borrow.Author.Needs.{needs}

@@ -1,27 +1,17 @@
 -- `derivatives::vector_array::surface_finite` meets its contract. Assumes nothing.
-use Rattle.derivatives.proofs.Finite.{counted}
-use Rattle.derivatives.proofs.Vectors.{surface-finite}
-use Rattle.derivatives.specs.Vector.{vectorNumbers, allVectorsFinite}
-use Rattle.calculus.proofs.Graded.{room-231}
-use borrow.Author.Needs.{needs}
+use mathlib.Core.Path.{_∙_}
 use denote.Ref.{now}
-use mathlib.Core.Path.{ap, _∙_}
-use native.Mathlib.Omega.{arith}
+use Rattle.calculus.proofs.Cut.{uncut}
+use Rattle.vector_formulas.specs.Vector.{vectorSurfaceNumbers, finiteVectorSurface}
+use borrow.Author.Needs.{needs}
 use Rattle.derivatives.proofs.vector_array.surface_finite.Statement.{statement}
 use Rattle.derivatives.proofs.vector_array.surface_finite.Tie as tie
 
-surface-count-requires : tie.Need-surface-count-requires
-surface-count-requires c κs = search needs
-
-all-finite-requires : tie.Need-all-finite-requires
-all-finite-requires c κs = let n = c .before .before .args .n in
-    omega (arith, counted n (c .before .before .pre) (c .surface-count .ensures), room-231 n (c .before .before .pre))
+finite-surface-requires : tie.Need-finite-surface-requires
+finite-surface-requires c κs = search needs
 
 returns : tie.Need-returns
-returns c = let s = c .before .before .before .args in
-    c .all-finite .ensures
-    ∙ ap (allVectorsFinite (vectorNumbers (now (s .a)))) (counted (s .n) (c .before .before .before .pre) (c .before .surface-count .ensures))
-    ∙ surface-finite (now (s .a)) (s .n)
+returns c = c .finite-surface .ensures ∙ uncut (finiteVectorSurface (vectorSurfaceNumbers (now (c .before .args .a)))) (c .before .pre)
 
 pub surface-finite-spec : {M : Type 1} → statement M
-surface-finite-spec = tie.close (tie.spec surface-count-requires all-finite-requires returns)
+surface-finite-spec = tie.close (tie.spec finite-surface-requires returns)

@@ -1,5 +1,5 @@
 -- `derivatives::vector_curve::division_by_zero` meets its contract. Assumes nothing.
-use Rattle.derivatives.specs.VectorFormula.{vectorDivisionByZero}
+use Rattle.derivatives.specs.Inner.{vectorDivisionByZero}
 use mathlib.Core.Path.{sym, ap}
 use borrow.Author.Needs.{needs}
 use Rattle.derivatives.proofs.vector_curve.division_by_zero.Statement.{statement}

@@ -1,40 +1,42 @@
 -- `derivatives::vector_surface::on_weighted` meets its contract. Assumes nothing.
 use Rattle.calculus.specs.Graded.{index}
-use Rattle.ieee.proofs.Tests.{first, second}
-use Rattle.derivatives.proofs.Tested.{near, two-far, two-infinite, two-worked}
+use Rattle.booleans.proofs.Tests.{first, second}
+use Rattle.derivatives.proofs.Tested.{near, two-above-20, two-infinite, two-worked}
 use Rattle.derivatives.proofs.VectorSurfaceAnswers.{surface-returned}
-use Rattle.derivatives.proofs.VectorSurfaces.{surfaceOf}
-use Rattle.derivatives.specs.Answer.{surfaceNumbers, surfaces}
-use Rattle.derivatives.specs.Vector.{vectorSurfaceNumbers}
-use Rattle.derivatives.specs.VectorSurfaceAnswer.{vectorSurfaces, refusedVectorSurface, returnedVectorSurface, bySurfaceWeightedEntries}
+use Rattle.vector_surface_formulas.specs.Formulas.{vectorSurfaceBy}
+use Rattle.formulas.specs.Numbers.{surfaceNumbers}
+use Rattle.derivatives.specs.Answer.{surfaces}
+use Rattle.vector_formulas.specs.Vector.{vectorSurfaceNumbers}
+use Rattle.derivatives.specs.VectorSurfaceAnswer.{vectorSurfaces, refusedVectorSurface, returnedVectorSurface}
+use Rattle.derivatives.specs.Inner.{bySurfaceWeightedEntries}
 use mathlib.Core.Path.{sym, _∙_}
 use borrow.Author.Needs.{needs}
 use Rattle.derivatives.proofs.vector_surface.on_weighted.Statement.{statement}
 use Rattle.derivatives.proofs.vector_surface.on_weighted.Tie as tie
 
-far-requires : tie.Need-far-requires
-far-requires c κs = search needs
+above-20-requires : tie.Need-above-20-requires
+above-20-requires c κs = search needs
 
 refused-requires : tie.Need-refused-requires
 refused-requires c κs = search needs
 
 returns : tie.Need-returns
 returns c = let s = c .before .before .before .args in
-    c .refused .ensures ∙ two-far vectorSurfaces surfaces refusedVectorSurface (bySurfaceWeightedEntries (s .f)) (s .a) (s .b) (c .before .before .far .ensures) (c .before .if1 .taken)
+    c .refused .ensures ∙ two-above-20 vectorSurfaces surfaces refusedVectorSurface (bySurfaceWeightedEntries (s .f)) (s .a) (s .b) (c .before .before .above-20 .ensures) (c .before .if1 .taken)
 
 smaller-requires : tie.Need-smaller-requires
 smaller-requires c κs = search needs
 
 weighted-finite-requires : tie.Need-weighted-finite-requires
 weighted-finite-requires c κs = let p = c .before .before .before .before in let s = p .before .before .before .args in
-    near (s .a .order) (s .b .order) (p .before .before .far .ensures) (p .before .if1 .left) (p .smaller .ensures)
+    near (s .a .order) (s .b .order) (p .before .before .above-20 .ensures) (p .before .if1 .left) (p .smaller .ensures)
 
 refused-requires-2 : tie.Need-refused-requires-2
 refused-requires-2 c κs = search needs
 
 returns-2 : tie.Need-returns-2
 returns-2 c = let p = c .before .before .before .before .before .before .before in let s = p .before .before .before .args in
-    c .refused2 .ensures ∙ two-infinite vectorSurfaces surfaces refusedVectorSurface (bySurfaceWeightedEntries (s .f)) (s .a) (s .b) (p .before .before .far .ensures) (p .before .if1 .left) (p .smaller .ensures) (c .before .before .weighted-finite .ensures) (c .before .if2 .taken)
+    c .refused2 .ensures ∙ two-infinite vectorSurfaces surfaces refusedVectorSurface (bySurfaceWeightedEntries (s .f)) (s .a) (s .b) (p .before .before .above-20 .ensures) (p .before .if1 .left) (p .smaller .ensures) (c .before .before .weighted-finite .ensures) (c .before .if2 .taken)
 
 array-read-w : tie.Need-array-read-w
 array-read-w c = search needs
@@ -49,24 +51,23 @@ returns-3 : tie.Need-returns-3
 unfolding index
 returns-3 c = let p = c .before .before .before .before .before .before .before .before .before in let s = p .before .before .before .args in
     c .refused3 .ensures
-    ∙ sym (first (refusedVectorSurface 7) (returnedVectorSurface (p .smaller .result) (surfaceOf (s .f) (vectorSurfaceNumbers (s .a .entries)) (vectorSurfaceNumbers (s .a .entries)) (surfaceNumbers (s .b .entries)))) (sym (c .before .before .division-by-zero .ensures) ∙ c .before .if3 .taken))
-    ∙ two-worked vectorSurfaces surfaces refusedVectorSurface (bySurfaceWeightedEntries (s .f)) (s .a) (s .b) (p .before .before .far .ensures) (p .before .if1 .left) (p .smaller .ensures) (c .before .before .before .before .weighted-finite .ensures) (c .before .before .before .if2 .left)
+    ∙ sym (first (refusedVectorSurface 7) (returnedVectorSurface (p .smaller .result) (vectorSurfaceBy (s .f) (vectorSurfaceNumbers (s .a .entries)) (vectorSurfaceNumbers (s .a .entries)) (surfaceNumbers (s .b .entries)))) (sym (c .before .before .division-by-zero .ensures) ∙ c .before .if3 .taken))
+    ∙ two-worked vectorSurfaces surfaces refusedVectorSurface (bySurfaceWeightedEntries (s .f)) (s .a) (s .b) (p .before .before .above-20 .ensures) (p .before .if1 .left) (p .smaller .ensures) (c .before .before .before .before .weighted-finite .ensures) (c .before .before .before .if2 .left)
 
-entries-requires : tie.Need-entries-requires
-entries-requires c κs = let p = c .before .before .before .before .before .before .before .before .before .before .before in let s = p .before .before .before .args in
-    near (s .a .order) (s .b .order) (p .before .before .far .ensures) (p .before .if1 .left) (p .smaller .ensures)
+surface-requires : tie.Need-surface-requires
+surface-requires c κs = search needs
 
 returned-requires : tie.Need-returned-requires
 returned-requires c κs = let p = c .before .before .before .before .before .before .before .before .before .before .before .before in let s = p .before .before .before .args in
-    near (s .a .order) (s .b .order) (p .before .before .far .ensures) (p .before .if1 .left) (p .smaller .ensures)
+    near (s .a .order) (s .b .order) (p .before .before .above-20 .ensures) (p .before .if1 .left) (p .smaller .ensures)
 
 returns-4 : tie.Need-returns-4
 unfolding index
 returns-4 c = let p = c .before .before .before .before .before .before .before .before .before .before .before .before .before in let s = p .before .before .before .args in
     c .returned .ensures
-    ∙ surface-returned (p .smaller .result) (near (s .a .order) (s .b .order) (p .before .before .far .ensures) (p .before .if1 .left) (p .smaller .ensures)) (surfaceOf (s .f) (vectorSurfaceNumbers (s .a .entries)) (vectorSurfaceNumbers (s .a .entries)) (surfaceNumbers (s .b .entries))) (c .before .entries .ensures)
-    ∙ sym (second (refusedVectorSurface 7) (returnedVectorSurface (p .smaller .result) (surfaceOf (s .f) (vectorSurfaceNumbers (s .a .entries)) (vectorSurfaceNumbers (s .a .entries)) (surfaceNumbers (s .b .entries)))) (sym (c .before .before .before .before .before .before .division-by-zero .ensures) ∙ c .before .before .before .before .before .if3 .left))
-    ∙ two-worked vectorSurfaces surfaces refusedVectorSurface (bySurfaceWeightedEntries (s .f)) (s .a) (s .b) (p .before .before .far .ensures) (p .before .if1 .left) (p .smaller .ensures) (c .before .before .before .before .before .before .before .before .weighted-finite .ensures) (c .before .before .before .before .before .before .before .if2 .left)
+    ∙ surface-returned (p .smaller .result) (near (s .a .order) (s .b .order) (p .before .before .above-20 .ensures) (p .before .if1 .left) (p .smaller .ensures)) (vectorSurfaceBy (s .f) (vectorSurfaceNumbers (s .a .entries)) (vectorSurfaceNumbers (s .a .entries)) (surfaceNumbers (s .b .entries))) (c .before .surface .ensures)
+    ∙ sym (second (refusedVectorSurface 7) (returnedVectorSurface (p .smaller .result) (vectorSurfaceBy (s .f) (vectorSurfaceNumbers (s .a .entries)) (vectorSurfaceNumbers (s .a .entries)) (surfaceNumbers (s .b .entries)))) (sym (c .before .before .before .before .before .before .division-by-zero .ensures) ∙ c .before .before .before .before .before .if3 .left))
+    ∙ two-worked vectorSurfaces surfaces refusedVectorSurface (bySurfaceWeightedEntries (s .f)) (s .a) (s .b) (p .before .before .above-20 .ensures) (p .before .if1 .left) (p .smaller .ensures) (c .before .before .before .before .before .before .before .before .weighted-finite .ensures) (c .before .before .before .before .before .before .before .if2 .left)
 
 pub on-weighted-spec : {M : Type 1} → statement M
-on-weighted-spec = tie.close (tie.spec far-requires refused-requires returns smaller-requires weighted-finite-requires refused-requires-2 returns-2 array-read-w division-by-zero-requires refused-requires-3 returns-3 entries-requires returned-requires returns-4)
+on-weighted-spec = tie.close (tie.spec above-20-requires refused-requires returns smaller-requires weighted-finite-requires refused-requires-2 returns-2 array-read-w division-by-zero-requires refused-requires-3 returns-3 surface-requires returned-requires returns-4)

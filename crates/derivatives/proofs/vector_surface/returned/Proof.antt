@@ -1,7 +1,6 @@
 -- `derivatives::vector_surface::returned` meets its contract. Assumes nothing.
-use Rattle.ieee.proofs.Tests.{first, second}
-use Rattle.derivatives.specs.VectorSurfaceAnswer.{madeVectorSurface}
-use Rattle.derivatives.specs.VectorSurfaceAnswer.{refusedVectorSurface}
+use Rattle.booleans.proofs.Tests.{first, second}
+use Rattle.derivatives.specs.VectorSurfaceAnswer.{madeVectorSurface, refusedVectorSurface}
 use borrow.Author.Tests.{not-true, not-false}
 use mathlib.Core.Path.{sym, _∙_}
 use borrow.Author.Needs.{needs}

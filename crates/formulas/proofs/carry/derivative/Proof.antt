@@ -1,0 +1,44 @@
+-- `formulas::carry::derivative` meets its contract. The invariant: the total of the lens passed. Assumes nothing.
+use Rattle.formulas.proofs.Carries.{terms, through}
+use Rattle.calculus.specs.Carry.{throughLen}
+use Rattle.calculus.specs.InTurn.{alongList}
+use Rattle.partitions.specs.Parts.{lists}
+use native.Mathlib.Numerals.{add-one}
+use Rattle.formulas.specs.Real.{real}
+use denote.Ref.{now}
+use mathlib.Core.Path.{_≡_, refl, ap, ap₂, _∙_}
+use Prim.Native.Nat.{_-_, _≤_}
+use native.Mathlib.Omega.{arith}
+use borrow.Author.Needs.{needs}
+use Rattle.formulas.proofs.carry.derivative.Statement.{statement}
+use Rattle.formulas.proofs.carry.derivative.Tie as tie
+
+abbrev Inv-loop : tie.InvT-loop
+Inv-loop entries u v order total₀ len₀ total len = (total ≡ through entries u v order len) × (len ≤ order)
+
+abbrev μ-loop : tie.MeasureT-loop
+μ-loop entries u v order total₀ len₀ total len = order - len
+
+loop-holds : tie.Need-loop-holds Inv-loop μ-loop
+unfolding throughLen
+loop-holds c = (refl, omega arith)
+
+add-len : tie.Need-add-len Inv-loop μ-loop
+add-len c = search needs
+
+along-lists-requires : tie.Need-along-lists-requires Inv-loop μ-loop
+along-lists-requires c κs = (omega arith, omega arith, omega arith)
+
+loop-less : tie.Need-loop-less Inv-loop μ-loop
+loop-less c = search needs
+
+loop-again : tie.Need-loop-again Inv-loop μ-loop
+unfolding throughLen
+loop-again c = (rw add-one (c .along-lists .ensures ∙ ap₂ (λ x n. alongList (real .plus) x (terms (now (c .before .before .before .args .entries)) (now (c .before .before .before .args .u)) (now (c .before .before .before .args .v))) (lists (c .before .before .before .args .order) n)) (c .before .before .loop .inv .0) (add-one (c .before .before .loop .len))), omega arith)
+
+returns : tie.Need-returns Inv-loop μ-loop
+returns c = let e : c .before .loop .len ≡ c .before .before .args .order = omega arith in
+    c .before .loop .inv .0 ∙ ap (through (now (c .before .before .args .entries)) (now (c .before .before .args .u)) (now (c .before .before .args .v)) (c .before .before .args .order)) e
+
+pub derivative-spec : {M : Type 1} → statement M
+derivative-spec = tie.close (tie.spec Inv-loop μ-loop loop-holds add-len along-lists-requires loop-less loop-again returns)

@@ -1,0 +1,4 @@
+pub mod Real
+pub mod Numbers
+pub mod Operations
+pub mod Inner

@@ -1,0 +1,4 @@
+pub mod Vectors
+pub mod VectorCurves
+pub mod VectorCarries
+pub mod VectorSurfaces

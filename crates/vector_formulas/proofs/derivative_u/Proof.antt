@@ -1,0 +1,22 @@
+-- `vector_formulas::derivative_u` meets its contract. Assumes nothing.
+use mathlib.Core.Path.{ap₂, _∙_}
+use Prim.Native.Nat.{ℕ}
+use denote.Ref.{now}
+use Rattle.ieee_vectors.specs.declared.Vector3.{Vector3}
+use Rattle.vector_formulas.specs.Vector.{vectorSurfaceNumbers, vectorSurfaceArray}
+use Rattle.calculus.proofs.Shifts.{u-entries}
+use borrow.Author.Needs.{needs}
+use Rattle.vector_formulas.proofs.derivative_u.Statement.{statement}
+use Rattle.vector_formulas.proofs.derivative_u.Tie as tie
+
+smaller-requires : tie.Need-smaller-requires
+smaller-requires c κs = search needs
+
+shifted-requires : tie.Need-shifted-requires
+shifted-requires c κs = search needs
+
+returns : tie.Need-returns
+returns c = c .shifted .ensures ∙ ap₂ (λ (g : ℕ → ℕ → Vector3) (k : ℕ). vectorSurfaceArray g k) (u-entries (vectorSurfaceNumbers (now (c .before .before .args .a)))) (c .before .smaller .ensures)
+
+pub derivative-u-spec : {M : Type 1} → statement M
+derivative-u-spec = tie.close (tie.spec smaller-requires shifted-requires returns)

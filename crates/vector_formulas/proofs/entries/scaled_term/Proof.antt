@@ -1,0 +1,51 @@
+-- `vector_formulas::entries::scaled_term` meets its contract. Assumes nothing.
+use Rattle.formulas.specs.Real.{real}
+use Rattle.ieee_vectors.specs.Vectors.{multiple}
+use Rattle.formulas.specs.Numbers.{curveNumbers}
+use denote.Ref.{now}
+use Prim.Native.Nat.{_-_}
+use mathlib.Core.Path.{ap, ap₂, _∙_}
+use borrow.Author.Needs.{needs}
+use Rattle.vector_formulas.proofs.entries.scaled_term.Statement.{statement}
+use Rattle.vector_formulas.proofs.entries.scaled_term.Tie as tie
+
+binomial-requires : tie.Need-binomial-requires
+binomial-requires c κs = search needs
+
+float-requires : tie.Need-float-requires
+float-requires c κs = search needs
+
+vector-at-requires : tie.Need-vector-at-requires
+vector-at-requires c κs = search needs
+
+sub-y : tie.Need-sub-y
+sub-y c = search needs
+
+mul-y : tie.Need-mul-y
+mul-y c = search needs
+
+element-copy-out-y : tie.Need-element-copy-out-y
+element-copy-out-y c = search needs
+
+mul-requires : tie.Need-mul-requires
+mul-requires c κs = search needs
+
+mul-requires-2 : tie.Need-mul-requires-2
+mul-requires-2 c κs = search needs
+
+returns : tie.Need-returns
+returns c = c .mul2 .ensures ∙ ap₂ multiple (c .before .mul .ensures ∙ ap (λ v. multiple v (curveNumbers (now (c .before .before .before .before .before .before .before .args .b)) (c .before .before .before .before .before .before .before .args .m - c .before .before .before .before .before .before .before .args .i))) (c .before .before .before .vector-at .ensures)) (c .before .before .before .before .before .float .ensures ∙ ap (real .ofNat) (c .before .before .before .before .before .before .binomial .ensures))
+
+pub scaled-term-spec : {M : Type 1} → statement M
+scaled-term-spec =
+    tie.close
+    (tie.spec
+    binomial-requires
+    float-requires
+    vector-at-requires
+    sub-y
+    mul-y
+    element-copy-out-y
+    mul-requires
+    mul-requires-2
+    returns)

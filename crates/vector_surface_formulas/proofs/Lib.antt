@@ -1,0 +1,2 @@
+pub mod SurfaceEntries
+pub mod SurfaceNorms

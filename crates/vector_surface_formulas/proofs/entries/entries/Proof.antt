@@ -1,0 +1,72 @@
+-- `vector_surface_formulas::entries::entries` meets its contract. Assumes nothing.
+use Rattle.vector_formulas.proofs.VectorSurfaces.{SurfaceProgress, surface-begins, surface-long, surface-goes-on, surface-turns, surface-ends}
+use Rattle.vector_surface_formulas.proofs.SurfaceEntries.{surfaceOf, surface-formed}
+use Rattle.calculus.proofs.Graded.{index-231}
+use Rattle.vector_formulas.specs.Vector.{vectorSurfaceNumbers}
+use Rattle.formulas.specs.Numbers.{surfaceNumbers}
+use mathlib.Core.Path.{sym, _∙_}
+use Prim.Native.Nat.{suc, _+_, _-_, _*_, _≤_}
+use borrow.Author.Needs.{needs}
+use denote.Ref.{now}
+use native.Mathlib.Omega.{arith}
+use Rattle.vector_surface_formulas.proofs.entries.entries.Statement.{statement}
+use Rattle.vector_surface_formulas.proofs.entries.entries.Tie as tie
+
+abbrev Inv-loop : tie.InvT-loop
+Inv-loop f a b w n c r₀ i₀ j₀ r i j = (l : n ≤ 20) × SurfaceProgress (surfaceOf f (vectorSurfaceNumbers a) (vectorSurfaceNumbers b) (surfaceNumbers w)) l i j r
+
+abbrev μ-loop : tie.MeasureT-loop
+μ-loop f a b w n c r₀ i₀ j₀ r i j = (suc n - i) * 22 + (suc n - j)
+
+binomials-requires : tie.Need-binomials-requires Inv-loop μ-loop
+binomials-requires c κs = search needs
+
+loop-holds : tie.Need-loop-holds Inv-loop μ-loop
+loop-holds c = let s = c .before .args in
+    (c .before .pre, surface-begins (surfaceOf (s .f) (vectorSurfaceNumbers (now (s .a))) (vectorSurfaceNumbers (now (s .b))) (surfaceNumbers (now (s .w)))) (c .before .pre))
+
+entry-requires : tie.Need-entry-requires Inv-loop μ-loop
+entry-requires c κs = (omega (arith, c .before .before .before .loop .inv .1 .inside .1 (c .before .before .loop-test .taken)), c .before .before .before .before .binomials .ensures)
+
+index-requires : tie.Need-index-requires Inv-loop μ-loop
+index-requires c κs = omega (arith, c .before .before .before .before .loop .inv .1 .inside .1 (c .before .before .before .loop-test .taken))
+
+slice-aggregate-store : tie.Need-slice-aggregate-store Inv-loop μ-loop
+slice-aggregate-store c = let p = c .before .before .before .before .before .before .loop in let s = c .before .before .before .before .before .before .before .before .args in
+    surface-long (surfaceOf (s .f) (vectorSurfaceNumbers (now (s .a))) (vectorSurfaceNumbers (now (s .b))) (surfaceNumbers (now (s .w)))) (p .inv .0) (p .inv .1)
+
+store-requires : tie.Need-store-requires Inv-loop μ-loop
+store-requires c κs = let p = c .before .before .before .before .before .before .loop in let s = c .before .before .before .before .before .before .before .before .args in
+    omega (arith, surface-long (surfaceOf (s .f) (vectorSurfaceNumbers (now (s .a))) (vectorSurfaceNumbers (now (s .b))) (surfaceNumbers (now (s .w)))) (p .inv .0) (p .inv .1), c .before .index .ensures, index-231 (p .i) (p .j) (omega (arith, c .before .before .before .before .before .before .loop .inv .1 .inside .1 (c .before .before .before .before .before .loop-test .taken))))
+
+add-j : tie.Need-add-j Inv-loop μ-loop
+add-j c = omega (arith, c .before .before .before .before .before .before .before .before .loop .inv .1 .inside .1 (c .before .before .before .before .before .before .before .loop-test .taken))
+
+add-if1 : tie.Need-add-if1 Inv-loop μ-loop
+add-if1 c = omega (arith, c .before .before .before .before .before .before .before .before .loop .inv .1 .inside .1 (c .before .before .before .before .before .before .before .loop-test .taken))
+
+add-i : tie.Need-add-i Inv-loop μ-loop
+add-i c = search needs
+
+loop-less : tie.Need-loop-less Inv-loop μ-loop
+loop-less c = omega (arith, c .before .before .before .before .before .before .before .before .before .loop .inv .1 .inside .1 (c .before .before .before .before .before .before .before .before .loop-test .taken))
+
+loop-again : tie.Need-loop-again Inv-loop μ-loop
+loop-again c = let p = c .before .before .before .before .before .before .before .before .before .loop in let s = c .before .before .before .before .before .before .before .before .before .before .before .args in
+    let t = c .before .before .before .before .before .before .before .before .loop-test .taken in
+    (p .inv .0, surface-turns (surfaceOf (s .f) (vectorSurfaceNumbers (now (s .a))) (vectorSurfaceNumbers (now (s .b))) (surfaceNumbers (now (s .w)))) (p .inv .0) (p .inv .1) t (surface-formed (s .f) (vectorSurfaceNumbers (now (s .a))) (vectorSurfaceNumbers (now (s .b))) (surfaceNumbers (now (s .w))) (p .inv .0) (p .inv .1 .stored) (p .inv .1 .inside .1 t) ∙ sym (c .before .before .before .before .before .entry .ensures)) (c .before .before .before .before .index .ensures) (c .before .before .store .ensures) (c .if1 .taken))
+
+loop-less-2 : tie.Need-loop-less-2 Inv-loop μ-loop
+loop-less-2 c = omega (arith, c .before .before .before .before .before .before .before .before .before .loop .inv .1 .inside .1 (c .before .before .before .before .before .before .before .before .loop-test .taken))
+
+loop-again-2 : tie.Need-loop-again-2 Inv-loop μ-loop
+loop-again-2 c = let p = c .before .before .before .before .before .before .before .before .before .loop in let s = c .before .before .before .before .before .before .before .before .before .before .before .args in
+    let t = c .before .before .before .before .before .before .before .before .loop-test .taken in
+    (p .inv .0, surface-goes-on (surfaceOf (s .f) (vectorSurfaceNumbers (now (s .a))) (vectorSurfaceNumbers (now (s .b))) (surfaceNumbers (now (s .w)))) (p .inv .0) (p .inv .1) t (surface-formed (s .f) (vectorSurfaceNumbers (now (s .a))) (vectorSurfaceNumbers (now (s .b))) (surfaceNumbers (now (s .w))) (p .inv .0) (p .inv .1 .stored) (p .inv .1 .inside .1 t) ∙ sym (c .before .before .before .before .before .entry .ensures)) (c .before .before .before .before .index .ensures) (c .before .before .store .ensures) (c .if1 .left))
+
+returns : tie.Need-returns Inv-loop μ-loop
+returns c = let p = c .before .loop in let s = c .before .before .before .args in
+    surface-ends (surfaceOf (s .f) (vectorSurfaceNumbers (now (s .a))) (vectorSurfaceNumbers (now (s .b))) (surfaceNumbers (now (s .w)))) (p .inv .0) (p .inv .1) (c .loop-test .left)
+
+pub entries-spec : {M : Type 1} → statement M
+entries-spec = tie.close (tie.spec Inv-loop μ-loop binomials-requires loop-holds entry-requires index-requires slice-aggregate-store store-requires add-j add-if1 add-i loop-less loop-again loop-less-2 loop-again-2 returns)
