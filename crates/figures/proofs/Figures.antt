@@ -24,15 +24,15 @@ use Rattle.exact.specs.declared.CurveDerivatives.{CurveDerivatives}
 use Rattle.exact.specs.declared.SurfaceDerivatives.{SurfaceDerivatives}
 use Rattle.exact.specs.declared.ParameterCurve.{ParameterCurve}
 use Rattle.exact.specs.declared.CurveAnswer.{CurveAnswer}
-use Rattle.exact.specs.Kinds.{checked}
-use Rattle.exact.specs.Answer.{refusedCurve, unlessRefused, onCurves, onSurfaces}
+use Rattle.exact_formulas.specs.Kinds.{checked}
+use Rattle.exact.specs.Answer.{refusedCurve, onCurves, onSurfaces}
+use Rattle.exact_formulas.specs.Entries.{unlessRefused}
 use Rattle.exact.specs.Composite.{alongCurveAt, alongCurve}
 use Rattle.ieee.specs.SquareRoot.{squareRoot}
-use Rattle.vectors.specs.Vectors.{vector}
-use Rattle.vectors.specs.Matrices.{columns}
-use Rattle.vectors.proofs.Floats.{minusOne, one, three, four, five, seven}
-use Rattle.vectors.specs.Answers.{nought}
-use Rattle.derivatives.specs.Answer.{allPass}
+use Rattle.ieee_vectors.specs.Vectors.{vector, positiveZero}
+use Rattle.ieee_vectors.specs.Matrices.{columns}
+use Rattle.ieee_vectors.proofs.Floats.{minusOne, one, three, four, five, seven}
+use Rattle.formulas.specs.Numbers.{allPass}
 use Rattle.derivatives.specs.VectorAnswer.{vectorCurveAbsolute}
 use Rattle.rolling_ball_fillet.specs.Answers.{rotationAnswer}
 
@@ -131,13 +131,13 @@ carried-608 = refl
 -- ---- floats: `absolute_derivatives`, `from_axis_angle`
 
 -- the vectors (3,4,0), (5,5,0) have the norm jet (5, 7)
-pub norm-5-7 : vectorCurveAbsolute (record { order = 1; entries = three ∷ four ∷ nought ∷ five ∷ five ∷ nought ∷ replicate 57 nought })
-    ≡ record { refusal = 0; jet = record { order = 1; entries = five ∷ seven ∷ replicate 19 nought } }
+pub norm-5-7 : vectorCurveAbsolute (record { order = 1; entries = three ∷ four ∷ positiveZero ∷ five ∷ five ∷ positiveZero ∷ replicate 57 positiveZero })
+    ≡ record { refusal = 0; jet = record { order = 1; entries = five ∷ seven ∷ replicate 19 positiveZero } }
 unfolding squareRoot add sub mul div ofBits ofInt before inTurn choose allPass eq listed
 norm-5-7 = refl
 
 -- axis (0,0,1), s = 1, c = 0: columns (0,1,0), (−1,0,0), (0,0,1)
-pub quarter-turn : rotationAnswer 0 0 0 0 (vector nought nought one) one nought ≡ record { refusal = 0; matrix = columns (vector nought one nought) (vector minusOne nought nought) (vector nought nought one) }
+pub quarter-turn : rotationAnswer 0 0 0 0 (vector positiveZero positiveZero one) one positiveZero ≡ record { refusal = 0; matrix = columns (vector positiveZero one positiveZero) (vector minusOne positiveZero positiveZero) (vector positiveZero positiveZero one) }
 unfolding add sub mul neg ofBits
 quarter-turn = refl
 

@@ -12,17 +12,20 @@ use Rattle.calculus.specs.Rising.{before}
 use Rattle.calculus.specs.Choose.{choose}
 use Rattle.calculus.specs.Array.{listed}
 use Rattle.calculus.specs.Curve.{product, quotient}
-use Rattle.exact.specs.Kinds.{checked}
-use Rattle.exact.specs.Answer.{refusedCurve, refusedSurface, unlessRefused, onCurves}
+use Rattle.exact_formulas.specs.Kinds.{checked}
+use Rattle.exact.specs.Answer.{refusedCurve, refusedSurface, onCurves}
+use Rattle.exact_formulas.specs.Entries.{unlessRefused}
 use Rattle.exact.specs.Composite.{alongCurve}
 use Rattle.roads.specs.declared.Step.{Step}
-use Rattle.roads.specs.declared.Operation.the-variants.{Sum}
-use Rattle.roads.specs.Recipe.{namesEarlier, someAbove20}
+use Rattle.calculus.specs.declared.Operation.the-variants.{Sum}
+use Rattle.roads.specs.Recipe.{namesEarlier}
+use Rattle.calculus.specs.Orders.{someAbove20}
 use Rattle.roads.specs.Roads.{builtSurface}
-use Rattle.vectors.proofs.Floats.{huge}
+use Rattle.ieee_vectors.proofs.Floats.{huge}
 use Rattle.derivatives.specs.declared.CurveDerivatives.{CurveDerivatives}
-use Rattle.vectors.specs.Answers.{nought}
-use Rattle.derivatives.specs.Real.{real}
+use Rattle.ieee_vectors.specs.Vectors.{positiveZero}
+use Rattle.formulas.specs.Real.{real}
+use Rattle.formulas.specs.Numbers.{allPass}
 use Rattle.derivatives.specs.Answer as floats
 use Rattle.figures.proofs.Figures.{jet, given, curve}
 
@@ -63,10 +66,10 @@ with-remainder = refl
 
 -- 10: 1e308 times 1e308
 abbrev single : Float → CurveDerivatives
-single x = record { order = 0; entries = x ∷ replicate 20 nought }
+single x = record { order = 0; entries = x ∷ replicate 20 positiveZero }
 
 pub overflow : floats.onCurves (floats.byFormula (product real)) (single huge) (single huge) ≡ floats.refusedCurve 10
-unfolding choose inTurn add mul ofBits ofInt floats.allPass
+unfolding choose inTurn add mul ofBits ofInt allPass
 overflow = refl
 
 -- 11 is `pair-2-1` of rolling_ball_fillet/proofs/PartialFigures.antt

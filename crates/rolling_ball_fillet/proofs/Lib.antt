@@ -1,13 +1,7 @@
-pub mod Orders
 pub mod Examples
-pub mod Entries
-pub mod Parts
 pub mod Tests
 pub mod Tested
 pub mod CenterFigures
 pub mod Filled
-pub mod AxisAngle
 pub mod Parameters
-pub mod Decisions
 pub mod PartialFigures
-pub mod Untouched

@@ -1,21 +1,9 @@
--- Equal parameters make equal rotations and partials; and the parameter past the axis is the angle. Assumes nothing.
-use mathlib.Core.Path.{_≡_, refl}
-use Prim.Native.Nat.{ℕ, zero, suc}
+-- Equal parameters make equal partials. Assumes nothing.
+use mathlib.Core.Path.{_≡_}
 use lib.Ieee.{Float}
-use Rattle.vectors.specs.declared.Vector3.{Vector3}
-use Rattle.vectors.specs.Vectors.{times}
-use Rattle.rolling_ball_fillet.specs.Rotation.{rotation}
-use Rattle.rolling_ball_fillet.specs.Partials.{parameter, byV, byUV, byVV}
-
-pub last-parameter : (axis : Vector3) (angle : Float) (i : ℕ) → ¬ (i ≡ 0) → ¬ (i ≡ 1) → ¬ (i ≡ 2) → angle ≡ parameter axis angle i
-last-parameter axis angle zero f g h = absurd (f refl)
-last-parameter axis angle (suc zero) f g h = absurd (g refl)
-last-parameter axis angle (suc (suc zero)) f g h = absurd (h refl)
-last-parameter axis angle (suc (suc (suc i))) f g h = refl
-
-module _ (axis : Vector3) (s c : Float) {x x' y y' z z' n n' : ℕ} where
-  pub same-orders : x ≡ x' → y ≡ y' → z ≡ z' → n ≡ n' → rotation x y z n axis s c ≡ rotation x' y' z' n' axis s c
-  same-orders e f g h = λ i. rotation (e i) (f i) (g i) (h i) axis s c
+use Rattle.ieee_vectors.specs.declared.Vector3.{Vector3}
+use Rattle.ieee_vectors.specs.Vectors.{times}
+use Rattle.partials.specs.Partials.{byV, byUV, byVV}
 
 module _ (u s c : Float) {axis axis' a a' arm arm' darm darm' : Vector3} where
   pub same-v : {t t' : Float} {center center' : Vector3} → axis ≡ axis' → a ≡ a' → t ≡ t' → center ≡ center' → arm ≡ arm' → darm ≡ darm' →

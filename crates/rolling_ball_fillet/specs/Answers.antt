@@ -4,13 +4,14 @@ use mathlib.Core.Bool.{Bool, _&&_, cond}
 use lib.Dec.{leb}
 use lib.Ieee.{Float}
 use lib.Ieee.Scale.{finite}
-use Rattle.vectors.specs.Answers.{finiteVector, vectorFrom, refused3, returned3}
-use Rattle.vectors.specs.declared.Vector3.{Vector3}
+use Rattle.ieee_vectors.specs.Finite.{finiteVector}
+use Rattle.vectors.specs.Answers.{vectorFrom, refused3, returned3}
+use Rattle.ieee_vectors.specs.declared.Vector3.{Vector3}
 use Rattle.vectors.specs.declared.VectorAnswer.{VectorAnswer}
 use Rattle.vectors.specs.declared.VectorAnswer.the-variants.{Refused}
 use Rattle.vectors.specs.declared.Matrix3Answer.{Matrix3Answer}
-use Rattle.rolling_ball_fillet.specs.Rotation.{rotation}
-use Rattle.rolling_ball_fillet.specs.Circle.{derivative}
+use Rattle.rodrigues.specs.Rotation.{rotation}
+use Rattle.rodrigues.specs.Circle.{derivative as along}
 use Rattle.rolling_ball_fillet.specs.declared.ContactPoint.{ContactPoint}
 use Rattle.rolling_ball_fillet.specs.declared.ContactCircle.{ContactCircle}
 
@@ -30,6 +31,10 @@ finiteContact p = finiteVector (p .point) && finite (p .uv .x) && finite (p .uv 
 
 abbrev pub finiteCircle : ContactCircle → Bool
 finiteCircle o = finiteVector (o .center) && finiteVector (o .axis) && finite (o .angle) && finiteContact (o .«contact_point0») && finiteContact (o .«contact_point1»)
+
+-- along its arc, from contact point 0
+abbrev pub derivative : ContactCircle → ℕ → (s c : Float) → Vector3
+derivative o m s c = along (o .center) (o .axis) (o .angle) (o .«contact_point0» .point) m s c
 
 abbrev pub derivativeAnswer : ContactCircle → ℕ → (s c : Float) → VectorAnswer
 derivativeAnswer o m s c = cond (leb m 20) (vectorFrom (finiteCircle o && finite s && finite c) (derivative o m s c)) (Refused 1)

@@ -3,9 +3,10 @@ use Prim.Native.Nat.{ℕ, suc}
 use mathlib.Core.Bool.{Bool, _||_}
 use lib.Dec.{ltb}
 use Rattle.calculus.specs.Array.{curveArray}
-use Rattle.vectors.specs.Answers.{nought}
-use Rattle.derivatives.specs.Answer.{curveNumbers, finiteCurve, refusedCurve, refusedParameter, parameters}
-use Rattle.derivatives.specs.Vector.{vectorNumbers, vectorArray, finiteVectorCurve}
+use Rattle.ieee_vectors.specs.Vectors.{positiveZero}
+use Rattle.formulas.specs.Numbers.{curveNumbers, finiteCurve}
+use Rattle.derivatives.specs.Answer.{refusedCurve, refusedParameter, parameters}
+use Rattle.vector_formulas.specs.Vector.{vectorNumbers, vectorArray, finiteVectorCurve}
 use Rattle.derivatives.specs.VectorAnswer.{refusedVectorCurve}
 use Rattle.derivatives.specs.declared.CurveDerivatives.{CurveDerivatives}
 use Rattle.derivatives.specs.declared.ParameterCurve.{ParameterCurve}
@@ -30,7 +31,7 @@ abbrev pub cutVectors : VectorCurveDerivatives → ℕ → VectorCurveDerivative
 cutVectors a n = record { order = n; entries = vectorArray (vectorNumbers (a .entries)) n }
 
 abbrev pub cutParameter : ParameterCurve → ℕ → ParameterCurve
-cutParameter a n = record { order = n; u = curveArray nought (curveNumbers (a .u)) n; v = curveArray nought (curveNumbers (a .v)) n }
+cutParameter a n = record { order = n; u = curveArray positiveZero (curveNumbers (a .u)) n; v = curveArray positiveZero (curveNumbers (a .v)) n }
 
 -- the centre to the order n, and the contacts and their parameters one further
 abbrev pub cutDers : CenterContactDers → ℕ → CenterContactDers
@@ -43,8 +44,8 @@ cutDers d n = record {
 }
 
 -- ---- whether an order of the contacts or their parameters is above 20, or below n
-abbrev pub farContacts : CenterContactDers → Bool
-farContacts d = ltb 20 (d .«contact0_ders» .order) || ltb 20 (d .«contact1_ders» .order) || ltb 20 (d .«uv0_ders» .order) || ltb 20 (d .«uv1_ders» .order)
+abbrev pub contactsAbove20 : CenterContactDers → Bool
+contactsAbove20 d = ltb 20 (d .«contact0_ders» .order) || ltb 20 (d .«contact1_ders» .order) || ltb 20 (d .«uv0_ders» .order) || ltb 20 (d .«uv1_ders» .order)
 
 abbrev pub shortContacts : CenterContactDers → ℕ → Bool
 shortContacts d n = ltb (d .«contact0_ders» .order) n || ltb (d .«contact1_ders» .order) n || ltb (d .«uv0_ders» .order) n || ltb (d .«uv1_ders» .order) n

@@ -1,10 +1,6 @@
-pub mod Rotation
-pub mod Circle
 pub mod Answers
 pub mod Jets
-pub mod SurfaceInfo
 pub mod Center
-pub mod AxisAngle
 pub mod Partials
 pub mod PartialAnswer
 pub mod SubDer

@@ -5,30 +5,39 @@ use mathlib.Core.Bool.{Bool, cond, _&&_, _||_}
 use lib.Dec.{ltb, eqb}
 use lib.Ieee.{Float}
 use lib.Ieee.Scale.{finite}
-use Rattle.vectors.specs.declared.Vector3.{Vector3}
+use Rattle.ieee_vectors.specs.declared.Vector3.{Vector3}
 use Rattle.vectors.specs.declared.VectorAnswer.{VectorAnswer}
 use Rattle.vectors.specs.declared.VectorAnswer.the-variants.{Refused}
-use Rattle.vectors.specs.Answers.{nought, returnedVector}
-use Rattle.derivatives.specs.Answer.{curveNumbers}
+use Rattle.ieee_vectors.specs.Vectors.{positiveZero}
+use Rattle.vectors.specs.Answers.{returnedVector}
+use Rattle.formulas.specs.Numbers.{curveNumbers}
 use Rattle.derivatives.specs.Answer.{tested}
 use Rattle.derivatives.specs.declared.CurveDerivatives.{CurveDerivatives}
+use Rattle.partials.specs.AxisAngle.{axisAngle}
+use Rattle.partials.specs.declared.AxisAngle.{AxisAngle}
 use Rattle.rolling_ball_fillet.specs.Center.{finiteContacts}
-use Rattle.rolling_ball_fillet.specs.Jets.{noVectors, noNumbers, noDers, farContacts, shortContacts, finiteJet, finiteNumbers}
-use Rattle.rolling_ball_fillet.specs.AxisAngle.{arm0, arm1, lengths, divisionByZero, infoOf, cosine}
+use Rattle.rolling_ball_fillet.specs.Jets.{noVectors, noNumbers, noDers, cutDers, contactsAbove20, shortContacts, finiteJet, finiteNumbers}
 use Rattle.rolling_ball_fillet.specs.declared.CenterContactDers.{CenterContactDers}
 use Rattle.rolling_ball_fillet.specs.declared.VderInfo.{VderInfo}
 use Rattle.rolling_ball_fillet.specs.declared.VderInfoAnswer.{VderInfoAnswer}
 
 -- ---- axis and angle
 abbrev pub refusedInfo : ℕ → VderInfoAnswer
-refusedInfo c = record { refusal = c; info = record { «cc_ders» = noDers; «axis_ders» = noVectors; «angle_ders» = noNumbers }; cosine = nought }
+refusedInfo c = record { refusal = c; info = record { «cc_ders» = noDers; «axis_ders» = noVectors; «angle_ders» = noNumbers }; cosine = positiveZero }
 
-abbrev pub infoAnswer : CenterContactDers → (r : ℕ → Float) → Float → ℕ → VderInfoAnswer
-infoAnswer d r angle n = record { refusal = 0; info = infoOf d r angle n; cosine = cosine (arm0 d 0) (arm1 d 0) (r 0) }
+abbrev pub infoOf : CenterContactDers → ℕ → AxisAngle → VderInfo
+infoOf d n a = record {
+  «cc_ders» = cutDers d n;
+  «axis_ders» = record { order = n; entries = a .axis };
+  «angle_ders» = record { order = n; entries = a .angle };
+}
+
+abbrev pub infoAnswer : CenterContactDers → ℕ → AxisAngle → VderInfoAnswer
+infoAnswer d n a = cond (eqb (a .refusal) 0) (record { refusal = 0; info = infoOf d n a; cosine = a .cosine }) (refusedInfo (a .refusal))
 
 -- without tests of what is finite
 abbrev pub vderInfo : CenterContactDers → (r : ℕ → Float) → Float → ℕ → VderInfoAnswer
-vderInfo d r angle n = cond (divisionByZero (lengths (arm0 d) (arm1 d) 0) (r 0)) (refusedInfo 7) (infoAnswer d r angle n)
+vderInfo d r angle n = infoAnswer d n (axisAngle (d .«center_ders» .entries) (d .«contact0_ders» .entries) (d .«contact1_ders» .entries) r angle n)
 
 -- the entries up to the order n, those of the contacts and parameters up to n + 1
 abbrev pub finiteInfo : VderInfo → ℕ → Bool
@@ -40,7 +49,7 @@ returnedInfo a n = cond (eqb (a .refusal) 0) (cond (finiteInfo (a .info) n && fi
 
 -- the tests before the work: the contacts, their parameters and the radius have the order n + 1 or more, and are finite up to it
 abbrev pub beyond : CenterContactDers → CurveDerivatives → ℕ → Bool
-beyond d r n = ltb 19 n || farContacts d || ltb 20 (r .order)
+beyond d r n = ltb 19 n || contactsAbove20 d || ltb 20 (r .order)
 
 abbrev pub short : CenterContactDers → CurveDerivatives → ℕ → Bool
 short d r k = shortContacts d k || ltb (r .order) k
@@ -54,8 +63,8 @@ vderInfoAnswer d r angle =
     tested refusedInfo (beyond d r n) (short d r (suc n)) (finiteGiven d r angle n) (returnedInfo (vderInfo d (curveNumbers (r .entries)) angle n) n)
 
 -- ---- partials, worked at the order k
-abbrev pub farInfo : VderInfo → Bool
-farInfo i = ltb 20 (i .«cc_ders» .«center_ders» .order) || farContacts (i .«cc_ders») || ltb 20 (i .«axis_ders» .order) || ltb 20 (i .«angle_ders» .order)
+abbrev pub infoAbove20 : VderInfo → Bool
+infoAbove20 i = ltb 20 (i .«cc_ders» .«center_ders» .order) || contactsAbove20 (i .«cc_ders») || ltb 20 (i .«axis_ders» .order) || ltb 20 (i .«angle_ders» .order)
 
 abbrev pub shortInfo : VderInfo → ℕ → Bool
 shortInfo i k =
@@ -65,4 +74,4 @@ abbrev pub finiteInputs : VderInfo → ℕ → (u s c : Float) → Bool
 finiteInputs i k u s c = finiteInfo i k && finite u && finite s && finite c
 
 abbrev pub partialAnswer : (VderInfo → (u s c : Float) → Vector3) → ℕ → VderInfo → (u s c : Float) → VectorAnswer
-partialAnswer partial k i u s c = tested Refused (farInfo i) (shortInfo i k) (finiteInputs i k u s c) (returnedVector (partial i u s c))
+partialAnswer partial k i u s c = tested Refused (infoAbove20 i) (shortInfo i k) (finiteInputs i k u s c) (returnedVector (partial i u s c))

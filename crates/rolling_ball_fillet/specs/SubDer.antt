@@ -2,16 +2,17 @@
 -- 1, 2, 11, 5; then 6 and 7; 10 last. Assumes nothing.
 use Prim.Native.Nat.{ℕ, suc}
 use mathlib.Core.Bool.{Bool, cond, _&&_, _||_}
-use lib.Dec.{leb, eqb}
+use lib.Dec.{eqb}
 use lib.Ieee.{Float}
 use lib.Ieee.Scale.{finite}
-use Rattle.vectors.specs.declared.Vector3.{Vector3}
+use Rattle.ieee_vectors.specs.declared.Vector3.{Vector3}
 use Rattle.vectors.specs.declared.VectorAnswer.{VectorAnswer}
 use Rattle.vectors.specs.declared.VectorAnswer.the-variants.{Refused}
 use Rattle.vectors.specs.Answers.{returnedVector, vectorFrom}
-use Rattle.derivatives.specs.Answer.{far}
-use Rattle.rolling_ball_fillet.specs.Circle.{derivative}
-use Rattle.rolling_ball_fillet.specs.Center.{radii, centerContacts, farJets, short, finiteGiven, finiteWhole}
+use Rattle.derivatives.specs.Answer.{above20}
+use Rattle.partials.specs.Pairs.{decided, orderOf}
+use Rattle.rolling_ball_fillet.specs.Answers.{derivative}
+use Rattle.rolling_ball_fillet.specs.Center.{radii, centerContacts, jetsAbove20, short, finiteGiven, finiteWhole}
 use Rattle.rolling_ball_fillet.specs.Partials.{derivativeV, derivativeUV, derivativeVV}
 use Rattle.rolling_ball_fillet.specs.PartialAnswer.{vderInfo}
 use Rattle.rolling_ball_fillet.specs.declared.ContactCircle.{ContactCircle}
@@ -19,26 +20,12 @@ use Rattle.rolling_ball_fillet.specs.declared.RollingBallFilletSurface.{
 use Rattle.rolling_ball_fillet.specs.declared.CenterContactAnswer.{CenterContactAnswer}
 use Rattle.rolling_ball_fillet.specs.declared.VderInfo.{VderInfo}
 use Rattle.rolling_ball_fillet.specs.declared.VderInfoAnswer.{VderInfoAnswer}
-use Rattle.rolling_ball_fillet.specs.declared.sub_der.EdgePartial.{EdgePartial}
-use Rattle.rolling_ball_fillet.specs.declared.sub_der.EdgePartial.the-variants as along
-use Rattle.rolling_ball_fillet.specs.declared.sub_der.Decision.{Decision}
-use Rattle.rolling_ball_fillet.specs.declared.sub_der.Decision.the-variants.{Arc, Edge, Unserved}
+use Rattle.partials.specs.declared.EdgePartial.{EdgePartial}
+use Rattle.partials.specs.declared.EdgePartial.the-variants as along
+use Rattle.partials.specs.declared.Decision.{Decision}
+use Rattle.partials.specs.declared.Decision.the-variants.{Arc, Edge, Unserved}
 
--- ---- the pairs served: (m, 0) with m up to 20, (0, 1), (1, 1) and (0, 2)
-abbrev pub decided : (m n : ℕ) → Decision
-decided m n =
-    cond (leb m 20 && eqb n 0) Arc
-    (cond (eqb m 0 && eqb n 1) (Edge along.V)
-    (cond (eqb m 1 && eqb n 1) (Edge along.Uv)
-    (cond (eqb m 0 && eqb n 2) (Edge along.Vv)
-    Unserved)))
-
--- how often a partial is derived along the edge, and by which formula
-abbrev pub orderOf : EdgePartial → ℕ
-orderOf along.V = 1
-orderOf along.Uv = 1
-orderOf along.Vv = 2
-
+-- ---- by which formula a partial is worked out
 abbrev pub partialBy : EdgePartial → VderInfo → (u s c : Float) → Vector3
 partialBy along.V = derivativeV
 partialBy along.Uv = derivativeUV
@@ -71,8 +58,8 @@ byDecision (Edge p) m f cc angle u s c = byEdge p f cc angle u s c
 byDecision Unserved m f cc angle u s c = Refused 11
 
 -- an order of the pair or of a jet is above 20
-abbrev pub farPair : RollingBallFilletSurface → (m n : ℕ) → Bool
-farPair f m n = far m n || farJets f
+abbrev pub pairAbove20 : RollingBallFilletSurface → (m n : ℕ) → Bool
+pairAbove20 f m n = above20 m n || jetsAbove20 f
 
 abbrev pub subDerMn : RollingBallFilletSurface → (m n : ℕ) → Float → ContactCircle → (angle s c : Float) → VectorAnswer
-subDerMn f m n u cc angle s c = cond (farPair f m n) (Refused 1) (byDecision (decided m n) m f cc angle u s c)
+subDerMn f m n u cc angle s c = cond (pairAbove20 f m n) (Refused 1) (byDecision (decided m n) m f cc angle u s c)

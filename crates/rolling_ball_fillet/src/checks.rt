@@ -4,8 +4,8 @@ ghost use mathlib.Core.Bool.{_&&_};
 ghost use lib.Dec.{leb};
 ghost use lib.Ieee.Scale.{finite};
 ghost use Rattle.rolling_ball_fillet.specs.Answers.{servedOrders, finiteTurn};
-use ieee::both;
-use vectors::Vector3;
+use booleans::both;
+use ieee_vectors::Vector3;
 
 pub fn order_served(n: usize) -> bool
     ensures { λ r. ⌜ r ≡ leb n 20 ⌝ }

@@ -2,30 +2,30 @@
 ghost use mathlib.Core.Path.{_≡_};
 ghost use mathlib.Core.Bool.{false};
 ghost use Prim.Native.Nat.{_≤_, _<_};
-ghost use Rattle.derivatives.specs.Answer.{far as farOf};
-ghost use Rattle.rolling_ball_fillet.specs.Center.{farJets, beyond as beyondOf, short as shortOf, finiteUpTo, finiteGiven, finiteWhole, finiteContacts, returnedContacts};
+ghost use Rattle.derivatives.specs.Answer.{above20 as above20Of};
+ghost use Rattle.rolling_ball_fillet.specs.Center.{jetsAbove20, beyond as beyondOf, short as shortOf, finiteUpTo, finiteGiven, finiteWhole, finiteContacts, returnedContacts};
 use crate::CenterContactAnswer;
 use crate::CenterContactDers;
 use crate::ContactCircle;
 use crate::RollingBallFilletSurface;
-use crate::contacts;
+use crate::centers;
 use crate::jets;
-use ieee::both;
-use ieee::either;
+use booleans::both;
+use booleans::either;
 
 // Whether one of two orders is above 20.
-pub fn far(m: usize, n: usize) -> bool
-    ensures { λ r. ⌜ r ≡ farOf m n ⌝ }
+pub fn above_20(m: usize, n: usize) -> bool
+    ensures { λ r. ⌜ r ≡ above20Of m n ⌝ }
 {
     either(20 < m, 20 < n)
 }
 
 // Whether one of the four jets' orders is.
-pub fn far_jets(f: RollingBallFilletSurface) -> bool
-    ensures { λ r. ⌜ r ≡ farJets f ⌝ }
+pub fn above_20_jets(f: RollingBallFilletSurface) -> bool
+    ensures { λ r. ⌜ r ≡ jetsAbove20 f ⌝ }
 {
-    let curves = far(f.edge_curve.order, f.radius.order);
-    let surfaces = far(f.surface0.order, f.surface1.order);
+    let curves = above_20(f.edge_curve.order, f.radius.order);
+    let surfaces = above_20(f.surface0.order, f.surface1.order);
     either(curves, surfaces)
 }
 
@@ -33,7 +33,7 @@ pub fn far_jets(f: RollingBallFilletSurface) -> bool
 pub fn beyond(f: RollingBallFilletSurface, n: usize) -> bool
     ensures { λ r. ⌜ r ≡ beyondOf f n ⌝ }
 {
-    either(19 < n, far_jets(f))
+    either(19 < n, above_20_jets(f))
 }
 
 // Whether a jet's order is below n.
@@ -81,7 +81,7 @@ pub fn finite_given(f: RollingBallFilletSurface, cc: ContactCircle, n: usize) ->
 }
 
 pub fn finite_whole(f: RollingBallFilletSurface, cc: ContactCircle) -> bool
-    requires { ⌜ farJets f ≡ false ⌝ }
+    requires { ⌜ jetsAbove20 f ≡ false ⌝ }
     ensures { λ r. ⌜ r ≡ finiteWhole f cc ⌝ }
 {
     let e = f.edge_curve;
@@ -117,5 +117,5 @@ pub fn returned(a: CenterContactAnswer, n: usize) -> CenterContactAnswer
     if finite_contacts(a.ders, n) {
         return a;
     }
-    contacts::refused(10)
+    centers::refused(10)
 }

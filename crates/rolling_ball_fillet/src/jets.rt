@@ -2,29 +2,25 @@
 ghost use mathlib.Core.Path.{_≡_};
 ghost use Prim.Native.Nat.{_≤_, _<_};
 ghost use Rattle.calculus.specs.Array.{curveArray};
-ghost use Rattle.vectors.specs.Answers.{nought};
-ghost use Rattle.derivatives.specs.Answer.{curveNumbers};
-ghost use Rattle.derivatives.specs.Vector.{vectorNumbers, vectorSurfaceNumbers, finiteVectorSurface};
-ghost use Rattle.rolling_ball_fillet.specs.Jets.{noVectors, noParameter, noDers, cutVectors, cutParameter, cutDers};
-ghost use Rattle.rolling_ball_fillet.specs.Jets.{farContacts, shortContacts, finiteJet, finiteNumbers, finiteParameter};
+ghost use Rattle.ieee_vectors.specs.Vectors.{positiveZero};
+ghost use Rattle.formulas.specs.Numbers.{curveNumbers};
+ghost use Rattle.vector_formulas.specs.Vector.{vectorNumbers, vectorSurfaceNumbers, finiteVectorSurface};
+ghost use Rattle.rolling_ball_fillet.specs.Jets.{noVectors, noParameter, noDers, cutVectors, cutParameter, cutDers, contactsAbove20, shortContacts, finiteJet, finiteNumbers, finiteParameter};
 use crate::CenterContactDers;
-use crate::arrays;
+use booleans::both;
+use booleans::either;
 use derivatives::CurveDerivatives;
 use derivatives::ParameterCurve;
 use derivatives::VectorCurveDerivatives;
 use derivatives::VectorSurfaceDerivatives;
-use derivatives::raw;
-use ieee::both;
-use ieee::either;
-use vectors::Vector3;
+use ieee_vectors::Vector3;
 
 // The entry of the order k.
 pub fn vector_of(a: VectorCurveDerivatives, k: usize) -> Vector3
-    requires { ⌜ k ≤ 20 ⌝ }
     ensures { λ r. ⌜ r ≡ vectorNumbers (a .entries) k ⌝ }
 {
     let x = a.entries;
-    arrays::vector_at(&x, k)
+    vector_formulas::vector_at(&x, k)
 }
 
 pub fn number_of(a: CurveDerivatives, k: usize) -> f64
@@ -75,7 +71,7 @@ pub fn no_ders() -> CenterContactDers
 // The entries up to the order n, and zeros past them.
 fn cut_numbers(a: &[f64; 21], n: usize) -> [f64; 21]
     requires { ⌜ n ≤ 20 ⌝ }
-    ensures { λ r. ⌜ r ≡ curveArray nought (curveNumbers (now (a .entry))) n ⌝ }
+    ensures { λ r. ⌜ r ≡ curveArray positiveZero (curveNumbers (now (a .entry))) n ⌝ }
 {
     let mut r = [0.0f64; 21];
     let mut m = 0;
@@ -91,7 +87,7 @@ pub fn cut_vectors(a: VectorCurveDerivatives, n: usize) -> VectorCurveDerivative
     ensures { λ r. ⌜ r ≡ cutVectors a n ⌝ }
 {
     let x = a.entries;
-    let y = raw::cut(&x, n);
+    let y = vector_formulas::cut(&x, n);
     VectorCurveDerivatives {
         order: n,
         entries: y,
@@ -134,8 +130,8 @@ pub fn cut_ders(d: CenterContactDers, n: usize) -> CenterContactDers
 }
 
 // Whether an order of the contacts or their parameters is above 20, or below n.
-pub fn far_contacts(d: CenterContactDers) -> bool
-    ensures { λ r. ⌜ r ≡ farContacts d ⌝ }
+pub fn above_20_contacts(d: CenterContactDers) -> bool
+    ensures { λ r. ⌜ r ≡ contactsAbove20 d ⌝ }
 {
     let a = d.contact0_ders;
     let b = d.contact1_ders;
@@ -164,7 +160,7 @@ pub fn finite_jet(a: VectorCurveDerivatives, n: usize) -> bool
     ensures { λ r. ⌜ r ≡ finiteJet a n ⌝ }
 {
     let x = a.entries;
-    raw::finite_vectors(&x, n)
+    vector_formulas::finite_vectors(&x, n)
 }
 
 pub fn finite_numbers(a: CurveDerivatives, n: usize) -> bool
@@ -172,7 +168,7 @@ pub fn finite_numbers(a: CurveDerivatives, n: usize) -> bool
     ensures { λ r. ⌜ r ≡ finiteNumbers a n ⌝ }
 {
     let x = a.entries;
-    raw::finite_numbers(&x, n)
+    formulas::finite_curve(&x, n)
 }
 
 pub fn finite_parameter(a: ParameterCurve, n: usize) -> bool
@@ -181,7 +177,7 @@ pub fn finite_parameter(a: ParameterCurve, n: usize) -> bool
 {
     let u = a.u;
     let v = a.v;
-    both(raw::finite_numbers(&u, n), raw::finite_numbers(&v, n))
+    both(formulas::finite_curve(&u, n), formulas::finite_curve(&v, n))
 }
 
 pub fn finite_surface(a: VectorSurfaceDerivatives, n: usize) -> bool
@@ -189,5 +185,5 @@ pub fn finite_surface(a: VectorSurfaceDerivatives, n: usize) -> bool
     ensures { λ r. ⌜ r ≡ finiteVectorSurface (vectorSurfaceNumbers (a .entries)) n ⌝ }
 {
     let x = a.entries;
-    raw::finite_surface(&x, n)
+    vector_formulas::finite_surface(&x, n)
 }

@@ -7,36 +7,26 @@ ghost use Rattle.rolling_ball_fillet.specs.Center.{centerContactAnswer};
 ghost use Rattle.rolling_ball_fillet.specs.Partials.{derivativeV, derivativeUV, derivativeVV};
 ghost use Rattle.rolling_ball_fillet.specs.PartialAnswer.{vderInfoAnswer, partialAnswer};
 ghost use Rattle.rolling_ball_fillet.specs.SubDer.{subDerMn};
-use crate::sub_der::EdgePartial;
+use booleans::both;
 use derivatives::CurveDerivatives;
 use derivatives::ParameterCurve;
 use derivatives::VectorCurveDerivatives;
 use derivatives::VectorSurfaceDerivatives;
-use ieee::both;
+use ieee_vectors::Vector2;
+use ieee_vectors::Vector3;
+use partials::EdgePartial;
+pub use rodrigues::Pair;
 use vectors::Matrix3Answer;
-use vectors::Vector2;
-use vectors::Vector3;
 use vectors::VectorAnswer;
-use vectors::answers;
 
-mod arrays;
 mod axis_angle;
+mod centers;
 mod checks;
-mod circle;
-mod contacts;
+mod edge_partials;
 mod given;
 mod info;
 mod jets;
-mod partials;
-mod rotation;
 mod sub_der;
-mod surface_info;
-
-// The sine and the cosine of an angle.
-pub struct Pair {
-    pub s: f64,
-    pub c: f64,
-}
 
 // Where the ball touches a surface, and the surface's parameters there.
 pub struct ContactPoint {
@@ -105,11 +95,11 @@ pub fn rot_der_n(
 {
     if checks::served(x, y, z, n) {
         if checks::finite_turn(axis, s, c) {
-            return answers::returned3(rotation::rotation(x, y, z, n, axis, s, c));
+            return vectors::returned3(rodrigues::rotation(x, y, z, n, axis, s, c));
         }
-        return answers::refused3(5);
+        return vectors::refused3(5);
     }
-    answers::refused3(1)
+    vectors::refused3(1)
 }
 
 pub fn from_axis_angle(axis: Vector3, s: f64, c: f64) -> Matrix3Answer
@@ -148,7 +138,7 @@ impl ContactCircle {
     {
         if checks::order_served(m) {
             let inputs = checks::finite_with(self.is_finite(), s, c);
-            return answers::vector_from(inputs, circle::derivative(self, m, s, c));
+            return vectors::vector_from(inputs, sub_der::along_arc(self, m, s, c));
         }
         VectorAnswer::Refused(1)
     }
@@ -204,17 +194,17 @@ impl RollingBallFilletSurface {
         ensures { λ r. ⌜ r ≡ centerContactAnswer self cc n ⌝ }
     {
         if given::beyond(self, n) {
-            return contacts::refused(1);
+            return centers::refused(1);
         }
         let k = n + 1;
         if given::short(self, k) {
-            return contacts::refused(2);
+            return centers::refused(2);
         }
         if given::finite_given(self, cc, k) {
-            let a = contacts::center_contacts(self, cc, n);
+            let a = centers::center_contacts(self, cc, n);
             return given::returned(a, n);
         }
-        contacts::refused(5)
+        centers::refused(5)
     }
 
     // The fillet's partial derivative, m times by u and n times by v, at the share u of the arc; s and c are the sine and cosine of angle·u.
@@ -230,10 +220,10 @@ impl RollingBallFilletSurface {
     ) -> VectorAnswer
         ensures { λ r. ⌜ r ≡ subDerMn self m n u cc angle s c ⌝ }
     {
-        if sub_der::far_pair(self, m, n) {
+        if sub_der::above_20_pair(self, m, n) {
             return VectorAnswer::Refused(1);
         }
-        let d = sub_der::decide(m, n);
+        let d = partials::decide(m, n);
         sub_der::by_decision(d, m, self, cc, angle, u, s, c)
     }
 }

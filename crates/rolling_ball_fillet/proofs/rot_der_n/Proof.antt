@@ -1,9 +1,9 @@
 -- `rot_der_n` meets its contract: each arm returns what the tests pick. Assumes nothing.
 use mathlib.Core.Path.{sym, ap, _∙_}
 use mathlib.Core.Bool.{cond}
-use Rattle.ieee.proofs.Tests.{second, inner, outer}
+use Rattle.booleans.proofs.Tests.{second, inner, outer}
 use Rattle.vectors.specs.Answers.{refused3, returned3}
-use Rattle.rolling_ball_fillet.specs.Rotation.{rotation}
+use Rattle.rodrigues.specs.Rotation.{rotation}
 use Rattle.rolling_ball_fillet.specs.Answers.{finiteTurn}
 use Rattle.rolling_ball_fillet.proofs.rot_der_n.Statement.{statement}
 use Rattle.rolling_ball_fillet.proofs.rot_der_n.Tie as tie

@@ -6,7 +6,7 @@ use Prim.Native.Nat.{suc, _≤_}
 use mathlib.Core.Path.{_≡_, refl, sym, ap, _∙_}
 use mathlib.Core.Bool.{false}
 use lib.Dec.{ltb}
-use Rattle.rolling_ball_fillet.specs.Jets.{farContacts}
+use Rattle.rolling_ball_fillet.specs.Jets.{contactsAbove20}
 use Rattle.rolling_ball_fillet.specs.PartialAnswer.{beyond, short, returnedInfo}
 use Rattle.rolling_ball_fillet.specs.declared.VderInfoAnswer.{VderInfoAnswer}
 use Rattle.rolling_ball_fillet.proofs.Tests.{order-below}
@@ -21,7 +21,7 @@ near c = sym (c .before .beyond .ensures) ∙ c .if1 .left
 within : (c : tie.Else1) → c .before .before .before .args .self .«center_ders» .order ≤ 19
 within c =
     let a = c .before .before .before .args in
-    order-below 19 (a .self .«center_ders» .order) (farContacts (a .self)) (ltb 20 (a .rders .order)) (near c)
+    order-below 19 (a .self .«center_ders» .order) (contactsAbove20 (a .self)) (ltb 20 (a .rders .order)) (near c)
 
 short-is : (c : tie.After-short) → let a = c .before .before .before .before .args in c .short .result ≡ short (a .self) (a .rders) (suc (a .self .«center_ders» .order))
 short-is c =

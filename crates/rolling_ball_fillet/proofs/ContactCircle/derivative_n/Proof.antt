@@ -2,12 +2,11 @@
 use mathlib.Core.Path.{sym, ap, _∙_}
 use mathlib.Core.Bool.{Bool, _&&_}
 use lib.Ieee.Scale.{finite}
-use Rattle.ieee.proofs.Tests.{first, second}
+use Rattle.booleans.proofs.Tests.{first, second}
 use Rattle.vectors.specs.Answers.{vectorFrom}
 use Rattle.vectors.specs.declared.VectorAnswer.the-variants.{Refused}
 use Rattle.vectors.proofs.Picked.{vector-from}
-use Rattle.rolling_ball_fillet.specs.Circle.{derivative}
-use Rattle.rolling_ball_fillet.specs.Answers.{finiteCircle}
+use Rattle.rolling_ball_fillet.specs.Answers.{finiteCircle, derivative}
 use Rattle.rolling_ball_fillet.proofs.ContactCircle.derivative_n.Statement.{statement}
 use Rattle.rolling_ball_fillet.proofs.ContactCircle.derivative_n.Tie as tie
 
@@ -20,8 +19,8 @@ is-finite-requires c κs = tt
 finite-with-requires : tie.Need-finite-with-requires
 finite-with-requires c κs = tt
 
-derivative-requires : tie.Need-derivative-requires
-derivative-requires c κs = tt
+along-arc-requires : tie.Need-along-arc-requires
+along-arc-requires c κs = tt
 
 vector-from-requires : tie.Need-vector-from-requires
 vector-from-requires c κs = tt
@@ -33,7 +32,7 @@ returns c =
     c .vector-from .ensures
     ∙ vector-from
     (c .before .before .finite-with .ensures ∙ ap (λ (b : Bool). b && finite (r .s) && finite (r .c)) (c .before .before .before .is-finite .ensures))
-    (c .before .derivative .ensures)
+    (c .before .along-arc .ensures)
     ∙ sym (first (vectorFrom (finiteCircle (r .self) && finite (r .s) && finite (r .c)) (derivative (r .self) (r .m) (r .s) (r .c))) (Refused 1) (sym (f .order-served .ensures) ∙ c .before .before .before .before .if1 .taken))
 
 returns-2 : tie.Need-returns-2
@@ -43,4 +42,4 @@ returns-2 c =
     sym (second (vectorFrom (finiteCircle (r .self) && finite (r .s) && finite (r .c)) (derivative (r .self) (r .m) (r .s) (r .c))) (Refused 1) (sym (f .order-served .ensures) ∙ c .if1 .left))
 
 pub derivative-n-spec : {M : Type 1} → statement M
-derivative-n-spec = tie.close (tie.spec order-served-requires is-finite-requires finite-with-requires derivative-requires vector-from-requires returns returns-2)
+derivative-n-spec = tie.close (tie.spec order-served-requires is-finite-requires finite-with-requires along-arc-requires vector-from-requires returns returns-2)

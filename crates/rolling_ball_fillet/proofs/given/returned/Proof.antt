@@ -1,7 +1,7 @@
 -- `returned` meets its contract: each arm returns what the test picks. Assumes nothing.
 use borrow.Author.Needs.{needs}
 use mathlib.Core.Path.{sym, _∙_}
-use Rattle.ieee.proofs.Tests.{first, second}
+use Rattle.booleans.proofs.Tests.{first, second}
 use Rattle.rolling_ball_fillet.specs.Center.{refusedContacts}
 use Rattle.rolling_ball_fillet.proofs.given.returned.Statement.{statement}
 use Rattle.rolling_ball_fillet.proofs.given.returned.Tie as tie

@@ -3,8 +3,8 @@ use borrow.Author.Needs.{needs}
 use Rattle.rolling_ball_fillet.proofs.info.beyond.Statement.{statement}
 use Rattle.rolling_ball_fillet.proofs.info.beyond.Tie as tie
 
-far-contacts-requires : tie.Need-far-contacts-requires
-far-contacts-requires c κs = search needs
+above-20-contacts-requires : tie.Need-above-20-contacts-requires
+above-20-contacts-requires c κs = search needs
 
 either-requires : tie.Need-either-requires
 either-requires c κs = search needs
@@ -16,4 +16,4 @@ returns : tie.Need-returns
 returns c = cc
 
 pub beyond-spec : {M : Type 1} → statement M
-beyond-spec = tie.close (tie.spec far-contacts-requires either-requires either-requires-2 returns)
+beyond-spec = tie.close (tie.spec above-20-contacts-requires either-requires either-requires-2 returns)

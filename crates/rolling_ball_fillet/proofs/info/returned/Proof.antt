@@ -1,6 +1,5 @@
 -- `returned` meets its contract. Assumes nothing.
-use Rattle.vectors.proofs.Picked.{both}
-use Rattle.ieee.proofs.Tests.{second, inner, outer}
+use Rattle.booleans.proofs.Tests.{both, second, inner, outer}
 use borrow.Author.Tests.{eq-eqb, ne-eqb}
 use mathlib.Core.Bool.{cond, _&&_}
 use lib.Ieee.Scale.{finite}

@@ -1,7 +1,7 @@
 -- `cut_numbers` meets its contract. Assumes nothing.
-use Rattle.derivatives.proofs.Curves.{CurveFilled}
-use Rattle.rolling_ball_fillet.proofs.Filled.{numbers-none, numbers-more, numbers-all}
-use Rattle.derivatives.specs.Answer.{curveNumbers}
+use Rattle.formulas.proofs.Curves.{CurveFilled}
+use Rattle.partials.proofs.Filled.{numbers-none, numbers-more, numbers-all}
+use Rattle.formulas.specs.Numbers.{curveNumbers}
 use borrow.Author.Needs.{needs}
 use denote.Ref.{now}
 use native.Mathlib.Omega.{arith}

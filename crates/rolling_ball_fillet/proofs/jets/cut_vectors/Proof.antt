@@ -2,10 +2,8 @@
 use Rattle.rolling_ball_fillet.proofs.Filled.{vectorJet}
 use borrow.Author.Needs.{needs}
 use mathlib.Core.Path.{ap, _∙_}
-use lib.ListN.{replicate}
-use Rattle.vectors.specs.Answers.{nought}
-use Rattle.derivatives.specs.Vector.{vectorNumbers, vectorArray}
-use Rattle.rolling_ball_fillet.proofs.Entries.{served}
+use Rattle.vector_formulas.specs.Vector.{vectorNumbers, vectorArray}
+use Rattle.calculus.proofs.Cut.{uncut}
 use Rattle.rolling_ball_fillet.proofs.jets.cut_vectors.Statement.{statement}
 use Rattle.rolling_ball_fillet.proofs.jets.cut_vectors.Tie as tie
 
@@ -16,7 +14,7 @@ returns : tie.Need-returns
 returns c =
     let s = c .before .before .before .args in
     ap (vectorJet (s .n))
-    (c .cut .ensures ∙ served 20 (s .n) (replicate 63 nought) (vectorArray (vectorNumbers (s .a .entries)) (s .n)) (c .before .before .before .pre))
+    (c .cut .ensures ∙ uncut (vectorArray (vectorNumbers (s .a .entries))) (c .before .before .before .pre))
 
 pub cut-vectors-spec : {M : Type 1} → statement M
 cut-vectors-spec = tie.close (tie.spec cut-requires returns)

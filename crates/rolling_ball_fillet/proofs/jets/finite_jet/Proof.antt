@@ -1,7 +1,6 @@
 -- `finite_jet` meets its contract. Assumes nothing.
-use mathlib.Core.Bool.{false}
 use Rattle.rolling_ball_fillet.specs.Jets.{finiteJet}
-use Rattle.rolling_ball_fillet.proofs.Entries.{served}
+use Rattle.calculus.proofs.Cut.{uncut}
 use borrow.Author.Needs.{needs}
 use mathlib.Core.Path.{_∙_}
 use Rattle.rolling_ball_fillet.proofs.jets.finite_jet.Statement.{statement}
@@ -13,7 +12,7 @@ finite-vectors-requires c κs = search needs
 returns : tie.Need-returns
 returns c =
     let s = c .before .before .before in
-    c .finite-vectors .ensures ∙ served 20 (s .args .n) false (finiteJet (s .args .a) (s .args .n)) (s .pre)
+    c .finite-vectors .ensures ∙ uncut (finiteJet (s .args .a)) (s .pre)
 
 pub finite-jet-spec : {M : Type 1} → statement M
 finite-jet-spec = tie.close (tie.spec finite-vectors-requires returns)

@@ -1,5 +1,6 @@
 -- `by_arc` meets its contract. Assumes nothing.
-use Rattle.vectors.proofs.Picked.{both, vector-from}
+use Rattle.booleans.proofs.Tests.{both}
+use Rattle.vectors.proofs.Picked.{vector-from}
 use borrow.Author.Needs.{needs}
 use mathlib.Core.Path.{_∙_}
 use Rattle.rolling_ball_fillet.proofs.sub_der.by_arc.Statement.{statement}
@@ -14,14 +15,14 @@ finite-floats-requires c κs = search needs
 both-requires : tie.Need-both-requires
 both-requires c κs = search needs
 
-derivative-requires : tie.Need-derivative-requires
-derivative-requires c κs = search needs
+along-arc-requires : tie.Need-along-arc-requires
+along-arc-requires c κs = search needs
 
 vector-from-requires : tie.Need-vector-from-requires
 vector-from-requires c κs = search needs
 
 returns : tie.Need-returns
-returns c = c .vector-from .ensures ∙ vector-from (c .before .before .both .ensures ∙ both (c .before .before .before .before .finite-whole .ensures) (c .before .before .before .finite-floats .ensures)) (c .before .derivative .ensures)
+returns c = c .vector-from .ensures ∙ vector-from (c .before .before .both .ensures ∙ both (c .before .before .before .before .finite-whole .ensures) (c .before .before .before .finite-floats .ensures)) (c .before .along-arc .ensures)
 
 pub by-arc-spec : {M : Type 1} → statement M
 by-arc-spec =
@@ -30,6 +31,6 @@ by-arc-spec =
     finite-whole-requires
     finite-floats-requires
     both-requires
-    derivative-requires
+    along-arc-requires
     vector-from-requires
     returns)

@@ -1,5 +1,5 @@
 -- `by_decision` meets its contract. Assumes nothing.
-use Rattle.rolling_ball_fillet.specs.declared.sub_der.Decision.{Decision}
+use Rattle.partials.specs.declared.Decision.{Decision}
 use Rattle.rolling_ball_fillet.specs.SubDer.{byDecision}
 use borrow.Author.Needs.{needs}
 use mathlib.Core.Path.{sym, ap, _∙_}

@@ -1,5 +1,5 @@
 -- `from_info` meets its contract. Assumes nothing.
-use Rattle.ieee.proofs.Tests.{first, second}
+use Rattle.booleans.proofs.Tests.{first, second}
 use borrow.Author.Tests.{eq-eqb, ne-eqb}
 use Rattle.vectors.specs.declared.VectorAnswer.the-variants.{Refused}
 use Rattle.vectors.specs.Answers.{returnedVector}

@@ -1,5 +1,5 @@
 -- `partial` meets its contract. Assumes nothing.
-use Rattle.rolling_ball_fillet.specs.declared.sub_der.EdgePartial.{EdgePartial}
+use Rattle.partials.specs.declared.EdgePartial.{EdgePartial}
 use Rattle.rolling_ball_fillet.specs.SubDer.{partialBy}
 use borrow.Author.Needs.{needs}
 use mathlib.Core.Path.{sym, ap, _∙_}

@@ -1,0 +1,2 @@
+pub mod SurfaceInfo
+pub mod Center

@@ -1,0 +1,5 @@
+pub mod Entries
+pub mod Filled
+pub mod Turning
+pub mod Parameters
+pub mod Decisions
