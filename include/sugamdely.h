@@ -1,10 +1,10 @@
 /* Derivative jets of curves and surfaces, exact and of floats, and the arithmetic of a rolling-ball fillet.
 
-   for name in exact floats vectors fillet; do rt staticlib capi_$name; done
+   for name in exact roads floats vectors fillet; do rt staticlib capi_$name; done
    cc program.c target/staticlib/libcapi_*.a
 
-   Every function is proved to give what its contract in crates/capi_exact, capi_floats, capi_vectors or capi_fillet says, for any numbers and
-   any lists, and always returns.
+   Every function is proved to give what its contract in crates/capi_exact, capi_roads, capi_floats, capi_vectors or capi_fillet says, for any
+   numbers and any lists, and always returns.
 
    REFUSALS. A function returns 0 where it has answered, or the number of its refusal:
 
@@ -193,6 +193,8 @@ uint8_t sugamdely_vector_magnitude(const double *a, size_t a_len, double *out, s
 uint8_t sugamdely_matrix2_determinant(const double *m, size_t m_len, double *out, size_t out_len);
 /* out of 4 */
 uint8_t sugamdely_matrix2_inverse(const double *m, size_t m_len, double *out, size_t out_len);
+/* m times v, a list of 2: out of 2 */
+uint8_t sugamdely_matrix2_image(const double *m, size_t m_len, const double *v, size_t v_len, double *out, size_t out_len);
 /* out of 1 */
 uint8_t sugamdely_matrix3_determinant(const double *m, size_t m_len, double *out, size_t out_len);
 /* out of 9 */

@@ -2,7 +2,7 @@ use std::env;
 use std::path::{Path, PathBuf};
 
 /// The crates of the library's C interface: `rt staticlib` writes an archive for each.
-const CRATES: [&str; 4] = ["capi_exact", "capi_floats", "capi_vectors", "capi_fillet"];
+const CRATES: [&str; 5] = ["capi_exact", "capi_roads", "capi_floats", "capi_vectors", "capi_fillet"];
 
 /// Names the archives to the linker: those in the directory SUGAMDELY_LIB or, where that is not set, in target/staticlib of the repository.
 pub fn link(repository: &Path) -> Result<Vec<PathBuf>, String> {

@@ -485,6 +485,7 @@ pub fn ours(name: &str) -> Option<Work> {
         "vector_magnitude" => lists_of_one(1, ffi::vector_magnitude),
         "matrix2_determinant" => lists_of_one(1, ffi::matrix2_determinant),
         "matrix2_inverse" => lists_of_one(4, ffi::matrix2_inverse),
+        "matrix2_image" => lists_of_two(2, ffi::matrix2_image),
         "matrix3_determinant" => lists_of_one(1, ffi::matrix3_determinant),
         "matrix3_inverse" => lists_of_one(9, ffi::matrix3_inverse),
         "matrix3_image" => lists_of_two(3, ffi::matrix3_image),

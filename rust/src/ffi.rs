@@ -128,6 +128,7 @@ functions! {
     fn vector_magnitude(a: &[f64], out: &mut [f64]);
     fn matrix2_determinant(m: &[f64], out: &mut [f64]);
     fn matrix2_inverse(m: &[f64], out: &mut [f64]);
+    fn matrix2_image(m: &[f64], v: &[f64], out: &mut [f64]);
     fn matrix3_determinant(m: &[f64], out: &mut [f64]);
     fn matrix3_inverse(m: &[f64], out: &mut [f64]);
     fn matrix3_image(m: &[f64], v: &[f64], out: &mut [f64]);

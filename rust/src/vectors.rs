@@ -3,6 +3,7 @@
 use crate::refusal::answered;
 use crate::{ffi, Refusal};
 
+pub type Vector2 = [f64; 2];
 pub type Vector3 = [f64; 3];
 /// Row by row: `[[a, b], [c, d]]`.
 pub type Matrix2 = [[f64; 2]; 2];
@@ -82,6 +83,16 @@ pub fn matrix2_determinant(m: Matrix2) -> Result<f64, Refusal> { float(|out| ffi
 pub fn matrix2_inverse(m: Matrix2) -> Result<Matrix2, Refusal> {
     written(|out| ffi::matrix2_inverse(m.as_flattened(), out)).map(|[a, b, c, d]| [[a, b], [c, d]])
 }
+
+/// The matrix times a vector: (ax + by, cx + dy).
+///
+/// ```
+/// use sugamdely::{vectors::matrix2_image, Refusal};
+///
+/// assert_eq!(matrix2_image([[1.0, 2.0], [3.0, 4.0]], [5.0, 6.0]), Ok([17.0, 39.0]));
+/// assert_eq!(matrix2_image([[1.0, 2.0], [3.0, 4.0]], [5.0, f64::NAN]), Err(Refusal::InputNotFinite));
+/// ```
+pub fn matrix2_image(m: Matrix2, v: Vector2) -> Result<Vector2, Refusal> { written(|out| ffi::matrix2_image(m.as_flattened(), &v, out)) }
 
 /// c0 · (c1 × c2)
 pub fn matrix3_determinant(m: Matrix3) -> Result<f64, Refusal> { float(|out| ffi::matrix3_determinant(m.as_flattened(), out)) }

@@ -2,7 +2,7 @@
 
 use super::*;
 use crate::standins::cgmath::InnerSpace;
-use crate::standins::cgmath64::{Matrix2, Matrix3, Vector3};
+use crate::standins::cgmath64::{Matrix2, Matrix3, Vector2, Vector3};
 use crate::standins::events;
 
 fn vector(list: &[f64]) -> Vector3 { Vector3::new(list[0], list[1], list[2]) }
@@ -12,7 +12,7 @@ fn matrix2(m: &[f64]) -> Matrix2 { Matrix2::new(m[0], m[2], m[1], m[3]) }
 /// Column by column.
 fn matrix3(m: &[f64]) -> Matrix3 { Matrix3::from_cols(vector(&m[..3]), vector(&m[3..6]), vector(&m[6..])) }
 
-/// An operation on lists of fixed lengths: vectors of 3, matrices of 4 or 9, a float as a list of one.
+/// An operation on lists of fixed lengths: vectors of 2 or 3, matrices of 4 or 9, a float as a list of one.
 fn operation(name: &str, lengths: &'static [usize], work: fn(&[Vec<f64>]) -> Option<Vec<f64>>) -> Operation {
     Operation {
         name: name.to_string(),
@@ -65,6 +65,10 @@ pub(super) fn vectors() -> Vec<Operation> {
         operation("vector_magnitude", &[3], |l| Some(vec![vector(&l[0]).magnitude()])),
         operation("matrix2_determinant", &[4], |l| Some(vec![matrix2(&l[0]).determinant()])),
         operation("matrix2_inverse", &[4], |l| matrix2(&l[0]).invert().map(|m| vec![m.x.x, m.y.x, m.x.y, m.y.y])),
+        operation("matrix2_image", &[4, 2], |l| {
+            let v = matrix2(&l[0]) * Vector2::new(l[1][0], l[1][1]);
+            Some(vec![v.x, v.y])
+        }),
         operation("matrix3_determinant", &[9], |l| Some(vec![matrix3(&l[0]).determinant()])),
         operation("matrix3_inverse", &[9], |l| matrix3(&l[0]).invert().map(|m| [list(m.x), list(m.y), list(m.z)].concat())),
         operation("matrix3_image", &[9, 3], |l| Some(list(matrix3(&l[0]) * vector(&l[1])))),

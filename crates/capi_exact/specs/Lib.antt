@@ -1,4 +1,1 @@
-pub mod Delivery
-pub mod Lists
 pub mod PartLists
-pub mod Recipes

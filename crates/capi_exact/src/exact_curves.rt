@@ -5,13 +5,13 @@ ghost use Prim.Native.Nat.{ℕ, _-_};
 ghost use lib.IntN.{ℤ};
 ghost use Rattle.calculus.specs.Kind.{regular};
 ghost use Rattle.calculus.specs.Curve.{sum as sums, difference as differences, product, quotient as quotients};
-ghost use Rattle.exact.specs.Kinds.{checked};
+ghost use Rattle.exact_formulas.specs.Kinds.{checked};
 ghost use Rattle.exact.specs.Answer.{onCurves, onCurvesAt, curveDerivative};
 ghost use Rattle.roads.specs.Roads.{curves as kind};
 ghost use Rattle.given.specs.Lists.{onTwo, onTwoAt, onOne};
-ghost use Rattle.capi_exact.specs.Lists.{curve as curves, toCurve, toWhole};
-use crate::deliver;
+ghost use Rattle.exact_lists.specs.Lists.{curve as curves, toCurve, toWhole};
 use exact::CurveDerivatives;
+use exact_lists::deliver;
 use given::Shape;
 use roads::Operation;
 
@@ -42,7 +42,7 @@ fn on_two(
     let y = CurveDerivatives::from_list(b_order, b);
     let left = x.jet;
     let right = y.jet;
-    let r = op.on_curves(left, right);
+    let r = roads::on_curves(op, left, right);
     deliver::curve(r, out)
 }
 

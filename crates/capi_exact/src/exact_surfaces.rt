@@ -5,15 +5,15 @@ ghost use Prim.Native.Nat.{ℕ, _+_, _-_};
 ghost use lib.IntN.{ℤ};
 ghost use Rattle.calculus.specs.Kind.{regular};
 ghost use Rattle.calculus.specs.Surface.{sum as sums, difference as differences, product, quotient as quotients, derivativeU, derivativeV, derivativeBy};
-ghost use Rattle.exact.specs.Kinds.{checked};
+ghost use Rattle.exact_formulas.specs.Kinds.{checked};
 ghost use Rattle.exact.specs.Answer.{onSurfaces, onSurfacesAt, surfaceDerivative};
 ghost use Rattle.roads.specs.Roads.{surfaces as kind};
 ghost use Rattle.given.specs.Lists.{onTwo, onTwoAt, onOne};
-ghost use Rattle.capi_exact.specs.Lists.{surface as surfaces, toSurface, toWhole};
-use crate::deliver;
+ghost use Rattle.exact_lists.specs.Lists.{surface as surfaces, toSurface, toWhole};
 use calculus::By;
 use exact::SurfaceAnswer;
 use exact::SurfaceDerivatives;
+use exact_lists::deliver;
 use given::Shape;
 use roads::Operation;
 
@@ -53,7 +53,7 @@ fn on_two(
     let y = SurfaceDerivatives::from_list(b_order, b);
     let left = x.jet;
     let right = y.jet;
-    let r = op.on_surfaces(left, right);
+    let r = roads::on_surfaces(op, left, right);
     deliver::surface(r, out)
 }
 

@@ -5,9 +5,9 @@ ghost use mathlib.Core.List.{List};
 ghost use Prim.Native.Nat.{ℕ};
 ghost use lib.ListN.{length};
 ghost use Rattle.partitions.specs.Count.{counted, factorialOf, stirlingOf};
-ghost use Rattle.capi_exact.specs.Delivery.{deliverCount};
+ghost use Rattle.exact_lists.specs.Delivery.{deliverCount};
 ghost use Rattle.capi_exact.specs.PartLists.{flagGiven, walkGiven, walkOf, walkNumbers, walkStarted, walkStepped};
-use crate::deliver;
+use exact_lists::deliver;
 use partitions::CompositionIter;
 
 #[no_mangle]

@@ -4,8 +4,8 @@ ghost use mathlib.Core.List.{List};
 ghost use Prim.Native.Nat.{ℕ};
 ghost use lib.IntN.{ℤ, _+ℤ_, _-ℤ_, _*ℤ_};
 ghost use Rattle.whole.specs.Checked.{formed, divided};
-ghost use Rattle.capi_exact.specs.Delivery.{deliverWhole};
-use crate::deliver;
+ghost use Rattle.exact_lists.specs.Delivery.{deliverWhole};
+use exact_lists::deliver;
 
 #[no_mangle]
 pub extern "C" fn sugamdely_whole_sum(a: i64, b: i64, out: &mut [i64]) -> u8

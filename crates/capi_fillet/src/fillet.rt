@@ -6,21 +6,17 @@ ghost use lib.Ieee.{Float};
 ghost use Rattle.rolling_ball_fillet.specs.Partials.{derivativeV, derivativeUV, derivativeVV};
 ghost use Rattle.rolling_ball_fillet.specs.PartialAnswer.{partialAnswer};
 ghost use Rattle.given.specs.Given.{first, orderGiven, countGiven, curveGiven, parameterGiven, vectorCurveGiven, vectorSurfaceGiven};
-ghost use Rattle.capi_fillet.specs.Fillet.{ordersGiven, rotationInto, circleInto, filletOf, Five, contactsGiven, deliverContacts, contactsInto, dersOf, infoOf, Three, deliverInfo, vderInfoInto, partialBy, partialInto, subDerInto};
-use crate::records;
-use capi_floats::deliver;
-use capi_floats::read;
-use derivatives::lists;
-use ieee::Real;
-use rolling_ball_fillet::CenterContactAnswer;
-use rolling_ball_fillet::CenterContactDers;
-use rolling_ball_fillet::RollingBallFilletSurface;
+ghost use Rattle.fillet_lists.specs.Delivery.{Five, Three};
+ghost use Rattle.capi_fillet.specs.Fillet.{ordersGiven, rotationInto, circleInto, contactsGiven, contactsInto, vderInfoInto, partialBy, partialInto, subDerInto};
+use fillet_lists::records;
+use float_lists::deliver;
+use float_lists::lists;
+use float_lists::read;
 use rolling_ball_fillet::VderInfo;
-use rolling_ball_fillet::VderInfoAnswer;
 use vectors::VectorAnswer;
 
 // By v, by u and v, twice by v.
-pub enum Partial {
+enum Partial {
     V,
     Uv,
     Vv,
@@ -183,116 +179,6 @@ fn given_info(
     given::first(ders, given::first(r, given::first(k, abc)))
 }
 
-fn ders(
-    center_order: usize,
-    center: &[f64],
-    contact0_order: usize,
-    contact0: &[f64],
-    contact1_order: usize,
-    contact1: &[f64],
-    uv0_order: usize,
-    uv0: &[f64],
-    uv1_order: usize,
-    uv1: &[f64],
-) -> CenterContactDers
-    ensures { λ r. ⌜ r ≡ dersOf («center_order», now (center .entry)) («contact0_order», now (contact0 .entry)) («contact1_order», now (contact1 .entry)) («uv0_order», now (uv0 .entry)) («uv1_order», now (uv1 .entry)) ⌝ }
-{
-    let center_ders = lists::vector_curve(center_order, center);
-    let contact0_ders = lists::vector_curve(contact0_order, contact0);
-    let contact1_ders = lists::vector_curve(contact1_order, contact1);
-    let uv0_ders = lists::parameter(uv0_order, uv0);
-    let uv1_ders = lists::parameter(uv1_order, uv1);
-    CenterContactDers {
-        center_ders,
-        contact0_ders,
-        contact1_ders,
-        uv0_ders,
-        uv1_ders,
-    }
-}
-
-fn info(
-    d: CenterContactDers,
-    axis_order: usize,
-    axis: &[f64],
-    angle_order: usize,
-    angle: &[f64],
-) -> VderInfo
-    ensures { λ r. ⌜ r ≡ infoOf d («axis_order», now (axis .entry)) («angle_order», now (angle .entry)) ⌝ }
-{
-    let axis_ders = lists::vector_curve(axis_order, axis);
-    let angle_ders = lists::curve(angle_order, angle);
-    VderInfo {
-        cc_ders: d,
-        axis_ders,
-        angle_ders,
-    }
-}
-
-fn fillet_of(
-    normals: &[f64],
-    edge_order: usize,
-    edge: &[f64],
-    radius_order: usize,
-    radius: &[f64],
-    surface0_order: usize,
-    surface0: &[f64],
-    surface1_order: usize,
-    surface1: &[f64],
-) -> RollingBallFilletSurface
-    ensures { λ r. ⌜ r ≡ filletOf (now (normals .entry)) («edge_order», now (edge .entry)) («radius_order», now (radius .entry)) («surface0_order», now (surface0 .entry)) («surface1_order», now (surface1 .entry)) ⌝ }
-{
-    let e = lists::vector_curve(edge_order, edge);
-    let r = lists::curve(radius_order, radius);
-    let p = lists::vector_surface(surface0_order, surface0);
-    let q = lists::vector_surface(surface1_order, surface1);
-    records::fillet(e, r, p, q, normals)
-}
-
-fn deliver_contacts(
-    a: CenterContactAnswer,
-    center: &mut [f64],
-    contact0: &mut [f64],
-    contact1: &mut [f64],
-    uv0: &mut [f64],
-    uv1: &mut [f64],
-) -> u8
-    ensures { λ r. ⌜ _≡_ {A = ℕ × Five} (r, (now (center .exit), (now (contact0 .exit), (now (contact1 .exit), (now (uv0 .exit), now (uv1 .exit)))))) (deliverContacts a (now (center .entry), (now (contact0 .entry), (now (contact1 .entry), (now (uv0 .entry), now (uv1 .entry)))))) ⌝ }
-{
-    let c = a.refusal;
-    if c != 0 {
-        return c;
-    }
-    let d = a.ders;
-    let x = d.center_ders;
-    let p = d.contact0_ders;
-    let q = d.contact1_ders;
-    let s = d.uv0_ders;
-    let t = d.uv1_ders;
-    x.into_list(center);
-    p.into_list(contact0);
-    q.into_list(contact1);
-    s.into_list(uv0);
-    t.into_list(uv1);
-    0
-}
-
-fn deliver_info(a: VderInfoAnswer, axis: &mut [f64], angle: &mut [f64], cosine: &mut [f64]) -> u8
-    ensures { λ r. ⌜ _≡_ {A = ℕ × Three} (r, (now (axis .exit), (now (angle .exit), now (cosine .exit)))) (deliverInfo a (now (axis .entry), (now (angle .entry), now (cosine .entry)))) ⌝ }
-{
-    let c = a.refusal;
-    if c != 0 {
-        return c;
-    }
-    let i = a.info;
-    let x = i.axis_ders;
-    let t = i.angle_ders;
-    x.into_list(axis);
-    t.into_list(angle);
-    deliver::float(Real::Value(a.cosine), cosine);
-    0
-}
-
 fn on_info(
     op: Partial,
     center_order: usize,
@@ -339,7 +225,7 @@ fn on_info(
     if t != 0 {
         return t;
     }
-    let d = ders(
+    let d = records::ders(
         center_order,
         center,
         contact0_order,
@@ -351,7 +237,7 @@ fn on_info(
         uv1_order,
         uv1,
     );
-    let i = info(d, axis_order, axis, angle_order, angle);
+    let i = records::info(d, axis_order, axis, angle_order, angle);
     let r = work(op, i, u, s, c);
     deliver::vector(r, out)
 }
@@ -455,7 +341,7 @@ pub extern "C" fn sugamdely_sub_center_contacts_ders(
         return t;
     }
     let cc = records::circle_with(circle, feet);
-    let f = fillet_of(
+    let f = records::fillet_of(
         normals,
         edge_order,
         edge,
@@ -467,7 +353,7 @@ pub extern "C" fn sugamdely_sub_center_contacts_ders(
         surface1,
     );
     let a = f.sub_center_contacts_ders(cc, n);
-    deliver_contacts(a, center, contact0, contact1, uv0, uv1)
+    fillet_lists::deliver_contacts(a, center, contact0, contact1, uv0, uv1)
 }
 
 // How the axis and the angle move along the edge, up to the centre's order, from the radius' derivatives and the angle itself; and the clamped
@@ -517,7 +403,7 @@ pub extern "C" fn sugamdely_vder_info(
     if t != 0 {
         return t;
     }
-    let d = ders(
+    let d = records::ders(
         center_order,
         center,
         contact0_order,
@@ -531,7 +417,7 @@ pub extern "C" fn sugamdely_vder_info(
     );
     let r = lists::curve(radius_order, radius);
     let a = d.vder_info(r, angle);
-    deliver_info(a, axis_out, angle_out, cosine_out)
+    fillet_lists::deliver_info(a, axis_out, angle_out, cosine_out)
 }
 
 // The fillet's partial derivatives at the share u of the arc; s and c are the sine and cosine of angle·u.
@@ -715,7 +601,7 @@ pub extern "C" fn sugamdely_sub_der_mn(
         return t;
     }
     let cc = records::circle_with(circle, feet);
-    let f = fillet_of(
+    let f = records::fillet_of(
         normals,
         edge_order,
         edge,

@@ -2,4 +2,3 @@
 // several lists are lent for an answer, a refusal leaves all of them as they were.
 
 pub mod fillet;
-mod records;

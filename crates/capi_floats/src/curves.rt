@@ -5,58 +5,16 @@ ghost use Prim.Native.Nat.{ℕ, _-_};
 ghost use lib.Ieee.{Float};
 ghost use Rattle.calculus.specs.Kind.{regular};
 ghost use Rattle.calculus.specs.Curve.{sum, difference, product};
-ghost use Rattle.derivatives.specs.Real.{real};
-ghost use Rattle.derivatives.specs.Rational.{rational};
+ghost use Rattle.formulas.specs.Real.{real};
+ghost use Rattle.calculus.specs.Rational.{rational};
 ghost use Rattle.derivatives.specs.Answer.{onCurves, byFormula, byDivision, onCurvesAt, curveDerivative};
 ghost use Rattle.given.specs.Lists.{onTwo, onTwoAt, onOne};
-ghost use Rattle.capi_floats.specs.Lists.{curve as curves, toCurve, toFloat};
-ghost use Rattle.capi_floats.specs.Operations.{curveOperation};
-use crate::deliver;
-use crate::operations::Operation;
-use derivatives::CurveAnswer;
-use derivatives::CurveDerivatives;
-use derivatives::lists;
+ghost use Rattle.float_lists.specs.Lists.{curve as curves, toCurve, toFloat};
+use calculus::Operation;
+use float_lists::curves;
+use float_lists::deliver;
+use float_lists::lists;
 use given::Shape;
-
-fn work(op: Operation, a: CurveDerivatives, b: CurveDerivatives) -> CurveAnswer
-    ensures { λ r. ⌜ r ≡ curveOperation op a b ⌝ }
-{
-    match op {
-        Operation::Sum => a.sum(b),
-        Operation::Difference => a.difference(b),
-        Operation::Product => a.combinatorial_derivatives(b),
-        Operation::Quotient => a.rational_derivatives(b),
-    }
-}
-
-fn on_two(
-    op: Operation,
-    a_order: usize,
-    a: &[f64],
-    b_order: usize,
-    b: &[f64],
-    out: &mut [f64],
-) -> u8
-    ensures { λ r. ⌜ _≡_ {A = ℕ × List Float} (r, now (out .exit)) (onTwo curves curves toCurve (curveOperation op) «a_order» (now (a .entry)) «b_order» (now (b .entry)) (now (out .entry))) ⌝ }
-{
-    let t = given::two(
-        Shape::Curve,
-        a_order,
-        a.len(),
-        Shape::Curve,
-        b_order,
-        b.len(),
-        Shape::Curve,
-        out.len(),
-    );
-    if t != 0 {
-        return t;
-    }
-    let x = lists::curve(a_order, a);
-    let y = lists::curve(b_order, b);
-    let r = work(op, x, y);
-    deliver::curve(r, out)
-}
 
 #[no_mangle]
 pub extern "C" fn sugamdely_curve_sum(
@@ -68,7 +26,7 @@ pub extern "C" fn sugamdely_curve_sum(
 ) -> u8
     ensures { λ r. ⌜ _≡_ {A = ℕ × List Float} (r, now (out .exit)) (onTwo curves curves toCurve (onCurves (byFormula (sum (regular real)))) «a_order» (now (a .entry)) «b_order» (now (b .entry)) (now (out .entry))) ⌝ }
 {
-    on_two(Operation::Sum, a_order, a, b_order, b, out)
+    curves::on_two(Operation::Sum, a_order, a, b_order, b, out)
 }
 
 #[no_mangle]
@@ -81,7 +39,7 @@ pub extern "C" fn sugamdely_curve_difference(
 ) -> u8
     ensures { λ r. ⌜ _≡_ {A = ℕ × List Float} (r, now (out .exit)) (onTwo curves curves toCurve (onCurves (byFormula (difference (regular real)))) «a_order» (now (a .entry)) «b_order» (now (b .entry)) (now (out .entry))) ⌝ }
 {
-    on_two(Operation::Difference, a_order, a, b_order, b, out)
+    curves::on_two(Operation::Difference, a_order, a, b_order, b, out)
 }
 
 #[no_mangle]
@@ -141,7 +99,7 @@ pub extern "C" fn sugamdely_curve_combinatorial_derivatives(
 ) -> u8
     ensures { λ r. ⌜ _≡_ {A = ℕ × List Float} (r, now (out .exit)) (onTwo curves curves toCurve (onCurves (byFormula (product real))) «a_order» (now (a .entry)) «b_order» (now (b .entry)) (now (out .entry))) ⌝ }
 {
-    on_two(Operation::Product, a_order, a, b_order, b, out)
+    curves::on_two(Operation::Product, a_order, a, b_order, b, out)
 }
 
 // The quotient of the curve a by the weights w.
@@ -155,5 +113,5 @@ pub extern "C" fn sugamdely_curve_rational_derivatives(
 ) -> u8
     ensures { λ r. ⌜ _≡_ {A = ℕ × List Float} (r, now (out .exit)) (onTwo curves curves toCurve (onCurves (byDivision (rational (regular real) (real .over)))) «a_order» (now (a .entry)) «w_order» (now (w .entry)) (now (out .entry))) ⌝ }
 {
-    on_two(Operation::Quotient, a_order, a, w_order, w, out)
+    curves::on_two(Operation::Quotient, a_order, a, w_order, w, out)
 }

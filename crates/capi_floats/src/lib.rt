@@ -4,8 +4,5 @@
 // parameters of a surface is u0 v0 u1 v1 .. . A jet goes in as its order, then its list. A list lent for an answer has just the length that is due.
 
 pub mod curves;
-pub mod deliver;
-pub mod operations;
-pub mod read;
 pub mod surfaces;
 pub mod values;

@@ -4,82 +4,19 @@ ghost use mathlib.Core.List.{List};
 ghost use Prim.Native.Nat.{ℕ, _+_, _-_};
 ghost use lib.Ieee.{Float};
 ghost use Rattle.calculus.specs.Kind.{regular};
-ghost use Rattle.calculus.specs.Surface.{sum, difference, product, derivativeU, derivativeV, derivativeBy};
-ghost use Rattle.derivatives.specs.Real.{real};
-ghost use Rattle.derivatives.specs.Rational.{surfaceRational};
+ghost use Rattle.calculus.specs.Surface.{sum, difference, product, derivativeU, derivativeV};
+ghost use Rattle.formulas.specs.Real.{real};
+ghost use Rattle.calculus.specs.Rational.{surfaceRational};
 ghost use Rattle.derivatives.specs.Answer.{onSurfaces, bySurfaceFormula, bySurfaceDivision, onSurfacesAt, surfaceDerivative};
 ghost use Rattle.derivatives.specs.Composite.{alongCurveAt, alongCurve};
 ghost use Rattle.given.specs.Lists.{onTwo, onTwoAt, onOne};
-ghost use Rattle.capi_floats.specs.Lists.{surface as surfaces, parameter as parameters, toCurve, toSurface, toFloat};
-ghost use Rattle.capi_floats.specs.Operations.{surfaceOperation};
-use crate::deliver;
-use crate::operations::Operation;
+ghost use Rattle.float_lists.specs.Lists.{surface as surfaces, parameter as parameters, toCurve, toSurface, toFloat};
 use calculus::By;
-use derivatives::SurfaceAnswer;
-use derivatives::SurfaceDerivatives;
-use derivatives::lists;
+use calculus::Operation;
+use float_lists::deliver;
+use float_lists::lists;
+use float_lists::surfaces;
 use given::Shape;
-
-fn work(op: Operation, a: SurfaceDerivatives, b: SurfaceDerivatives) -> SurfaceAnswer
-    ensures { λ r. ⌜ r ≡ surfaceOperation op a b ⌝ }
-{
-    match op {
-        Operation::Sum => a.sum(b),
-        Operation::Difference => a.difference(b),
-        Operation::Product => a.combinatorial_derivatives(b),
-        Operation::Quotient => a.rational_derivatives(b),
-    }
-}
-
-fn derived(by: By, a: SurfaceDerivatives) -> SurfaceAnswer
-    ensures { λ r. ⌜ r ≡ surfaceDerivative (derivativeBy by) a ⌝ }
-{
-    match by {
-        By::U => a.derivative_u(),
-        By::V => a.derivative_v(),
-    }
-}
-
-fn on_two(
-    op: Operation,
-    a_order: usize,
-    a: &[f64],
-    b_order: usize,
-    b: &[f64],
-    out: &mut [f64],
-) -> u8
-    ensures { λ r. ⌜ _≡_ {A = ℕ × List Float} (r, now (out .exit)) (onTwo surfaces surfaces toSurface (surfaceOperation op) «a_order» (now (a .entry)) «b_order» (now (b .entry)) (now (out .entry))) ⌝ }
-{
-    let t = given::two(
-        Shape::Surface,
-        a_order,
-        a.len(),
-        Shape::Surface,
-        b_order,
-        b.len(),
-        Shape::Surface,
-        out.len(),
-    );
-    if t != 0 {
-        return t;
-    }
-    let x = lists::surface(a_order, a);
-    let y = lists::surface(b_order, b);
-    let r = work(op, x, y);
-    deliver::surface(r, out)
-}
-
-fn derivative(by: By, a_order: usize, a: &[f64], out: &mut [f64]) -> u8
-    ensures { λ r. ⌜ _≡_ {A = ℕ × List Float} (r, now (out .exit)) (onOne surfaces toSurface («a_order» - 1) (surfaceDerivative (derivativeBy by)) «a_order» (now (a .entry)) (now (out .entry))) ⌝ }
-{
-    let t = given::lowered(Shape::Surface, a_order, a.len(), out.len());
-    if t != 0 {
-        return t;
-    }
-    let x = lists::surface(a_order, a);
-    let r = derived(by, x);
-    deliver::surface(r, out)
-}
 
 #[no_mangle]
 pub extern "C" fn sugamdely_surface_sum(
@@ -91,7 +28,7 @@ pub extern "C" fn sugamdely_surface_sum(
 ) -> u8
     ensures { λ r. ⌜ _≡_ {A = ℕ × List Float} (r, now (out .exit)) (onTwo surfaces surfaces toSurface (onSurfaces (bySurfaceFormula (sum (regular real)))) «a_order» (now (a .entry)) «b_order» (now (b .entry)) (now (out .entry))) ⌝ }
 {
-    on_two(Operation::Sum, a_order, a, b_order, b, out)
+    surfaces::on_two(Operation::Sum, a_order, a, b_order, b, out)
 }
 
 #[no_mangle]
@@ -104,21 +41,21 @@ pub extern "C" fn sugamdely_surface_difference(
 ) -> u8
     ensures { λ r. ⌜ _≡_ {A = ℕ × List Float} (r, now (out .exit)) (onTwo surfaces surfaces toSurface (onSurfaces (bySurfaceFormula (difference (regular real)))) «a_order» (now (a .entry)) «b_order» (now (b .entry)) (now (out .entry))) ⌝ }
 {
-    on_two(Operation::Difference, a_order, a, b_order, b, out)
+    surfaces::on_two(Operation::Difference, a_order, a, b_order, b, out)
 }
 
 #[no_mangle]
 pub extern "C" fn sugamdely_surface_derivative_u(a_order: usize, a: &[f64], out: &mut [f64]) -> u8
     ensures { λ r. ⌜ _≡_ {A = ℕ × List Float} (r, now (out .exit)) (onOne surfaces toSurface («a_order» - 1) (surfaceDerivative derivativeU) «a_order» (now (a .entry)) (now (out .entry))) ⌝ }
 {
-    derivative(By::U, a_order, a, out)
+    surfaces::derivative(By::U, a_order, a, out)
 }
 
 #[no_mangle]
 pub extern "C" fn sugamdely_surface_derivative_v(a_order: usize, a: &[f64], out: &mut [f64]) -> u8
     ensures { λ r. ⌜ _≡_ {A = ℕ × List Float} (r, now (out .exit)) (onOne surfaces toSurface («a_order» - 1) (surfaceDerivative derivativeV) «a_order» (now (a .entry)) (now (out .entry))) ⌝ }
 {
-    derivative(By::V, a_order, a, out)
+    surfaces::derivative(By::V, a_order, a, out)
 }
 
 // One entry of the product: [m][n].
@@ -166,7 +103,7 @@ pub extern "C" fn sugamdely_surface_combinatorial_derivatives(
 ) -> u8
     ensures { λ r. ⌜ _≡_ {A = ℕ × List Float} (r, now (out .exit)) (onTwo surfaces surfaces toSurface (onSurfaces (bySurfaceFormula (product real))) «a_order» (now (a .entry)) «b_order» (now (b .entry)) (now (out .entry))) ⌝ }
 {
-    on_two(Operation::Product, a_order, a, b_order, b, out)
+    surfaces::on_two(Operation::Product, a_order, a, b_order, b, out)
 }
 
 // The quotient of the surface a by the weights w.
@@ -180,7 +117,7 @@ pub extern "C" fn sugamdely_surface_rational_derivatives(
 ) -> u8
     ensures { λ r. ⌜ _≡_ {A = ℕ × List Float} (r, now (out .exit)) (onTwo surfaces surfaces toSurface (onSurfaces (bySurfaceDivision (surfaceRational (regular real) (real .over)))) «a_order» (now (a .entry)) «w_order» (now (w .entry)) (now (out .entry))) ⌝ }
 {
-    on_two(Operation::Quotient, a_order, a, w_order, w, out)
+    surfaces::on_two(Operation::Quotient, a_order, a, w_order, w, out)
 }
 
 // The derivative of order n of the surface a along the curve c in its parameters, which is zero at order 0.

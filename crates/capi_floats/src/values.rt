@@ -1,5 +1,5 @@
-// Single floats, vectors and matrices. A vector is a list of three floats; a matrix of two rows (a b; c d) is a b c d; one of three columns is
-// its columns in turn.
+// Single floats, vectors and matrices. A vector is a list of three floats, or of two where that is said; a matrix of two rows (a b; c d) is
+// a b c d; one of three columns is its columns in turn.
 ghost use mathlib.Core.Path.{_≡_};
 ghost use mathlib.Core.Bool.{_&&_};
 ghost use mathlib.Core.List.{List};
@@ -7,78 +7,21 @@ ghost use Prim.Native.Nat.{ℕ};
 ghost use lib.ListN.{length};
 ghost use lib.Ieee.{Float};
 ghost use lib.Ieee.Scale.{finite};
-ghost use Rattle.ieee.specs.Answer.{realFrom, rootAnswer};
-ghost use Rattle.vectors.specs.Vectors.{sum, difference, multiple, dot, cross, magnitude};
-ghost use Rattle.vectors.specs.Matrices.{determinant2, determinant3, image3};
-ghost use Rattle.vectors.specs.Answers.{finiteVector, finiteMatrix2, finiteMatrix3, vectorFrom, quotientFrom, inverseAnswer2, inverseAnswer3};
+ghost use Rattle.vectors.specs.Answers.{realFrom, rootAnswer, vector2From, vectorFrom, quotientFrom, inverseAnswer2, inverseAnswer3};
+ghost use Rattle.ieee_vectors.specs.Vectors.{sum, difference, multiple, dot, cross, magnitude};
+ghost use Rattle.ieee_vectors.specs.Matrices.{determinant2, determinant3, image2, image3};
+ghost use Rattle.ieee_vectors.specs.Finite.{finiteVector2, finiteVector, finiteMatrix2, finiteMatrix3};
 ghost use Rattle.given.specs.Given.{countGiven};
-ghost use Rattle.given.specs.Lists.{admitted};
-ghost use Rattle.capi_floats.specs.Delivery.{deliverFloat};
-ghost use Rattle.capi_floats.specs.Values.{aVector, aMatrix2, aMatrix3, toMatrix2, toMatrix3};
-ghost use Rattle.given.specs.Lists.{onTwo, onOne};
-ghost use Rattle.capi_floats.specs.Lists.{toFloat, toVector};
-ghost use Rattle.capi_floats.specs.Operations.{vectorOperation, scalarOperation};
-use crate::deliver;
-use crate::operations::ScalarOperation;
-use crate::operations::VectorOperation;
-use crate::read;
+ghost use Rattle.given.specs.Lists.{admitted, onTwo, onOne};
+ghost use Rattle.float_lists.specs.Delivery.{deliverFloat};
+ghost use Rattle.float_lists.specs.Values.{aVector2, aVector, aMatrix2, aMatrix3, toVector2, toMatrix2, toMatrix3};
+ghost use Rattle.float_lists.specs.Lists.{toFloat, toVector};
+use float_lists::deliver;
+use float_lists::operations::ScalarOperation;
+use float_lists::operations::VectorOperation;
+use float_lists::read;
+use float_lists::values;
 use given::Shape;
-use vectors::Vector3;
-use vectors::VectorAnswer;
-use vectors::answers;
-
-fn work(op: VectorOperation, a: Vector3, b: Vector3) -> VectorAnswer
-    ensures { λ r. ⌜ r ≡ vectorOperation op a b ⌝ }
-{
-    match op {
-        VectorOperation::Sum => answers::vector_sum(a, b),
-        VectorOperation::Difference => answers::vector_difference(a, b),
-        VectorOperation::Cross => answers::vector_cross(a, b),
-    }
-}
-
-fn work_scalar(op: ScalarOperation, a: Vector3, s: f64) -> VectorAnswer
-    ensures { λ r. ⌜ r ≡ scalarOperation op s a ⌝ }
-{
-    match op {
-        ScalarOperation::Multiple => answers::vector_multiple(a, s),
-        ScalarOperation::Quotient => answers::vector_quotient(a, s),
-    }
-}
-
-fn on_vectors(op: VectorOperation, a: &[f64], b: &[f64], out: &mut [f64]) -> u8
-    ensures { λ r. ⌜ _≡_ {A = ℕ × List Float} (r, now (out .exit)) (onTwo aVector aVector toVector (vectorOperation op) 0 (now (a .entry)) 0 (now (b .entry)) (now (out .entry))) ⌝ }
-{
-    let t = given::two(
-        Shape::Vector,
-        0,
-        a.len(),
-        Shape::Vector,
-        0,
-        b.len(),
-        Shape::Vector,
-        out.len(),
-    );
-    if t != 0 {
-        return t;
-    }
-    let x = read::vector(a, 0);
-    let y = read::vector(b, 0);
-    let r = work(op, x, y);
-    deliver::vector(r, out)
-}
-
-fn on_scalar(op: ScalarOperation, a: &[f64], s: f64, out: &mut [f64]) -> u8
-    ensures { λ r. ⌜ _≡_ {A = ℕ × List Float} (r, now (out .exit)) (onOne aVector toVector 0 (scalarOperation op s) 0 (now (a .entry)) (now (out .entry))) ⌝ }
-{
-    let t = given::one(Shape::Vector, 0, a.len(), Shape::Vector, 0, out.len());
-    if t != 0 {
-        return t;
-    }
-    let x = read::vector(a, 0);
-    let r = work_scalar(op, x, s);
-    deliver::vector(r, out)
-}
 
 // 10 for the root of a negative number.
 #[no_mangle]
@@ -89,7 +32,7 @@ pub extern "C" fn sugamdely_square_root(x: f64, out: &mut [f64]) -> u8
     if t != 0 {
         return t;
     }
-    let r = ieee::square_root(x);
+    let r = vectors::square_root(x);
     deliver::float(r, out)
 }
 
@@ -97,35 +40,35 @@ pub extern "C" fn sugamdely_square_root(x: f64, out: &mut [f64]) -> u8
 pub extern "C" fn sugamdely_vector_sum(a: &[f64], b: &[f64], out: &mut [f64]) -> u8
     ensures { λ r. ⌜ _≡_ {A = ℕ × List Float} (r, now (out .exit)) (onTwo aVector aVector toVector (λ x y. vectorFrom (finiteVector x && finiteVector y) (sum x y)) 0 (now (a .entry)) 0 (now (b .entry)) (now (out .entry))) ⌝ }
 {
-    on_vectors(VectorOperation::Sum, a, b, out)
+    values::on_vectors(VectorOperation::Sum, a, b, out)
 }
 
 #[no_mangle]
 pub extern "C" fn sugamdely_vector_difference(a: &[f64], b: &[f64], out: &mut [f64]) -> u8
     ensures { λ r. ⌜ _≡_ {A = ℕ × List Float} (r, now (out .exit)) (onTwo aVector aVector toVector (λ x y. vectorFrom (finiteVector x && finiteVector y) (difference x y)) 0 (now (a .entry)) 0 (now (b .entry)) (now (out .entry))) ⌝ }
 {
-    on_vectors(VectorOperation::Difference, a, b, out)
+    values::on_vectors(VectorOperation::Difference, a, b, out)
 }
 
 #[no_mangle]
 pub extern "C" fn sugamdely_vector_multiple(a: &[f64], s: f64, out: &mut [f64]) -> u8
     ensures { λ r. ⌜ _≡_ {A = ℕ × List Float} (r, now (out .exit)) (onOne aVector toVector 0 (λ x. vectorFrom (finiteVector x && finite s) (multiple x s)) 0 (now (a .entry)) (now (out .entry))) ⌝ }
 {
-    on_scalar(ScalarOperation::Multiple, a, s, out)
+    values::on_scalar(ScalarOperation::Multiple, a, s, out)
 }
 
 #[no_mangle]
 pub extern "C" fn sugamdely_vector_quotient(a: &[f64], s: f64, out: &mut [f64]) -> u8
     ensures { λ r. ⌜ _≡_ {A = ℕ × List Float} (r, now (out .exit)) (onOne aVector toVector 0 (λ x. quotientFrom (finiteVector x && finite s) x s) 0 (now (a .entry)) (now (out .entry))) ⌝ }
 {
-    on_scalar(ScalarOperation::Quotient, a, s, out)
+    values::on_scalar(ScalarOperation::Quotient, a, s, out)
 }
 
 #[no_mangle]
 pub extern "C" fn sugamdely_vector_cross(a: &[f64], b: &[f64], out: &mut [f64]) -> u8
     ensures { λ r. ⌜ _≡_ {A = ℕ × List Float} (r, now (out .exit)) (onTwo aVector aVector toVector (λ x y. vectorFrom (finiteVector x && finiteVector y) (cross x y)) 0 (now (a .entry)) 0 (now (b .entry)) (now (out .entry))) ⌝ }
 {
-    on_vectors(VectorOperation::Cross, a, b, out)
+    values::on_vectors(VectorOperation::Cross, a, b, out)
 }
 
 #[no_mangle]
@@ -147,7 +90,7 @@ pub extern "C" fn sugamdely_vector_dot(a: &[f64], b: &[f64], out: &mut [f64]) ->
     }
     let x = read::vector(a, 0);
     let y = read::vector(b, 0);
-    let r = answers::vector_dot(x, y);
+    let r = vectors::vector_dot(x, y);
     deliver::float(r, out)
 }
 
@@ -160,7 +103,7 @@ pub extern "C" fn sugamdely_vector_magnitude(a: &[f64], out: &mut [f64]) -> u8
         return t;
     }
     let x = read::vector(a, 0);
-    let r = answers::vector_magnitude(x);
+    let r = vectors::vector_magnitude(x);
     deliver::float(r, out)
 }
 
@@ -173,7 +116,7 @@ pub extern "C" fn sugamdely_matrix2_determinant(m: &[f64], out: &mut [f64]) -> u
         return t;
     }
     let x = read::matrix2(m);
-    let r = answers::matrix2_determinant(x);
+    let r = vectors::matrix2_determinant(x);
     deliver::float(r, out)
 }
 
@@ -186,8 +129,32 @@ pub extern "C" fn sugamdely_matrix2_inverse(m: &[f64], out: &mut [f64]) -> u8
         return t;
     }
     let x = read::matrix2(m);
-    let r = answers::matrix2_inverse(x);
+    let r = vectors::matrix2_inverse(x);
     deliver::matrix2(r, out)
+}
+
+// The image of the vector v, of two floats.
+#[no_mangle]
+pub extern "C" fn sugamdely_matrix2_image(m: &[f64], v: &[f64], out: &mut [f64]) -> u8
+    ensures { λ r. ⌜ _≡_ {A = ℕ × List Float} (r, now (out .exit)) (onTwo aMatrix2 aVector2 toVector2 (λ x y. vector2From (finiteMatrix2 x && finiteVector2 y) (image2 x y)) 0 (now (m .entry)) 0 (now (v .entry)) (now (out .entry))) ⌝ }
+{
+    let t = given::two(
+        Shape::Matrix2,
+        0,
+        m.len(),
+        Shape::Vector2,
+        0,
+        v.len(),
+        Shape::Vector2,
+        out.len(),
+    );
+    if t != 0 {
+        return t;
+    }
+    let x = read::matrix2(m);
+    let y = read::vector2(v);
+    let r = vectors::matrix2_image(x, y);
+    deliver::vector2(r, out)
 }
 
 #[no_mangle]
@@ -199,7 +166,7 @@ pub extern "C" fn sugamdely_matrix3_determinant(m: &[f64], out: &mut [f64]) -> u
         return t;
     }
     let x = read::matrix3(m);
-    let r = answers::matrix3_determinant(x);
+    let r = vectors::matrix3_determinant(x);
     deliver::float(r, out)
 }
 
@@ -212,7 +179,7 @@ pub extern "C" fn sugamdely_matrix3_inverse(m: &[f64], out: &mut [f64]) -> u8
         return t;
     }
     let x = read::matrix3(m);
-    let r = answers::matrix3_inverse(x);
+    let r = vectors::matrix3_inverse(x);
     deliver::matrix3(r, out)
 }
 
@@ -236,6 +203,6 @@ pub extern "C" fn sugamdely_matrix3_image(m: &[f64], v: &[f64], out: &mut [f64])
     }
     let x = read::matrix3(m);
     let y = read::vector(v, 0);
-    let r = answers::matrix3_image(x, y);
+    let r = vectors::matrix3_image(x, y);
     deliver::vector(r, out)
 }

@@ -1,2 +1,2 @@
 pub mod Lists
-pub mod VectorOperations
+pub mod Inner

@@ -7,7 +7,7 @@ use Rattle.derivatives.specs.declared.VectorSurfaceAnswer.{VectorSurfaceAnswer}
 use Rattle.derivatives.specs.Lists.{vectorCurveOfList, vectorSurfaceOfList}
 use Rattle.given.specs.Given.{vectorCurveGiven, vectorSurfaceGiven}
 use Rattle.given.specs.Lists.{Input, Output}
-use Rattle.capi_floats.specs.Delivery.{deliverVectorCurve, deliverVectorSurface}
+use Rattle.float_lists.specs.Delivery.{deliverVectorCurve, deliverVectorSurface}
 
 abbrev pub vectorCurve : Input Float VectorCurveDerivatives
 vectorCurve = record { given = vectorCurveGiven; jet = vectorCurveOfList }

@@ -41,6 +41,7 @@ vectorSurfaceGiven = listGiven (λ n. 3 * triangle (suc n))
 -- a list of l numbers for what it holds: a single value, whatever the order, or a jet of the order n
 abbrev pub shapeGiven : Shape → ℕ → ℕ → ℕ
 shapeGiven shape.Number n = countGiven 1
+shapeGiven shape.Vector2 n = countGiven 2
 shapeGiven shape.Vector n = countGiven 3
 shapeGiven shape.Matrix2 n = countGiven 4
 shapeGiven shape.Matrix3 n = countGiven 9

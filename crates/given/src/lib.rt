@@ -99,6 +99,7 @@ pub fn vector_surface(n: usize, l: usize) -> u8
 // What a list holds: a single value, or a jet.
 pub enum Shape {
     Number,
+    Vector2,
     Vector,
     Matrix2,
     Matrix3,
@@ -115,6 +116,7 @@ pub fn list(s: Shape, n: usize, l: usize) -> u8
 {
     match s {
         Shape::Number => count(1, l),
+        Shape::Vector2 => count(2, l),
         Shape::Vector => count(3, l),
         Shape::Matrix2 => count(4, l),
         Shape::Matrix3 => count(9, l),

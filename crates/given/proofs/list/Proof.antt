@@ -33,29 +33,35 @@ count-requires-4 c κs = search needs
 enum-told-5 : tie.Need-enum-told-5
 enum-told-5 c = search needs
 
-curve-requires : tie.Need-curve-requires
-curve-requires c κs = search needs
+count-requires-5 : tie.Need-count-requires-5
+count-requires-5 c κs = search needs
 
 enum-told-6 : tie.Need-enum-told-6
 enum-told-6 c = search needs
 
-surface-requires : tie.Need-surface-requires
-surface-requires c κs = search needs
+curve-requires : tie.Need-curve-requires
+curve-requires c κs = search needs
 
 enum-told-7 : tie.Need-enum-told-7
 enum-told-7 c = search needs
 
-parameter-requires : tie.Need-parameter-requires
-parameter-requires c κs = search needs
+surface-requires : tie.Need-surface-requires
+surface-requires c κs = search needs
 
 enum-told-8 : tie.Need-enum-told-8
 enum-told-8 c = search needs
 
-vector-curve-requires : tie.Need-vector-curve-requires
-vector-curve-requires c κs = search needs
+parameter-requires : tie.Need-parameter-requires
+parameter-requires c κs = search needs
 
 enum-told-9 : tie.Need-enum-told-9
 enum-told-9 c = search needs
+
+vector-curve-requires : tie.Need-vector-curve-requires
+vector-curve-requires c κs = search needs
+
+enum-told-10 : tie.Need-enum-told-10
+enum-told-10 c = search needs
 
 vector-surface-requires : tie.Need-vector-surface-requires
 vector-surface-requires c κs = search needs
@@ -78,23 +84,27 @@ returns-4 c = let s = c .before .before .before .args in
 
 returns-5 : tie.Need-returns-5
 returns-5 c = let s = c .before .before .before .args in
-    c .curve .ensures ∙ sym (ap (λ (h : Shape). shapeGiven h (s .n) (s .l)) (c .before .enum-told5 .given .1))
+    c .count5 .ensures ∙ sym (ap (λ (h : Shape). shapeGiven h (s .n) (s .l)) (c .before .enum-told5 .given .1))
 
 returns-6 : tie.Need-returns-6
 returns-6 c = let s = c .before .before .before .args in
-    c .surface .ensures ∙ sym (ap (λ (h : Shape). shapeGiven h (s .n) (s .l)) (c .before .enum-told6 .given .1))
+    c .curve .ensures ∙ sym (ap (λ (h : Shape). shapeGiven h (s .n) (s .l)) (c .before .enum-told6 .given .1))
 
 returns-7 : tie.Need-returns-7
 returns-7 c = let s = c .before .before .before .args in
-    c .parameter .ensures ∙ sym (ap (λ (h : Shape). shapeGiven h (s .n) (s .l)) (c .before .enum-told7 .given .1))
+    c .surface .ensures ∙ sym (ap (λ (h : Shape). shapeGiven h (s .n) (s .l)) (c .before .enum-told7 .given .1))
 
 returns-8 : tie.Need-returns-8
 returns-8 c = let s = c .before .before .before .args in
-    c .vector-curve .ensures ∙ sym (ap (λ (h : Shape). shapeGiven h (s .n) (s .l)) (c .before .enum-told8 .given .1))
+    c .parameter .ensures ∙ sym (ap (λ (h : Shape). shapeGiven h (s .n) (s .l)) (c .before .enum-told8 .given .1))
 
 returns-9 : tie.Need-returns-9
 returns-9 c = let s = c .before .before .before .args in
-    c .vector-surface .ensures ∙ sym (ap (λ (h : Shape). shapeGiven h (s .n) (s .l)) (c .before .enum-told9 .given .1))
+    c .vector-curve .ensures ∙ sym (ap (λ (h : Shape). shapeGiven h (s .n) (s .l)) (c .before .enum-told9 .given .1))
+
+returns-10 : tie.Need-returns-10
+returns-10 c = let s = c .before .before .before .args in
+    c .vector-surface .ensures ∙ sym (ap (λ (h : Shape). shapeGiven h (s .n) (s .l)) (c .before .enum-told10 .given .1))
 
 pub list-spec : {M : Type 1} → statement M
-list-spec = tie.close (tie.spec enum-told count-requires enum-told-2 count-requires-2 enum-told-3 count-requires-3 enum-told-4 count-requires-4 enum-told-5 curve-requires enum-told-6 surface-requires enum-told-7 parameter-requires enum-told-8 vector-curve-requires enum-told-9 vector-surface-requires returns returns-2 returns-3 returns-4 returns-5 returns-6 returns-7 returns-8 returns-9)
+list-spec = tie.close (tie.spec enum-told count-requires enum-told-2 count-requires-2 enum-told-3 count-requires-3 enum-told-4 count-requires-4 enum-told-5 count-requires-5 enum-told-6 curve-requires enum-told-7 surface-requires enum-told-8 parameter-requires enum-told-9 vector-curve-requires enum-told-10 vector-surface-requires returns returns-2 returns-3 returns-4 returns-5 returns-6 returns-7 returns-8 returns-9 returns-10)

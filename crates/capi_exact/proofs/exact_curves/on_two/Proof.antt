@@ -4,7 +4,7 @@ use denote.Ref.{now}
 use Rattle.exact.specs.declared.CurveAnswer.{CurveAnswer}
 use Rattle.roads.specs.Roads.{curves as kind}
 use Rattle.given.proofs.Admission.{two-refused, two-worked}
-use Rattle.capi_exact.specs.Lists.{curve, toCurve}
+use Rattle.exact_lists.specs.Lists.{curve, toCurve}
 use borrow.Author.Needs.{needs}
 use Rattle.capi_exact.proofs.exact_curves.on_two.Statement.{statement}
 use Rattle.capi_exact.proofs.exact_curves.on_two.Tie as tie

@@ -2,11 +2,11 @@
 use mathlib.Core.Path.{ap}
 use denote.Ref.{now}
 use Rattle.calculus.specs.Curve.{product}
-use Rattle.exact.specs.Kinds.{checked}
+use Rattle.exact_formulas.specs.Kinds.{checked}
 use Rattle.exact.specs.Answer.{onCurvesAt}
 use Rattle.exact.specs.declared.CurveAnswer.{CurveAnswer}
 use Rattle.given.proofs.Admission.{asked-at, two-refused-at, two-worked-at}
-use Rattle.capi_exact.specs.Lists.{curve, toWhole}
+use Rattle.exact_lists.specs.Lists.{curve, toWhole}
 use borrow.Author.Needs.{needs}
 use Rattle.capi_exact.proofs.exact_curves.sugamdely_exact_curve_combinatorial_derivative.Statement.{statement}
 use Rattle.capi_exact.proofs.exact_curves.sugamdely_exact_curve_combinatorial_derivative.Tie as tie

@@ -5,7 +5,7 @@ use denote.Ref.{now}
 use Rattle.exact.specs.Answer.{curveDerivative}
 use Rattle.exact.specs.declared.CurveAnswer.{CurveAnswer}
 use Rattle.given.proofs.Admission.{one-refused, one-worked}
-use Rattle.capi_exact.specs.Lists.{curve, toCurve}
+use Rattle.exact_lists.specs.Lists.{curve, toCurve}
 use borrow.Author.Needs.{needs}
 use Rattle.capi_exact.proofs.exact_curves.sugamdely_exact_curve_derivative.Statement.{statement}
 use Rattle.capi_exact.proofs.exact_curves.sugamdely_exact_curve_derivative.Tie as tie

@@ -6,7 +6,7 @@ use Rattle.calculus.specs.Surface.{derivativeBy}
 use Rattle.exact.specs.Answer.{surfaceDerivative}
 use Rattle.exact.specs.declared.SurfaceAnswer.{SurfaceAnswer}
 use Rattle.given.proofs.Admission.{one-refused, one-worked}
-use Rattle.capi_exact.specs.Lists.{surface, toSurface}
+use Rattle.exact_lists.specs.Lists.{surface, toSurface}
 use borrow.Author.Needs.{needs}
 use Rattle.capi_exact.proofs.exact_surfaces.derivative.Statement.{statement}
 use Rattle.capi_exact.proofs.exact_surfaces.derivative.Tie as tie

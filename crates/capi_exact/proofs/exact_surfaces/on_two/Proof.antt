@@ -4,7 +4,7 @@ use denote.Ref.{now}
 use Rattle.exact.specs.declared.SurfaceAnswer.{SurfaceAnswer}
 use Rattle.roads.specs.Roads.{surfaces as kind}
 use Rattle.given.proofs.Admission.{two-refused, two-worked}
-use Rattle.capi_exact.specs.Lists.{surface, toSurface}
+use Rattle.exact_lists.specs.Lists.{surface, toSurface}
 use borrow.Author.Needs.{needs}
 use Rattle.capi_exact.proofs.exact_surfaces.on_two.Statement.{statement}
 use Rattle.capi_exact.proofs.exact_surfaces.on_two.Tie as tie

@@ -3,11 +3,11 @@ use mathlib.Core.Path.{ap}
 use Prim.Native.Nat.{_+_}
 use denote.Ref.{now}
 use Rattle.calculus.specs.Surface.{product}
-use Rattle.exact.specs.Kinds.{checked}
+use Rattle.exact_formulas.specs.Kinds.{checked}
 use Rattle.exact.specs.Answer.{onSurfacesAt}
 use Rattle.exact.specs.declared.SurfaceAnswer.{SurfaceAnswer}
 use Rattle.given.proofs.Admission.{asked-at, two-refused-at, two-worked-at}
-use Rattle.capi_exact.specs.Lists.{surface, toWhole}
+use Rattle.exact_lists.specs.Lists.{surface, toWhole}
 use borrow.Author.Needs.{needs}
 use Rattle.capi_exact.proofs.exact_surfaces.sugamdely_exact_surface_combinatorial_derivative.Statement.{statement}
 use Rattle.capi_exact.proofs.exact_surfaces.sugamdely_exact_surface_combinatorial_derivative.Tie as tie

@@ -3,7 +3,7 @@ use mathlib.Core.Path.{_∙_}
 use denote.Ref.{now}
 use borrow.Author.Needs.{needs}
 use Rattle.whole.specs.Checked.{divided}
-use Rattle.capi_exact.proofs.Numbers.{on-passed}
+use Rattle.exact_lists.proofs.Numbers.{on-passed}
 use Rattle.capi_exact.proofs.whole_numbers.sugamdely_whole_quotient.Statement.{statement}
 use Rattle.capi_exact.proofs.whole_numbers.sugamdely_whole_quotient.Tie as tie
 

@@ -5,8 +5,9 @@ use Rattle.vectors.specs.declared.VectorAnswer.{VectorAnswer}
 use Rattle.rolling_ball_fillet.specs.declared.CenterContactDers.{CenterContactDers}
 use Rattle.rolling_ball_fillet.specs.declared.VderInfo.{VderInfo}
 use Rattle.given.specs.Given.{first}
-use Rattle.capi_floats.specs.Delivery.{deliverVector}
-use Rattle.capi_fillet.specs.Fillet.{dersOf, infoOf, partialBy, partialInto}
+use Rattle.float_lists.specs.Delivery.{deliverVector}
+use Rattle.fillet_lists.specs.Records.{dersOf, infoOf}
+use Rattle.capi_fillet.specs.Fillet.{partialBy, partialInto}
 use Rattle.given.proofs.Admission.{refused, allowed}
 use borrow.Author.Needs.{needs}
 use Rattle.capi_fillet.proofs.fillet.on_info.Statement.{statement}

@@ -1,12 +1,13 @@
 -- `capi_fillet::fillet::sugamdely_contact_circle_derivative_n` meets its contract. Assumes nothing.
 use mathlib.Core.Path.{ap, _∙_}
 use denote.Ref.{now}
-use Rattle.vectors.specs.Answers.{nought}
+use Rattle.ieee_vectors.specs.Vectors.{positiveZero}
 use Rattle.vectors.specs.declared.VectorAnswer.{VectorAnswer}
 use Rattle.rolling_ball_fillet.specs.declared.ContactCircle.{ContactCircle}
 use Rattle.rolling_ball_fillet.specs.Answers.{derivativeAnswer}
-use Rattle.capi_floats.specs.Delivery.{deliverVector}
-use Rattle.capi_fillet.specs.Fillet.{circleOf, circleInto}
+use Rattle.float_lists.specs.Delivery.{deliverVector}
+use Rattle.fillet_lists.specs.Records.{circleOf}
+use Rattle.capi_fillet.specs.Fillet.{circleInto}
 use Rattle.given.proofs.Admission.{refused, allowed}
 use borrow.Author.Needs.{needs}
 use Rattle.capi_fillet.proofs.fillet.sugamdely_contact_circle_derivative_n.Statement.{statement}
@@ -18,7 +19,7 @@ given-circle-requires c κs = search needs
 returns : tie.Need-returns
 unfolding circleInto
 returns c = let s = c .before .before .before .before .args in
-    refused (now (s .out)) (c .before .given-circle .ensures) (deliverVector (derivativeAnswer (circleOf (now (s .circle)) nought nought nought nought) (s .n) (s .s) (s .c)) (now (s .out))) (c .if1 .taken)
+    refused (now (s .out)) (c .before .given-circle .ensures) (deliverVector (derivativeAnswer (circleOf (now (s .circle)) positiveZero positiveZero positiveZero positiveZero) (s .n) (s .s) (s .c)) (now (s .out))) (c .if1 .taken)
 
 circle-requires : tie.Need-circle-requires
 circle-requires c κs = search needs

@@ -1,11 +1,11 @@
 -- `capi_fillet::fillet::sugamdely_rot_der_n` meets its contract. Assumes nothing.
 use mathlib.Core.Path.{ap, _∙_}
 use denote.Ref.{now}
-use Rattle.vectors.specs.declared.Vector3.{Vector3}
+use Rattle.ieee_vectors.specs.declared.Vector3.{Vector3}
 use Rattle.vectors.specs.declared.Matrix3Answer.{Matrix3Answer}
 use Rattle.rolling_ball_fillet.specs.Answers.{rotationAnswer}
-use Rattle.capi_floats.specs.Delivery.{deliverMatrix3}
-use Rattle.capi_floats.specs.Values.{vectorAt}
+use Rattle.float_lists.specs.Delivery.{deliverMatrix3}
+use Rattle.float_lists.specs.Values.{vectorAt}
 use Rattle.capi_fillet.specs.Fillet.{rotationInto}
 use Rattle.given.proofs.Admission.{refused, allowed}
 use borrow.Author.Needs.{needs}

@@ -6,7 +6,9 @@ use Rattle.rolling_ball_fillet.specs.declared.CenterContactAnswer.{CenterContac
 use Rattle.rolling_ball_fillet.specs.declared.RollingBallFilletSurface.{RollingBallFilletSurface}
 use Rattle.rolling_ball_fillet.specs.Center.{centerContactAnswer}
 use Rattle.given.specs.Given.{first}
-use Rattle.capi_fillet.specs.Fillet.{Five, circleWith, filletOf, deliverContacts, contactsInto}
+use Rattle.fillet_lists.specs.Delivery.{Five, deliverContacts}
+use Rattle.fillet_lists.specs.Records.{circleWith, filletOf}
+use Rattle.capi_fillet.specs.Fillet.{contactsInto}
 use Rattle.given.proofs.Admission.{refused, allowed}
 use borrow.Author.Needs.{needs}
 use Rattle.capi_fillet.proofs.fillet.sugamdely_sub_center_contacts_ders.Statement.{statement}

@@ -6,8 +6,9 @@ use Rattle.rolling_ball_fillet.specs.declared.ContactCircle.{ContactCircle}
 use Rattle.rolling_ball_fillet.specs.declared.RollingBallFilletSurface.{RollingBallFilletSurface}
 use Rattle.rolling_ball_fillet.specs.SubDer.{subDerMn}
 use Rattle.given.specs.Given.{first}
-use Rattle.capi_floats.specs.Delivery.{deliverVector}
-use Rattle.capi_fillet.specs.Fillet.{circleWith, filletOf, subDerInto}
+use Rattle.float_lists.specs.Delivery.{deliverVector}
+use Rattle.fillet_lists.specs.Records.{circleWith, filletOf}
+use Rattle.capi_fillet.specs.Fillet.{subDerInto}
 use Rattle.given.proofs.Admission.{refused, allowed}
 use borrow.Author.Needs.{needs}
 use Rattle.capi_fillet.proofs.fillet.sugamdely_sub_der_mn.Statement.{statement}

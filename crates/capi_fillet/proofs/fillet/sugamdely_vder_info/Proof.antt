@@ -7,7 +7,9 @@ use Rattle.rolling_ball_fillet.specs.declared.CenterContactDers.{CenterContactD
 use Rattle.rolling_ball_fillet.specs.declared.VderInfoAnswer.{VderInfoAnswer}
 use Rattle.rolling_ball_fillet.specs.PartialAnswer.{vderInfoAnswer}
 use Rattle.given.specs.Given.{first}
-use Rattle.capi_fillet.specs.Fillet.{Three, dersOf, deliverInfo, vderInfoInto}
+use Rattle.fillet_lists.specs.Delivery.{Three, deliverInfo}
+use Rattle.fillet_lists.specs.Records.{dersOf}
+use Rattle.capi_fillet.specs.Fillet.{vderInfoInto}
 use Rattle.given.proofs.Admission.{refused, allowed}
 use borrow.Author.Needs.{needs}
 use Rattle.capi_fillet.proofs.fillet.sugamdely_vder_info.Statement.{statement}

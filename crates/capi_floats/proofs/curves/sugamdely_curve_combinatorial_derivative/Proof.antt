@@ -1,9 +1,9 @@
 -- `capi_floats::curves::sugamdely_curve_combinatorial_derivative` meets its contract. Assumes nothing.
 use denote.Ref.{now}
 use Rattle.calculus.specs.Curve.{product}
-use Rattle.derivatives.specs.Real.{real}
+use Rattle.formulas.specs.Real.{real}
 use Rattle.derivatives.specs.Answer.{onCurvesAt}
-use Rattle.capi_floats.specs.Lists.{curve, toFloat}
+use Rattle.float_lists.specs.Lists.{curve, toFloat}
 use Rattle.given.proofs.Admission.{asked-at, two-refused-at, two-worked-at}
 use borrow.Author.Needs.{needs}
 use Rattle.capi_floats.proofs.curves.sugamdely_curve_combinatorial_derivative.Statement.{statement}

@@ -2,7 +2,7 @@
 use denote.Ref.{now}
 use Prim.Native.Nat.{_-_}
 use Rattle.derivatives.specs.Answer.{curveDerivative}
-use Rattle.capi_floats.specs.Lists.{curve, toCurve}
+use Rattle.float_lists.specs.Lists.{curve, toCurve}
 use Rattle.given.proofs.Admission.{one-refused, one-worked}
 use borrow.Author.Needs.{needs}
 use Rattle.capi_floats.proofs.curves.sugamdely_curve_derivative.Statement.{statement}

@@ -1,7 +1,7 @@
 -- `capi_floats::surfaces::sugamdely_composite_derivative` meets its contract. Assumes nothing.
 use denote.Ref.{now}
 use Rattle.derivatives.specs.Composite.{alongCurveAt}
-use Rattle.capi_floats.specs.Lists.{surface, parameter, toFloat}
+use Rattle.float_lists.specs.Lists.{surface, parameter, toFloat}
 use Rattle.given.proofs.Admission.{asked-at, two-refused-at, two-worked-at}
 use borrow.Author.Needs.{needs}
 use Rattle.capi_floats.proofs.surfaces.sugamdely_composite_derivative.Statement.{statement}

@@ -2,9 +2,9 @@
 use denote.Ref.{now}
 use Prim.Native.Nat.{_+_}
 use Rattle.calculus.specs.Surface.{product}
-use Rattle.derivatives.specs.Real.{real}
+use Rattle.formulas.specs.Real.{real}
 use Rattle.derivatives.specs.Answer.{onSurfacesAt}
-use Rattle.capi_floats.specs.Lists.{surface, toFloat}
+use Rattle.float_lists.specs.Lists.{surface, toFloat}
 use Rattle.given.proofs.Admission.{asked-at, two-refused-at, two-worked-at}
 use borrow.Author.Needs.{needs}
 use Rattle.capi_floats.proofs.surfaces.sugamdely_surface_combinatorial_derivative.Statement.{statement}

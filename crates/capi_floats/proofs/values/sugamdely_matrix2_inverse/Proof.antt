@@ -1,7 +1,7 @@
 -- `capi_floats::values::sugamdely_matrix2_inverse` meets its contract. Assumes nothing.
 use denote.Ref.{now}
 use Rattle.vectors.specs.Answers.{inverseAnswer2}
-use Rattle.capi_floats.specs.Values.{aMatrix2, toMatrix2}
+use Rattle.float_lists.specs.Values.{aMatrix2, toMatrix2}
 use Rattle.given.proofs.Admission.{one-refused, one-worked}
 use borrow.Author.Needs.{needs}
 use Rattle.capi_floats.proofs.values.sugamdely_matrix2_inverse.Statement.{statement}

@@ -1,10 +1,11 @@
 -- `capi_floats::values::sugamdely_matrix3_image` meets its contract. Assumes nothing.
 use denote.Ref.{now}
 use mathlib.Core.Bool.{_&&_}
-use Rattle.vectors.specs.Matrices.{image3}
-use Rattle.vectors.specs.Answers.{finiteVector, finiteMatrix3, vectorFrom}
-use Rattle.capi_floats.specs.Lists.{toVector}
-use Rattle.capi_floats.specs.Values.{aVector, aMatrix3}
+use Rattle.ieee_vectors.specs.Matrices.{image3}
+use Rattle.ieee_vectors.specs.Finite.{finiteVector, finiteMatrix3}
+use Rattle.vectors.specs.Answers.{vectorFrom}
+use Rattle.float_lists.specs.Lists.{toVector}
+use Rattle.float_lists.specs.Values.{aVector, aMatrix3}
 use Rattle.given.proofs.Admission.{two-refused, two-worked}
 use borrow.Author.Needs.{needs}
 use Rattle.capi_floats.proofs.values.sugamdely_matrix3_image.Statement.{statement}

@@ -1,7 +1,7 @@
 -- `capi_floats::values::sugamdely_matrix3_inverse` meets its contract. Assumes nothing.
 use denote.Ref.{now}
 use Rattle.vectors.specs.Answers.{inverseAnswer3}
-use Rattle.capi_floats.specs.Values.{aMatrix3, toMatrix3}
+use Rattle.float_lists.specs.Values.{aMatrix3, toMatrix3}
 use Rattle.given.proofs.Admission.{one-refused, one-worked}
 use borrow.Author.Needs.{needs}
 use Rattle.capi_floats.proofs.values.sugamdely_matrix3_inverse.Statement.{statement}

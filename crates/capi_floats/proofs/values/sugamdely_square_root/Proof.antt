@@ -1,9 +1,9 @@
 -- `capi_floats::values::sugamdely_square_root` meets its contract. Assumes nothing.
 use mathlib.Core.Path.{ap, _∙_}
 use denote.Ref.{now}
-use Rattle.ieee.specs.declared.Real.{Real}
-use Rattle.ieee.specs.Answer.{rootAnswer}
-use Rattle.capi_floats.specs.Delivery.{deliverFloat}
+use Rattle.vectors.specs.declared.Real.{Real}
+use Rattle.vectors.specs.Answers.{rootAnswer}
+use Rattle.float_lists.specs.Delivery.{deliverFloat}
 use Rattle.given.proofs.Admission.{refused, allowed}
 use borrow.Author.Needs.{needs}
 use Rattle.capi_floats.proofs.values.sugamdely_square_root.Statement.{statement}

@@ -1,7 +1,7 @@
 -- `capi_vectors::vector_curves::on_two` meets its contract. Assumes nothing.
 use denote.Ref.{now}
 use Rattle.capi_vectors.specs.Lists.{vectorCurve, toVectorCurve}
-use Rattle.capi_vectors.specs.VectorOperations.{vectorCurveOperation}
+use Rattle.capi_vectors.specs.Inner.{vectorCurveOperation}
 use Rattle.given.proofs.Admission.{two-refused, two-worked}
 use borrow.Author.Needs.{needs}
 use Rattle.capi_vectors.proofs.vector_curves.on_two.Statement.{statement}

@@ -1,8 +1,8 @@
 -- `capi_vectors::vector_curves::on_weighted` meets its contract. Assumes nothing.
 use denote.Ref.{now}
-use Rattle.capi_floats.specs.Lists.{curve}
+use Rattle.float_lists.specs.Lists.{curve}
 use Rattle.capi_vectors.specs.Lists.{vectorCurve, toVectorCurve}
-use Rattle.capi_vectors.specs.VectorOperations.{weightedCurveOperation}
+use Rattle.capi_vectors.specs.Inner.{weightedCurveOperation}
 use Rattle.given.proofs.Admission.{two-refused, two-worked}
 use borrow.Author.Needs.{needs}
 use Rattle.capi_vectors.proofs.vector_curves.on_weighted.Statement.{statement}

@@ -1,7 +1,7 @@
 -- `capi_vectors::vector_curves::sugamdely_curve_absolute_derivatives` meets its contract. Assumes nothing.
 use denote.Ref.{now}
 use Rattle.derivatives.specs.VectorAnswer.{vectorCurveAbsolute}
-use Rattle.capi_floats.specs.Lists.{toCurve}
+use Rattle.float_lists.specs.Lists.{toCurve}
 use Rattle.capi_vectors.specs.Lists.{vectorCurve}
 use Rattle.given.proofs.Admission.{one-refused, one-worked}
 use borrow.Author.Needs.{needs}

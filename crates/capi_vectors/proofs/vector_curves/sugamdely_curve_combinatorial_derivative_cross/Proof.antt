@@ -1,12 +1,12 @@
 -- `capi_vectors::vector_curves::sugamdely_curve_combinatorial_derivative_cross` meets its contract. Assumes nothing.
 use denote.Ref.{now}
 use Rattle.vectors.specs.declared.VectorAnswer.the-variants.{Refused}
-use Rattle.vectors.specs.Vectors.{cross}
+use Rattle.ieee_vectors.specs.Vectors.{cross}
 use Rattle.vectors.specs.Answers.{returnedVector}
 use Rattle.calculus.specs.Curve.{productBy}
-use Rattle.derivatives.specs.Vector.{vectors}
+use Rattle.vector_formulas.specs.Vector.{vectors}
 use Rattle.derivatives.specs.VectorAnswer.{onVectorsAt}
-use Rattle.capi_floats.specs.Lists.{toVector}
+use Rattle.float_lists.specs.Lists.{toVector}
 use Rattle.capi_vectors.specs.Lists.{vectorCurve}
 use Rattle.given.proofs.Admission.{asked-at, two-refused-at, two-worked-at}
 use borrow.Author.Needs.{needs}

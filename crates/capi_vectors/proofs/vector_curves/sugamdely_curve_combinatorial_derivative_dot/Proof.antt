@@ -1,13 +1,13 @@
 -- `capi_vectors::vector_curves::sugamdely_curve_combinatorial_derivative_dot` meets its contract. Assumes nothing.
 use denote.Ref.{now}
-use Rattle.ieee.specs.Answer.{returned}
-use Rattle.ieee.specs.declared.Real.the-variants.{Refused as RealRefused}
-use Rattle.vectors.specs.Vectors.{dot}
+use Rattle.vectors.specs.Answers.{returned}
+use Rattle.vectors.specs.declared.Real.the-variants.{Refused as RealRefused}
+use Rattle.ieee_vectors.specs.Vectors.{dot}
 use Rattle.calculus.specs.Kind.{regular}
 use Rattle.calculus.specs.Curve.{productBy}
-use Rattle.derivatives.specs.Real.{real}
+use Rattle.formulas.specs.Real.{real}
 use Rattle.derivatives.specs.VectorAnswer.{onVectorsAt}
-use Rattle.capi_floats.specs.Lists.{toFloat}
+use Rattle.float_lists.specs.Lists.{toFloat}
 use Rattle.capi_vectors.specs.Lists.{vectorCurve}
 use Rattle.given.proofs.Admission.{asked-at, two-refused-at, two-worked-at}
 use borrow.Author.Needs.{needs}

@@ -1,10 +1,10 @@
 -- `capi_vectors::vector_curves::sugamdely_curve_combinatorial_derivative_scaled` meets its contract. Assumes nothing.
 use denote.Ref.{now}
-use Rattle.vectors.specs.Vectors.{multiple}
+use Rattle.ieee_vectors.specs.Vectors.{multiple}
 use Rattle.calculus.specs.Curve.{productBy}
-use Rattle.derivatives.specs.Vector.{vectors}
+use Rattle.vector_formulas.specs.Vector.{vectors}
 use Rattle.derivatives.specs.VectorAnswer.{onWeightedAt}
-use Rattle.capi_floats.specs.Lists.{curve, toVector}
+use Rattle.float_lists.specs.Lists.{curve, toVector}
 use Rattle.capi_vectors.specs.Lists.{vectorCurve}
 use Rattle.given.proofs.Admission.{asked-at, two-refused-at, two-worked-at}
 use borrow.Author.Needs.{needs}

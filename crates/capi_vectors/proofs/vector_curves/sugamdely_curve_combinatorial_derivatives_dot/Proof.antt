@@ -1,12 +1,12 @@
 -- `capi_vectors::vector_curves::sugamdely_curve_combinatorial_derivatives_dot` meets its contract. Assumes nothing.
 use denote.Ref.{now}
-use Rattle.vectors.specs.Vectors.{dot}
+use Rattle.ieee_vectors.specs.Vectors.{dot}
 use Rattle.calculus.specs.Kind.{regular}
 use Rattle.calculus.specs.Curve.{productBy}
-use Rattle.derivatives.specs.Real.{real}
+use Rattle.formulas.specs.Real.{real}
 use Rattle.derivatives.specs.Answer.{refusedCurve}
 use Rattle.derivatives.specs.VectorAnswer.{onVectors, byNumberFormula}
-use Rattle.capi_floats.specs.Lists.{toCurve}
+use Rattle.float_lists.specs.Lists.{toCurve}
 use Rattle.capi_vectors.specs.Lists.{vectorCurve}
 use Rattle.given.proofs.Admission.{two-refused, two-worked}
 use borrow.Author.Needs.{needs}

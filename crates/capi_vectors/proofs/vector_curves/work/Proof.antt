@@ -1,7 +1,7 @@
 -- `capi_vectors::vector_curves::work` meets its contract. Assumes nothing.
 use mathlib.Core.Path.{sym, ap, _∙_}
-use Rattle.capi_floats.specs.declared.operations.VectorOperation.{VectorOperation}
-use Rattle.capi_vectors.specs.VectorOperations.{vectorCurveOperation}
+use Rattle.float_lists.specs.declared.operations.VectorOperation.{VectorOperation}
+use Rattle.capi_vectors.specs.Inner.{vectorCurveOperation}
 use borrow.Author.Needs.{needs}
 use Rattle.capi_vectors.proofs.vector_curves.work.Statement.{statement}
 use Rattle.capi_vectors.proofs.vector_curves.work.Tie as tie

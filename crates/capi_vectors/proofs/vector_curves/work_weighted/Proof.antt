@@ -1,7 +1,7 @@
 -- `capi_vectors::vector_curves::work_weighted` meets its contract. Assumes nothing.
 use mathlib.Core.Path.{sym, ap, _∙_}
-use Rattle.capi_floats.specs.declared.operations.ScalarOperation.{ScalarOperation}
-use Rattle.capi_vectors.specs.VectorOperations.{weightedCurveOperation}
+use Rattle.float_lists.specs.declared.operations.ScalarOperation.{ScalarOperation}
+use Rattle.capi_vectors.specs.Inner.{weightedCurveOperation}
 use borrow.Author.Needs.{needs}
 use Rattle.capi_vectors.proofs.vector_curves.work_weighted.Statement.{statement}
 use Rattle.capi_vectors.proofs.vector_curves.work_weighted.Tie as tie

@@ -1,7 +1,7 @@
 -- `capi_vectors::vector_surfaces::on_two` meets its contract. Assumes nothing.
 use denote.Ref.{now}
 use Rattle.capi_vectors.specs.Lists.{vectorSurface, toVectorSurface}
-use Rattle.capi_vectors.specs.VectorOperations.{vectorSurfaceOperation}
+use Rattle.capi_vectors.specs.Inner.{vectorSurfaceOperation}
 use Rattle.given.proofs.Admission.{two-refused, two-worked}
 use borrow.Author.Needs.{needs}
 use Rattle.capi_vectors.proofs.vector_surfaces.on_two.Statement.{statement}

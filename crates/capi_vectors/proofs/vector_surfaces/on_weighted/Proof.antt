@@ -1,8 +1,8 @@
 -- `capi_vectors::vector_surfaces::on_weighted` meets its contract. Assumes nothing.
 use denote.Ref.{now}
-use Rattle.capi_floats.specs.Lists.{surface}
+use Rattle.float_lists.specs.Lists.{surface}
 use Rattle.capi_vectors.specs.Lists.{vectorSurface, toVectorSurface}
-use Rattle.capi_vectors.specs.VectorOperations.{weightedSurfaceOperation}
+use Rattle.capi_vectors.specs.Inner.{weightedSurfaceOperation}
 use Rattle.given.proofs.Admission.{two-refused, two-worked}
 use borrow.Author.Needs.{needs}
 use Rattle.capi_vectors.proofs.vector_surfaces.on_weighted.Statement.{statement}

@@ -2,12 +2,12 @@
 use denote.Ref.{now}
 use Prim.Native.Nat.{_+_}
 use Rattle.vectors.specs.declared.VectorAnswer.the-variants.{Refused}
-use Rattle.vectors.specs.Vectors.{cross}
+use Rattle.ieee_vectors.specs.Vectors.{cross}
 use Rattle.vectors.specs.Answers.{returnedVector}
 use Rattle.calculus.specs.Surface.{productBy}
-use Rattle.derivatives.specs.Vector.{vectors}
+use Rattle.vector_formulas.specs.Vector.{vectors}
 use Rattle.derivatives.specs.VectorSurfaceAnswer.{onVectorSurfacesAt}
-use Rattle.capi_floats.specs.Lists.{toVector}
+use Rattle.float_lists.specs.Lists.{toVector}
 use Rattle.capi_vectors.specs.Lists.{vectorSurface}
 use Rattle.given.proofs.Admission.{asked-at, two-refused-at, two-worked-at}
 use borrow.Author.Needs.{needs}

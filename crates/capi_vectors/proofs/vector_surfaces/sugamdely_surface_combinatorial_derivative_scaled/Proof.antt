@@ -1,11 +1,11 @@
 -- `capi_vectors::vector_surfaces::sugamdely_surface_combinatorial_derivative_scaled` meets its contract. Assumes nothing.
 use denote.Ref.{now}
 use Prim.Native.Nat.{_+_}
-use Rattle.vectors.specs.Vectors.{multiple}
+use Rattle.ieee_vectors.specs.Vectors.{multiple}
 use Rattle.calculus.specs.Surface.{productBy}
-use Rattle.derivatives.specs.Vector.{vectors}
+use Rattle.vector_formulas.specs.Vector.{vectors}
 use Rattle.derivatives.specs.VectorSurfaceAnswer.{onWeightedSurfaceAt}
-use Rattle.capi_floats.specs.Lists.{surface, toVector}
+use Rattle.float_lists.specs.Lists.{surface, toVector}
 use Rattle.capi_vectors.specs.Lists.{vectorSurface}
 use Rattle.given.proofs.Admission.{asked-at, two-refused-at, two-worked-at}
 use borrow.Author.Needs.{needs}

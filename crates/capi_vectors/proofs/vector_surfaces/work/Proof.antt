@@ -1,7 +1,7 @@
 -- `capi_vectors::vector_surfaces::work` meets its contract. Assumes nothing.
 use mathlib.Core.Path.{sym, ap, _∙_}
-use Rattle.capi_floats.specs.declared.operations.VectorOperation.{VectorOperation}
-use Rattle.capi_vectors.specs.VectorOperations.{vectorSurfaceOperation}
+use Rattle.float_lists.specs.declared.operations.VectorOperation.{VectorOperation}
+use Rattle.capi_vectors.specs.Inner.{vectorSurfaceOperation}
 use borrow.Author.Needs.{needs}
 use Rattle.capi_vectors.proofs.vector_surfaces.work.Statement.{statement}
 use Rattle.capi_vectors.proofs.vector_surfaces.work.Tie as tie

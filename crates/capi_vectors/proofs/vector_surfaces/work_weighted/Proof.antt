@@ -1,7 +1,7 @@
 -- `capi_vectors::vector_surfaces::work_weighted` meets its contract. Assumes nothing.
 use mathlib.Core.Path.{sym, ap, _∙_}
-use Rattle.capi_floats.specs.declared.operations.ScalarOperation.{ScalarOperation}
-use Rattle.capi_vectors.specs.VectorOperations.{weightedSurfaceOperation}
+use Rattle.float_lists.specs.declared.operations.ScalarOperation.{ScalarOperation}
+use Rattle.capi_vectors.specs.Inner.{weightedSurfaceOperation}
 use borrow.Author.Needs.{needs}
 use Rattle.capi_vectors.proofs.vector_surfaces.work_weighted.Statement.{statement}
 use Rattle.capi_vectors.proofs.vector_surfaces.work_weighted.Tie as tie

@@ -1,4 +1,0 @@
-pub mod Numbers
-pub mod RecipeLists
-pub mod RecipeChecks
-pub mod RoadsMeet

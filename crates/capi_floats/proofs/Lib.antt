@@ -1,2 +1,0 @@
-pub mod Delivered
-pub mod Lengths

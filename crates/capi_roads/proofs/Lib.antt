@@ -1,0 +1,3 @@
+pub mod RecipeLists
+pub mod RecipeChecks
+pub mod RoadsMeet

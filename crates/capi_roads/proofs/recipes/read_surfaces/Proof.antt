@@ -1,0 +1,146 @@
+-- `capi_roads::recipes::read_surfaces` meets its contract. Assumes nothing.
+use mathlib.Core.List.{List, [], _∷_}
+use mathlib.Core.Path.{_≡_, refl, sym, ap, ap₂, _∙_, subst}
+use Prim.Native.Nat.{ℕ, _+_, _-_, _≤_, _<_}
+use native.Mathlib.Omega.{arith}
+use lib.IntN.{ℤ}
+use lib.ListN.{length, take, drop, getD}
+use denote.Ref.{now}
+use Rattle.calculus.proofs.Filling.{CurveStored, curve-none, curve-more, curve-all}
+use Rattle.exact.specs.declared.SurfaceAnswer.{SurfaceAnswer}
+use Rattle.exact.specs.declared.SurfaceDerivatives.{SurfaceDerivatives}
+use Rattle.capi_roads.specs.declared.recipe_steps.Jets.the-variants.{Surfaces}
+use Rattle.exact_lists.specs.Lists.{surface}
+use Rattle.capi_roads.specs.Recipes.{surfaceSize, total, jetAt, blankSurface}
+use Rattle.capi_roads.proofs.RecipeLists.{below-20, sized, total-more, within-entries}
+use borrow.Author.Needs.{needs}
+use Rattle.capi_roads.proofs.recipes.read_surfaces.Statement.{statement}
+use Rattle.capi_roads.proofs.recipes.read_surfaces.Tie as tie
+
+-- a jet at its place
+abbrev Entry : List ℕ → List ℤ → ℕ → SurfaceDerivatives → Type 0
+Entry orders entries i v = v ≡ jetAt surfaceSize (surface .jet) orders entries i
+
+abbrev Inv-loop : tie.InvT-loop
+Inv-loop orders entries jets₀ at₀ i₀ jets at i = (i ≤ length orders) × (at ≡ total surfaceSize (take i orders)) × CurveStored 4 blankSurface blankSurface (Entry orders entries) i jets
+
+abbrev μ-loop : tie.MeasureT-loop
+μ-loop orders entries jets₀ at₀ i₀ jets at i = length orders - i
+
+refused-surface-requires : tie.Need-refused-surface-requires Inv-loop μ-loop
+refused-surface-requires c κs = search needs
+
+loop-holds : tie.Need-loop-holds Inv-loop μ-loop
+unfolding total blankSurface
+loop-holds c =
+    let s = c .before .before .before .args in
+    let has = Entry (now (s .orders)) (now (s .entries)) in
+    let e = ap (λ (a : SurfaceAnswer). a .jet) (c .before .refused-surface .ensures) in
+    (omega arith, refl, subst (λ (b : SurfaceDerivatives). CurveStored 4 blankSurface blankSurface has 0 (b ∷ b ∷ b ∷ b ∷ [])) (sym e) (curve-none 4 blankSurface blankSurface has))
+
+mul-n : tie.Need-mul-n Inv-loop μ-loop
+mul-n c = search needs
+
+shared-slice-read-n : tie.Need-shared-slice-read-n Inv-loop μ-loop
+shared-slice-read-n c = search needs
+
+surface-count-requires : tie.Need-surface-count-requires Inv-loop μ-loop
+surface-count-requires c κs = search needs
+
+add-end : tie.Need-add-end Inv-loop μ-loop
+add-end c =
+    let l = c .before .before .before in
+    let s = l .before .before .before .before in
+    let h : l .loop .at + (c .surface-count .result) ≤ length (now (s .args .entries)) =
+    within-entries surfaceSize (now (s .args .orders)) (l .loop .i) (c .before .before .loop-test .taken) (l .loop .at) (c .surface-count .result) (length (now (s .args .entries))) (l .loop .inv .1) (sized Surfaces _ (below-20 (now (s .args .orders)) (s .pre .1) (l .loop .i) (c .before .before .loop-test .taken)) (c .surface-count .ensures)) (s .pre .2) in
+    record { fits = omega (arith, h) }
+
+mul-from-list : tie.Need-mul-from-list Inv-loop μ-loop
+mul-from-list c =
+    let l = c .before .before .before in
+    let s = l .before .before .before .before in
+    let h : l .loop .at + (c .surface-count .result) ≤ length (now (s .args .entries)) =
+    within-entries surfaceSize (now (s .args .orders)) (l .loop .i) (c .before .before .loop-test .taken) (l .loop .at) (c .surface-count .result) (length (now (s .args .entries))) (l .loop .inv .1) (sized Surfaces _ (below-20 (now (s .args .orders)) (s .pre .1) (l .loop .i) (c .before .before .loop-test .taken)) (c .surface-count .ensures)) (s .pre .2) in
+    record { fits = omega (arith, h) }
+
+sub-from-list : tie.Need-sub-from-list Inv-loop μ-loop
+sub-from-list c = search needs
+
+part-from-list-start : tie.Need-part-from-list-start Inv-loop μ-loop
+part-from-list-start c = search needs
+
+part-from-list-end : tie.Need-part-from-list-end Inv-loop μ-loop
+part-from-list-end c =
+    let l = c .before .before .before in
+    let s = l .before .before .before .before in
+    let h : l .loop .at + (c .surface-count .result) ≤ length (now (s .args .entries)) =
+    within-entries surfaceSize (now (s .args .orders)) (l .loop .i) (c .before .before .loop-test .taken) (l .loop .at) (c .surface-count .result) (length (now (s .args .entries))) (l .loop .inv .1) (sized Surfaces _ (below-20 (now (s .args .orders)) (s .pre .1) (l .loop .i) (c .before .before .loop-test .taken)) (c .surface-count .ensures)) (s .pre .2) in
+    omega (arith, h)
+
+from-list-requires : tie.Need-from-list-requires Inv-loop μ-loop
+from-list-requires c κs = search needs
+
+mul-jets : tie.Need-mul-jets Inv-loop μ-loop
+mul-jets c = search needs
+
+array-set-from-jets : tie.Need-array-set-from-jets Inv-loop μ-loop
+array-set-from-jets c = search needs
+
+add-i : tie.Need-add-i Inv-loop μ-loop
+add-i c = search needs
+
+loop-less : tie.Need-loop-less Inv-loop μ-loop
+loop-less c = search needs
+
+loop-again : tie.Need-loop-again Inv-loop μ-loop
+unfolding jetAt
+loop-again c =
+    let x = c .before .before .before in
+    let l = x .before .before .before in
+    let s = l .before .before .before .before in
+    let os = now (s .args .orders) in
+    let es = now (s .args .entries) in
+    let i = l .loop .i in
+    let h : i < 4 = omega (arith, s .pre .0) in
+    let k : (x .surface-count .result) ≡ surfaceSize (getD os i 0) = (sized Surfaces _ (below-20 os (s .pre .1) i (x .before .before .loop-test .taken)) (x .surface-count .ensures)) in
+    let e : l .loop .at + (x .surface-count .result) - l .loop .at ≡ (x .surface-count .result) = omega arith in
+    let v : c .before .from-list .result .jet ≡ jetAt surfaceSize (surface .jet) os es i =
+    ap (λ (y : SurfaceAnswer). y .jet) (c .before .from-list .ensures)
+    ∙ ap₂ (λ (k p : ℕ). surface .jet (getD os i 0) (take k (drop p es))) (e ∙ k) (l .loop .inv .1) in (
+      omega arith,
+      ap₂ _+_ (l .loop .inv .1) k ∙ sym (total-more surfaceSize os i (x .before .before .loop-test .taken)),
+      curve-more 4 blankSurface blankSurface (Entry os es) _ (l .loop .inv .2) h v,
+    )
+
+returns : tie.Need-returns Inv-loop μ-loop
+returns c =
+    let l = c .before in
+    let s = l .before .before .before .before .args in
+    let os = now (s .orders) in
+    let es = now (s .entries) in
+    let e : l .loop .i ≡ length os = omega arith in
+    curve-all 4 blankSurface blankSurface (Entry os es) (jetAt surfaceSize (surface .jet) os es) (λ k v q. q) (length os) (l .loop .inv .2) e
+
+pub read-surfaces-spec : {M : Type 1} → statement M
+read-surfaces-spec =
+    tie.close
+    (tie.spec
+    Inv-loop
+    μ-loop
+    refused-surface-requires
+    loop-holds
+    mul-n
+    shared-slice-read-n
+    surface-count-requires
+    add-end
+    mul-from-list
+    sub-from-list
+    part-from-list-start
+    part-from-list-end
+    from-list-requires
+    mul-jets
+    array-set-from-jets
+    add-i
+    loop-less
+    loop-again
+    returns)
