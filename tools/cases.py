@@ -1,9 +1,12 @@
-"""The cases of the test programs: a line of words of 16 hexadecimal digits for each. A list is its count and its members, a group how many lists
-there are, and these.
+"""The cases of the programs replay_exact, replay_floats, replay_vectors and replay_fillet: a line of words of 16 hexadecimal digits for each. A list is
+its count and its members; several lists are how many there are, and these.
 
-A case that crates/replay_calls reads (for the generators replay_rust.py and refusals.py) is the operation's number, the wanted refusal, then three
-groups: sizes (the first list has the orders, in the order of the call), members, and what the lists lent for the answer hold at the end. A list
-lent holds FILL in every place before the call, and so after a refusal.
+A case begins with the number of its family (replay.py), or of an operation of the C interface. A call of such an operation (rust_cases.py, refusals.py)
+then has the wanted refusal and three times several lists: sizes (the first list has the orders, in the order of the call), members, and what the lists
+lent for the answer hold at the end. A list lent holds FILL in every place before the call, and so after a refusal. Where ANSWERED is wanted, the call is
+to be answered, and what the lists hold then is not said.
+
+Cases stand in groups, each a label, the number of its cases, and these.
 """
 import struct
 
@@ -11,6 +14,7 @@ from checked import Refused
 
 FILL = 1234.5
 WHOLE_FILL = 1234
+ANSWERED = 256
 
 PRODUCTS = ['scaled', 'dot', 'cross']
 
@@ -19,7 +23,7 @@ def numbered(first, names):
     return {name: first + place for place, name in enumerate(names)}
 
 
-# As the modules of replay_calls number them.
+# As the programs number them.
 CURVES = numbered(0x101, ['curve_sum', 'curve_difference', 'curve_combinatorial_derivatives', 'curve_rational_derivatives', 'curve_derivative',
                           'curve_combinatorial_derivative'])
 SURFACES = numbered(0x201, ['surface_sum', 'surface_difference', 'surface_combinatorial_derivatives', 'surface_rational_derivatives',
@@ -36,7 +40,7 @@ VECTOR_SURFACES = numbered(0x401, ['vector_surface_sum', 'vector_surface_differe
                            + ['vector_composite_derivative', 'vector_composite_derivatives'])
 VECTORS = numbered(0x501, ['square_root', 'vector_magnitude', 'matrix2_determinant', 'matrix2_inverse', 'matrix3_determinant',
                            'matrix3_inverse', 'vector_sum', 'vector_difference', 'vector_cross', 'vector_dot', 'matrix3_image',
-                           'vector_multiple', 'vector_quotient'])
+                           'vector_multiple', 'vector_quotient', 'matrix2_image'])
 FILLET = numbered(0x601, ['rot_der_n', 'from_axis_angle', 'contact_circle_derivative_n', 'derivative_v', 'derivative_uv', 'derivative_vv',
                           'sub_der_mn', 'sub_center_contacts_ders', 'vder_info'])
 EXACT_CURVES = numbered(0x701, ['exact_' + name.replace('rational_derivatives', 'quotient') for name in CURVES])
@@ -69,7 +73,7 @@ def listed(members, word):
     return [size(len(members))] + [word(x) for x in members]
 
 
-def group(lists, word):
+def several(lists, word):
     return [size(len(lists))] + [w for members in lists for w in listed(members, word)]
 
 
@@ -104,8 +108,7 @@ def line(name, refusal, sizes, lists, lent):
     """sizes, lists and lent are lists of lists; members that are words already stay as they are."""
     kind = bits if name in FLOATS else whole if name in WHOLES else size
     word = lambda x: x if isinstance(x, str) else kind(x)
-    words = [size(OPERATIONS[name]), size(refusal)] + group(sizes, size) + group(lists, word) + group(lent, word)
-    return ' '.join(words) + '\n'
+    return [size(OPERATIONS[name]), size(refusal)] + several(sizes, size) + several(lists, word) + several(lent, word)
 
 
 def count(kind, order):
@@ -135,15 +138,22 @@ def due(name, orders):
         return [3 * (n + 1), n + 1, 1]
     if name in VECTORS:
         return [{'matrix2_inverse': 4, 'matrix3_inverse': 9, 'vector_sum': 3, 'vector_difference': 3, 'vector_cross': 3, 'matrix3_image': 3,
-                 'vector_multiple': 3, 'vector_quotient': 3}.get(name, 1)]
+                 'vector_multiple': 3, 'vector_quotient': 3, 'matrix2_image': 2}.get(name, 1)]
     if name in FILLET:
         return [9 if name in ('rot_der_n', 'from_axis_angle') else 3]
     raise ValueError(name)
 
 
-def write(program, lines):
+def write(program, groups):
     """A program's input, a line of words for each case, and its output where no case differs."""
-    lines = [' '.join(words) + '\n' for words in lines]
-    with open('crates/%s/stdin' % program, 'w') as given, open('crates/%s/stdout' % program, 'w') as told:
-        given.writelines([size(len(lines)) + '\n'] + lines)
-        told.write('%d cases, 0 differ\n' % len(lines))
+    given, told = '', ''
+    for label, lines in groups:
+        lines = [' '.join(words) + '\n' for words in lines]
+        label = label.ljust(89)
+        if len(label) > 89 or not lines:
+            raise ValueError(label)
+        given += label + '\n' + size(len(lines)) + '\n' + ''.join(lines)
+        told += '%s0 of %d differ\n' % (label, len(lines))
+    for part, text in (('stdin', given), ('stdout', told)):
+        with open('crates/%s/%s' % (program, part), 'w') as out:
+            out.write(text)

@@ -1,12 +1,9 @@
-#!/usr/bin/env python3
-"""The input and the expected output of the program refusals: every operation with each fault that applies to it, and with two at a time.
+"""Cases of the C interface: every operation with each fault that applies to it, and with two at a time.
 
-Run in the repository's root:  python3 tools/refusals.py   (writes crates/refusals/stdin and crates/refusals/stdout)
-
-A case is a label, in 79 bytes and a line end, and a case of tools/cases.py. A line of the output has the label and the number met. Which number
-that is follows from document 01's table alone: the faults of a case are known, and the first of them in the order of its checks is met. A
-fault is its number and where it is: `1 a` is an order of 21 for the jet a, `2 a` one entry too few or too many of a, `2 lent` a place too many in
-the list lent, `2 asked` an order that the jet does not have, `5 a` a float of a that is not finite. A case without faults is answered.
+A group is one case (tools/cases.py). Its label has the operation, the faults and the number to be met. Which number that is follows from document 01's
+table alone: the faults of a case are known, and the first of them in the order of its checks is met. A fault is its number and where it is: `1 a` is an
+order of 21 for the jet a, `2 a` one entry too few or too many of a, `2 lent` a place too many in the list lent, `2 asked` an order that the jet does not
+have, `5 a` a float of a that is not finite. A case without faults is answered; what its answer is, is not said here.
 Where two faults are met by the work itself (6 to 9), the case is made so that one comes first, and the label says so.
 """
 import copy
@@ -14,7 +11,7 @@ import itertools
 
 import cases
 from cases import FLOATS, count
-from replay_rust import read, shape
+from rust_cases import read, shape
 
 CHECKED = [1, 2, 3, 4, 11, 5, 6, 7, 8, 9, 10]
 NAN, INFINITY = float('nan'), float('inf')
@@ -48,7 +45,8 @@ def write(call, faults, met):
         raise ValueError(label)
     fill = cases.FILL if call.name in FLOATS else cases.WHOLE_FILL
     lent = call.lent if isinstance(call.lent[0], list) else [[fill] * n for n in call.lent]
-    written.append((label.ljust(79), cases.line(call.name, met, [call.orders] + call.more, call.lists, lent), met))
+    case = cases.line(call.name, met or cases.ANSWERED, [call.orders] + call.more, call.lists, lent)
+    written.append(('%s -> %d' % (label.ljust(78), met), [case]))
 
 
 def answered(call, what):
@@ -264,6 +262,7 @@ def vectors(name):
              'matrix2_inverse': [[1.0, 2.0, 3.0, 4.0]], 'matrix3_determinant': [[2.0, 0.0, 0.0, 0.0, 3.0, 0.0, 0.0, 0.0, 4.0]],
              'matrix3_inverse': [[2.0, 0.0, 0.0, 0.0, 3.0, 0.0, 0.0, 0.0, 4.0]],
              'matrix3_image': [[2.0, 0.0, 0.0, 0.0, 3.0, 0.0, 0.0, 0.0, 4.0], [1.0, 2.0, 3.0]],
+             'matrix2_image': [[1.0, 2.0, 3.0, 4.0], [5.0, 6.0]],
              'vector_multiple': [[1.0, 2.0, 3.0], [2.0]], 'vector_quotient': [[1.0, 2.0, 3.0], [2.0]]}
     given = lists.get(name, [[1.0, 2.0, 3.0], [4.0, 5.0, 7.0]])
     faults = [lent_fault()]
@@ -549,16 +548,10 @@ KINDS = [(jets, cases.CURVES | cases.SURFACES | cases.VECTOR_CURVES | cases.VECT
          (vectors, cases.VECTORS), (fillet, cases.FILLET), (whole_numbers, cases.WHOLE), (recipes, cases.RECIPES), (parts, cases.PARTS)]
 
 
-def main():
-    for name in cases.OPERATIONS:
-        for make, names in KINDS:
-            if name in names:
+def groups(names):
+    written.clear()
+    for name in names:
+        for make, those in KINDS:
+            if name in those:
                 make(name)
-    with open('crates/refusals/stdin', 'w') as given, open('crates/refusals/stdout', 'w') as wanted:
-        for label, text, met in written:
-            given.write(label + '\n' + text)
-            wanted.write('%s-> %d\n' % (label, met))
-
-
-if __name__ == '__main__':
-    main()
+    return list(written)

@@ -1,4 +1,5 @@
-"""The cases of the program replay_fillet that come from the stored answers of the Rust (data/rust_answers, compare/README.md has the order of words).
+"""Cases of rotations and contact circles for the program replay_fillet, from the stored answers of the Rust (data/rust_answers; compare/README.md has the
+order of words).
 
 3  a rotation: four orders, the axis, sine and cosine; the refusal and the matrix, column by column
 4  a rotation from axis and angle: the axis, sine and cosine; the same
@@ -52,5 +53,5 @@ def every():
         yield circle_case('1', [ZERO] * 13, parameters, [ZERO] * 2) + wanted(['5'], 3)
 
 
-def lines():
-    return list(every())
+def groups():
+    return [('rotations and contact circles', every())]

@@ -1,11 +1,11 @@
 // Exact jets of a case, each an order and its array as a list, and the answers wanted: refusal, order and entries.
+use booleans::both;
 use exact::CurveAnswer;
 use exact::CurveDerivatives;
 use exact::ParameterAnswer;
 use exact::ParameterCurve;
 use exact::SurfaceAnswer;
 use exact::SurfaceDerivatives;
-use ieee::both;
 use replay_text::answer_met;
 use replay_text::next_size;
 use replay_text::next_wholes;

@@ -1,118 +1,37 @@
-// Exact jets: sum, difference, product, quotient and derivative of curves and of surfaces, the carry, jets from lists and into them, recipes and
-// the two roads. A case is the number of an operation, what it is given, and the answer (tools/replay_exact.py numbers and makes the cases).
+// Whole numbers, part lists, exact jets, and the C interface. A case begins with its family's number, or that of the operation to call (tools/cases.py).
+mod calls;
+mod checked;
+mod exact_curves;
+mod exact_surfaces;
+mod jet_cases;
 mod jets;
+mod part_lists;
+mod recipe_calls;
 mod recipes;
+mod walks;
+mod whole_numbers;
 
-use exact::CurveDerivatives;
-use exact::ParameterCurve;
-use exact::SurfaceDerivatives;
-use ieee::both;
-use jets::curve_met;
-use jets::next_curve;
-use jets::next_parameter;
-use jets::next_surface;
-use jets::parameter_met;
-use jets::surface_met;
-use replay_text::checked_met;
-use replay_text::differing;
-use replay_text::first_wholes;
-use replay_text::next_size;
-use replay_text::next_wholes;
-use replay_text::refusal_met;
-use replay_text::report;
-use replay_text::wholes_met;
-use replay_text::wholes_part;
-
-fn on_curves(operation: usize) -> bool {
-    let a = next_curve();
-    let b = next_curve();
-    let m = next_size();
-    match operation {
-        1 => curve_met(a.sum(b)),
-        2 => curve_met(a.difference(b)),
-        3 => curve_met(a.combinatorial_derivatives(b)),
-        4 => curve_met(a.quotient(b)),
-        5 => curve_met(a.derivative()),
-        _ => checked_met(a.combinatorial_derivative(b, m)),
-    }
-}
-
-fn on_surfaces(operation: usize) -> bool {
-    let a = next_surface();
-    let b = next_surface();
-    let m = next_size();
-    let n = next_size();
-    match operation {
-        11 => surface_met(a.sum(b)),
-        12 => surface_met(a.difference(b)),
-        13 => surface_met(a.combinatorial_derivatives(b)),
-        14 => surface_met(a.quotient(b)),
-        15 => surface_met(a.derivative_u()),
-        16 => surface_met(a.derivative_v()),
-        _ => checked_met(a.combinatorial_derivative(b, m, n)),
-    }
-}
-
-fn along() -> bool {
-    let a = next_surface();
-    let c = next_parameter();
-    let m = next_size();
-    both(
-        checked_met(a.composite_derivative(c, m)),
-        curve_met(a.composite_derivatives(c, m)),
-    )
-}
-
-fn from_list(operation: usize) -> bool {
-    let order = next_size();
-    let mut l = [0i64; 256];
-    let n = next_wholes(&mut l);
-    let list = wholes_part(&l, 0, n);
-    match operation {
-        31 => curve_met(CurveDerivatives::from_list(order, list)),
-        32 => surface_met(SurfaceDerivatives::from_list(order, list)),
-        _ => parameter_met(ParameterCurve::from_list(order, list)),
-    }
-}
-
-fn next_jet_into(operation: usize, out: &mut [i64]) -> u8 {
-    match operation {
-        34 => next_curve().into_list(out),
-        35 => next_surface().into_list(out),
-        _ => next_parameter().into_list(out),
-    }
-}
-
-// The list that is lent, as it stands before and after.
-fn into_list(operation: usize) -> bool {
-    let mut l = [0i64; 256];
-    let n = next_wholes(&mut l);
-    let out = first_wholes(&mut l, n);
-    let refusal = next_jet_into(operation, out);
-    both(refusal_met(refusal), wholes_met(out))
-}
+use replay_text::next_group;
+use replay_text::next_word;
 
 fn next_case() -> bool {
-    let operation = next_size();
-    match operation {
-        1..=6 => on_curves(operation),
-        11..=17 => on_surfaces(operation),
-        21 => along(),
-        31..=33 => from_list(operation),
-        34..=36 => into_list(operation),
-        41 => recipes::of_curves(),
-        _ => recipes::both_roads(),
+    let family = next_word();
+    match family {
+        1 => checked::next_case(),
+        2 => walks::next_case(),
+        3 => jet_cases::next_case(),
+        _ => calls::next_case(family),
     }
 }
 
 fn main() {
-    let n = next_size();
-    let mut differ = 0usize;
-    let mut i = 0;
-    while i < n {
-        let d = differing(next_case(), i);
-        differ += d;
-        i += 1;
+    let mut group = next_group();
+    let mut turns = 0u32;
+    while turns < 100000 {
+        if group.cases == 0 {
+            return;
+        }
+        group = group.after(next_case());
+        turns += 1;
     }
-    report(n, differ);
 }

@@ -1,31 +1,30 @@
-// Fillets whose shape is known in closed form, between two planes and between two spheres, with a tapered radius; and stored answers of the Rust for
-// rotations and contact circles (tools/replay_fillet.py makes the cases).
-mod given;
+// The fillet: shapes that are known in closed form, between two planes and between two spheres, with a tapered radius; stored answers of the Rust for
+// rotations and contact circles; and the C interface. A case begins with its family's number, or that of the operation to call (tools/cases.py).
+mod calls;
+mod inputs;
 mod shapes;
 mod turns;
 
-use replay_text::differing;
-use replay_text::next_size;
-use replay_text::report;
+use replay_text::next_group;
+use replay_text::next_word;
 
 fn next_case() -> bool {
-    match next_size() {
-        1 => shapes::contacts_case(),
-        2 => shapes::partial_case(),
-        3 => turns::rotation_case(),
-        4 => turns::axis_case(),
-        _ => turns::circle_case(),
+    let family = next_word();
+    match family {
+        1 => shapes::next_case(),
+        2 => turns::next_case(),
+        _ => calls::next_case(family),
     }
 }
 
 fn main() {
-    let n = next_size();
-    let mut differ = 0usize;
-    let mut i = 0;
-    while i < n {
-        let d = differing(next_case(), i);
-        differ += d;
-        i += 1;
+    let mut group = next_group();
+    let mut turns = 0u32;
+    while turns < 100000 {
+        if group.cases == 0 {
+            return;
+        }
+        group = group.after(next_case());
+        turns += 1;
     }
-    report(n, differ);
 }

@@ -1,9 +1,9 @@
 // Fillets whose shape is known in closed form: what is answered lies within a tolerance of what is wanted.
-use crate::given::next_circle;
-use crate::given::next_fillet;
+use crate::inputs::next_circle;
+use crate::inputs::next_fillet;
+use booleans::both;
 use derivatives::ParameterCurve;
 use derivatives::VectorCurveDerivatives;
-use ieee::both;
 use replay_text::float_at;
 use replay_text::next_float;
 use replay_text::next_floats;
@@ -54,7 +54,7 @@ fn near_contacts(ders: CenterContactDers, tolerance: f64) -> bool {
     both(both(c, both(p, q)), both(u, v))
 }
 
-pub fn contacts_case() -> bool {
+fn contacts_case() -> bool {
     let tolerance = next_float();
     let n = next_size();
     let circle = next_circle();
@@ -70,7 +70,7 @@ fn near_vector(a: VectorAnswer, tolerance: f64) -> bool {
     }
 }
 
-pub fn partial_case() -> bool {
+fn partial_case() -> bool {
     let tolerance = next_float();
     let m = next_size();
     let n = next_size();
@@ -81,4 +81,11 @@ pub fn partial_case() -> bool {
     let circle = next_circle();
     let fillet = next_fillet();
     near_vector(fillet.sub_der_mn(m, n, u, circle, angle, s, c), tolerance)
+}
+
+pub fn next_case() -> bool {
+    match next_size() {
+        1 => contacts_case(),
+        _ => partial_case(),
+    }
 }

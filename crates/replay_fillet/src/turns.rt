@@ -1,13 +1,13 @@
 // The rotation and the contact circle: each answer is the Rust's, bit by bit.
-use crate::given::next_circle;
-use crate::given::next_vector;
-use ieee::both;
+use crate::inputs::next_circle;
+use crate::inputs::next_vector;
+use booleans::both;
+use ieee_vectors::Vector3;
 use replay_text::float_met;
 use replay_text::next_float;
 use replay_text::next_size;
 use replay_text::refusal_met;
 use vectors::Matrix3Answer;
-use vectors::Vector3;
 use vectors::VectorAnswer;
 
 fn vector_met(v: Vector3) -> bool {
@@ -36,7 +36,7 @@ fn answer_met(a: VectorAnswer) -> bool {
     }
 }
 
-pub fn rotation_case() -> bool {
+fn rotation_case() -> bool {
     let x = next_size();
     let y = next_size();
     let z = next_size();
@@ -47,17 +47,25 @@ pub fn rotation_case() -> bool {
     matrix_met(rolling_ball_fillet::rot_der_n(x, y, z, n, axis, s, c))
 }
 
-pub fn axis_case() -> bool {
+fn axis_case() -> bool {
     let axis = next_vector();
     let s = next_float();
     let c = next_float();
     matrix_met(rolling_ball_fillet::from_axis_angle(axis, s, c))
 }
 
-pub fn circle_case() -> bool {
+fn circle_case() -> bool {
     let m = next_size();
     let circle = next_circle();
     let s = next_float();
     let c = next_float();
     answer_met(circle.derivative_n(m, s, c))
+}
+
+pub fn next_case() -> bool {
+    match next_size() {
+        3 => rotation_case(),
+        4 => axis_case(),
+        _ => circle_case(),
+    }
 }

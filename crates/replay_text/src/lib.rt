@@ -4,8 +4,9 @@
 ghost use lib.ListN.{length};
 ghost use mathlib.Core.Path.{_≡_};
 ghost use Prim.Native.Nat.{_≤_, _<_};
-use ieee::Real;
-use ieee::both;
+use booleans::both;
+use std::num::wrapping_add_usize;
+use vectors::Real;
 use whole::Whole;
 
 fn wide(c: u8) -> u64
@@ -404,24 +405,87 @@ pub fn sizes_met(l: &[usize]) -> bool {
     same_sizes(l, sizes_part(&wanted, 0, l.len()))
 }
 
-// ---- what a program writes
+// Met where no operation has the number of a call.
+pub const UNKNOWN: u8 = 255;
 
-// 1 for a case that differs, whose place is written, else 0.
-pub fn differing(met: bool, i: usize) -> usize
-    ensures { λ r. ⌜ r ≤ 1 ⌝ }
-{
-    if met {
-        return 0;
+// What the lists lent for an answer hold before the call, and still hold after a refusal.
+pub const FILL: f64 = 1234.5;
+
+pub const WHOLE_FILL: i64 = 1234;
+
+pub const SIZE_FILL: usize = 1234;
+
+pub const WORD_FILL: u64 = 1234;
+
+// The wanted refusal of a call that is to be answered, where what the lists lent hold then is not said.
+const ANSWERED: u64 = 256;
+
+// What a call met: its refusal, and whether the lists lent hold what they should.
+pub fn call_met(wanted: u64, refusal: u8, same: bool) -> bool {
+    if wanted == ANSWERED {
+        return refusal == 0;
     }
-    io::write_all(1, b"differs at ");
-    io::print_decimal(1, i as u64);
-    io::write_all(1, b"\n");
-    1
+    both((refusal as u64) == wanted, same)
 }
 
-pub fn report(cases: usize, differ: usize) {
-    io::print_decimal(1, cases as u64);
-    io::write_all(1, b" cases, ");
+// ---- groups of cases
+
+// Cases under one label, of 89 bytes and a line end: how many there are, are done, and differ. No group is without a case.
+pub struct Group {
+    pub label: [u8; 90],
+    pub cases: usize,
+    pub done: usize,
+    pub differ: usize,
+}
+
+// The next group of the input, with no case done. At its end, no case is there.
+pub fn next_group() -> Group {
+    let mut label = [0u8; 90];
+    io::read_full(0, &mut label);
+    let cases = next_size();
+    Group {
+        label,
+        cases,
+        done: 0,
+        differ: 0,
+    }
+}
+
+fn write_line(label: [u8; 90], cases: usize, differ: usize) {
+    io::write_all(1, &label[0..89]);
     io::print_decimal(1, differ as u64);
+    io::write_all(1, b" of ");
+    io::print_decimal(1, cases as u64);
     io::write_all(1, b" differ\n");
+}
+
+// One more, where a case differs: its place is written.
+fn differing(met: bool, place: usize, differ: usize) -> usize {
+    if met {
+        return differ;
+    }
+    io::write_all(1, b"differs at ");
+    io::print_decimal(1, place as u64);
+    io::write_all(1, b"\n");
+    wrapping_add_usize(differ, 1)
+}
+
+impl Group {
+    // With its next case done; after its last one the group's line is written, and the next group begins.
+    pub fn after(self, met: bool) -> Group {
+        let label = self.label;
+        let cases = self.cases;
+        let differ = differing(met, self.done, self.differ);
+        let done = wrapping_add_usize(self.done, 1);
+        if done < cases {
+            return Group {
+                label,
+                cases,
+                done,
+                differ,
+            };
+        }
+        write_line(label, cases, differ);
+        next_group()
+    }
 }
