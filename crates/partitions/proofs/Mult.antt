@@ -8,7 +8,7 @@ use native.Mathlib.Omega.{arith}
 use native.Mathlib.Nat.{mul-comm}
 use lib.ListN.{length}
 use Rattle.partitions.specs.Parts.{total, fact}
-use Rattle.partitions.proofs.Out.{Out, Pos, empty, more, out-pos, out-length, out-total, out-weight, count, weight, taken, by-value, divides-sum}
+use Rattle.partitions.proofs.Out.{Out, Pos, empty, more, out-pos, out-length, out-total, out-weight, count, weight, none-or-out, by-value, divides-sum}
 
 -- n choose k
 unfoldable pub binom : ℕ → ℕ → ℕ
@@ -55,7 +55,7 @@ nothing W f v c z = sym (ap (λ x. f * (v * x)) z ∙ omega arith)
 module _ (n : ℕ) (l : List ℕ) (p : Pos l) (t : total l ≡ suc n) (ex : (v : ℕ) (r : List ℕ) → Out v l r → Divides r) where
   term : (w : ℕ) → w < suc n → (q : ℕ) × (q * weight l ≡ fact n * (suc w * count (suc w) l))
   unfolding Divides fact
-  term w h = by (taken (suc w) l)
+  term w h = by (none-or-out (suc w) l)
     where
       by : (count (suc w) l ≡ 0) ⊎ ((r : List ℕ) × Out (suc w) l r) → (q : ℕ) × (q * weight l ≡ fact n * (suc w * count (suc w) l))
       by (inl z) = (0, nothing (weight l) (fact n) (suc w) (count (suc w) l) z)

@@ -95,13 +95,13 @@ out-weight {v} (there {a = a} {l = l} {r = r} o) =
     ∙ arrange (fact a) (suc (count a l)) (fact v) (count v l) (weight r) (cond (eqb a v) 1 0) (suc (count a r)) (counts a o)
 
 -- a value stands nowhere in the list, or can be taken out
-pub taken : (v : ℕ) (l : List ℕ) → (count v l ≡ 0) ⊎ ((r : List ℕ) × Out v l r)
+pub none-or-out : (v : ℕ) (l : List ℕ) → (count v l ≡ 0) ⊎ ((r : List ℕ) × Out v l r)
 unfolding count
-taken v [] = inl refl
-taken v (a ∷ l) =
+none-or-out v [] = inl refl
+none-or-out v (a ∷ l) =
     by-eqb a v (λ b. (cond b 1 0 + count v l ≡ 0) ⊎ ((r : List ℕ) × Out v (a ∷ l) r))
     (λ e. inr (l, subst (λ x. Out v (x ∷ l) l) (sym e) here))
-    (λ _. behind (taken v l))
+    (λ _. behind (none-or-out v l))
   where
     behind : (count v l ≡ 0) ⊎ ((r : List ℕ) × Out v l r) → (0 + count v l ≡ 0) ⊎ ((r : List ℕ) × Out v (a ∷ l) r)
     behind (inl e) = inl (omega arith)

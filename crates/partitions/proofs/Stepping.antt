@@ -1,6 +1,6 @@
 -- What the code of a start and of a step finds, by the walk's definition. Assumes nothing.
 use mathlib.Core.Path.{_≡_, refl, sym, ap, ap₂, _∙_}
-use mathlib.Core.Bool.{Bool, true, false}
+use mathlib.Core.Bool.{Bool, true, false, not}
 use mathlib.Core.List.{List, _++_}
 use Prim.Native.Nat.{ℕ, zero, suc, _+_, _-_, _≤_, min}
 use native.Mathlib.Nat.{zero-add, suc-add}
@@ -97,7 +97,7 @@ module _ {w : CompositionIter} (r : Holds w) where
   pub next-asks : (falls 20 (take (w .len) (w .current)) ≡ true) × (total (take (w .len) (w .current)) ≤ 20)
   next-asks = let o : w .order ≤ 20 = range (r .ready) .2 in (falls-wider (w .order) 20 (held w) o (r .down), omega (arith, r .sums))
 
-  pub step-next : {b : Bool} {p y : List ℕ} → p ≡ padded (take (w .len) (w .current)) → b ≡ hasNext (take (w .len) (w .current)) → y ≡ nextOf (take (w .len) (w .current)) → b ≡ true →
+  step-next : {b : Bool} {p y : List ℕ} → p ≡ padded (take (w .len) (w .current)) → b ≡ hasNext (take (w .len) (w .current)) → y ≡ nextOf (take (w .len) (w .current)) → b ≡ true →
       record {
         item = record { refusal = 0; ended = false; parts = p };
         walk = record { order = w .order; len = w .len; current = y ++ drop (w .len) (w .current); end = false };
@@ -109,7 +109,7 @@ module _ {w : CompositionIter} (r : Holds w) where
         walk = record { order = w .order; len = w .len; current = y ++ drop (w .len) (w .current); end = false };
       }) ep ey ∙ sym (stepped-next w (r .ready .none) (r .ready .going) (held w) refl (m .0) (m .1) (sym eb ∙ h))
 
-  pub step-last : {b : Bool} {p y : List ℕ} → p ≡ padded (take (w .len) (w .current)) → b ≡ hasNext (take (w .len) (w .current)) → y ≡ nextOf (take (w .len) (w .current)) → b ≡ false →
+  step-last : {b : Bool} {p y : List ℕ} → p ≡ padded (take (w .len) (w .current)) → b ≡ hasNext (take (w .len) (w .current)) → y ≡ nextOf (take (w .len) (w .current)) → b ≡ false →
       record {
         item = record { refusal = 0; ended = false; parts = p };
         walk = record { order = w .order; len = w .len; current = y ++ drop (w .len) (w .current); end = true };
@@ -121,3 +121,11 @@ module _ {w : CompositionIter} (r : Holds w) where
         walk = record { order = w .order; len = w .len; current = l; end = true };
       }) ep (ap (λ (y : List ℕ). y ++ drop (w .len) (w .current)) (ey ∙ next-same (held w) (sym eb ∙ h)) ∙ take-append-drop (w .len) (w .current))
       ∙ sym (stepped-last w (r .ready .none) (r .ready .going) (held w) refl (m .0) (m .1) (sym eb ∙ h))
+
+  pub step-on : (b : Bool) {p y : List ℕ} → p ≡ padded (take (w .len) (w .current)) → b ≡ hasNext (take (w .len) (w .current)) → y ≡ nextOf (take (w .len) (w .current)) →
+      record {
+        item = record { refusal = 0; ended = false; parts = p };
+        walk = record { order = w .order; len = w .len; current = y ++ drop (w .len) (w .current); end = not b };
+      } ≡ stepped w
+  step-on true ep eb ey = step-next ep eb ey refl
+  step-on false ep eb ey = step-last ep eb ey refl

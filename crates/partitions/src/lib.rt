@@ -145,26 +145,15 @@ impl CompositionIter {
             ended: false,
             parts,
         };
-        if inner::next(&mut current[..len]) {
-            Stepped {
-                item,
-                walk: CompositionIter {
-                    order,
-                    len,
-                    current,
-                    end: false,
-                },
-            }
-        } else {
-            Stepped {
-                item,
-                walk: CompositionIter {
-                    order,
-                    len,
-                    current,
-                    end: true,
-                },
-            }
+        let more = inner::next(&mut current[..len]);
+        Stepped {
+            item,
+            walk: CompositionIter {
+                order,
+                len,
+                current,
+                end: !more,
+            },
         }
     }
 

@@ -13,7 +13,7 @@ use Rattle.parts_text.specs.declared.Reading.the-variants.{Before, InOrd
 use Rattle.parts_text.specs.Text.{refusedLine, text, unless, answer}
 use Rattle.parts_text.specs.Reading.{finished}
 use Rattle.parts_text.proofs.Puts.{decimal-one}
-use Rattle.parts_text.proofs.Tables.{text-fits}
+use Rattle.parts_text.proofs.Lengths.{text-fits}
 
 low : (a b c : Bool) → cond a 1 (cond b 3 (cond c 3 0)) ≤ 3
 low true b c = lit≤ tt
@@ -29,7 +29,7 @@ unfolding answer
 answer-fits order len = go (refusal order len) refl
   where
     go : (c : ℕ) → refusal order len ≡ c → length (unless c (text (lists order len))) ≤ 4096
-    go zero e = let h = range-of order len e in text-fits order len (h .2) (omega arith)
+    go zero e = let h = range-of order len e in text-fits order len (h .2) (h .1)
     go (suc c) e = let h = low (ltb 20 order) (eqb len 0) (ltb order len) in refused-fits (suc c) (subst (λ (n : ℕ). n ≤ 3) e h)
 
 pub finished-fits : (s : Reading) → length (finished s) ≤ 4096

@@ -20,10 +20,10 @@ use Rattle.partitions.proofs.Member.{from-is, down-list}
 use Rattle.partitions.proofs.Successor.{first}
 use Rattle.partitions.proofs.Walked.{range-of, least-times, started-is, started-remains, holds, moved-remains, moved-end, stepped-first, stepped-end, step-ends}
 use Rattle.partitions.proofs.Counted.{counted-by}
+use Rattle.part_counts.proofs.Stirling.{count-below}
 use Rattle.parts_text.specs.Text.{joined, line, totalLine, refusedLine, text, unless, answer}
 use Rattle.parts_text.specs.Inner.{Wrote, lineOf, countOf}
 use Rattle.parts_text.proofs.Puts.{wrote-none, after, reading, joined-append, joined-one}
-use Rattle.parts_text.proofs.Tables.{total-fits}
 
 -- ---- a pair's refusal
 started-refusal : (order len : ℕ) → started order len .refusal ≡ refusal order len
@@ -169,7 +169,7 @@ module _ {order len : ℕ} {out₀ : List ℕ} {w : CompositionIter} {out : List
     pub sum-fits : (n : ℕ) → n ≡ countOf (counted (take len (s .item .parts))) → sum + n < 2 ^ 64
     sum-fits n e =
         let h = range-of order len (g .range) in
-        let t = total-fits order len (h .2) (omega arith) in
+        let t = count-below order len (h .2) (h .1) in
         let a = ap totalCount whole ∙ total-append (g .done ++ (x .list ∷ [])) (x .others) in
         omega (arith, more, counts n e)
 

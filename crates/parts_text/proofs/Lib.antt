@@ -4,6 +4,6 @@ pub mod Examples
 -- what the functions need: the steps of a reading, texts that are written, their room, and the walk whose lines they are
 pub mod Fed
 pub mod Puts
-pub mod Tables
+pub mod Lengths
 pub mod Fits
 pub mod Going

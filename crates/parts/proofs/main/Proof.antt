@@ -6,12 +6,6 @@ use Rattle.parts_text.proofs.Puts.{front-within, front-taken}
 use Rattle.parts.proofs.main.Statement.{statement}
 use Rattle.parts.proofs.main.Tie as tie
 
-feed-all-requires : tie.Need-feed-all-requires
-feed-all-requires c κs = search needs
-
-report-requires : tie.Need-report-requires
-report-requires c κs = search needs
-
 array-share-prefix-out : tie.Need-array-share-prefix-out
 array-share-prefix-out c = front-within (finished (c .before .before .feed-all .result)) (replicate 4096 0) (c .report .ensures .0) (c .report .ensures .1)
 
@@ -19,19 +13,8 @@ slice-aggregate-write-all : tie.Need-slice-aggregate-write-all
 slice-aggregate-write-all c =
     front-taken (finished (c .before .before .before .feed-all .result)) (replicate 4096 0) (c .before .report .ensures .0) (c .before .report .ensures .1)
 
-write-all-requires : tie.Need-write-all-requires
-write-all-requires c κs = search needs
-
-returns : tie.Need-returns
-returns c = search needs
-
 pub main-spec : {M : Type 1} → statement M
 main-spec =
     tie.close
     (tie.spec
-    feed-all-requires
-    report-requires
-    array-share-prefix-out
-    slice-aggregate-write-all
-    write-all-requires
-    returns)
+    (λ c κs. search needs) (λ c κs. search needs) array-share-prefix-out slice-aggregate-write-all (λ c κs. search needs) (λ c. search needs))

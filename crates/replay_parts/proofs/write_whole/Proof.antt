@@ -6,27 +6,14 @@ use Rattle.parts_text.proofs.Puts.{front-within, front-taken}
 use Rattle.replay_parts.proofs.write_whole.Statement.{statement}
 use Rattle.replay_parts.proofs.write_whole.Tie as tie
 
-print-requires : tie.Need-print-requires
-print-requires c κs = search needs
-
 array-share-prefix-out : tie.Need-array-share-prefix-out
 array-share-prefix-out c = front-within (printed (c .before .before .before .args .input .now)) (replicate 4096 0) (c .print .ensures .0) (c .print .ensures .1)
 
 slice-aggregate-write-all : tie.Need-slice-aggregate-write-all
 slice-aggregate-write-all c = front-taken (printed (c .before .before .before .before .args .input .now)) (replicate 4096 0) (c .before .print .ensures .0) (c .before .print .ensures .1)
 
-write-all-requires : tie.Need-write-all-requires
-write-all-requires c κs = search needs
-
-returns : tie.Need-returns
-returns c = search needs
-
 pub write-whole-spec : {M : Type 1} → statement M
 write-whole-spec =
     tie.close
     (tie.spec
-    print-requires
-    array-share-prefix-out
-    slice-aggregate-write-all
-    write-all-requires
-    returns)
+    (λ c κs. search needs) array-share-prefix-out slice-aggregate-write-all (λ c κs. search needs) (λ c. search needs))

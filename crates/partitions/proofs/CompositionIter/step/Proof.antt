@@ -4,7 +4,7 @@ use mathlib.Core.Path.{sym, _∙_}
 use native.Mathlib.Omega.{arith}
 use borrow.Author.Tests.{not-true, not-false}
 use borrow.Author.Needs.{needs}
-use Rattle.partitions.proofs.Stepping.{step-refused, step-ended, Ready, len-fits, held-long, step-sum, step-falls, sum-is, Holds, next-asks, step-next, step-last}
+use Rattle.partitions.proofs.Stepping.{step-refused, step-ended, Ready, len-fits, held-long, step-sum, step-falls, sum-is, Holds, next-asks, step-on}
 use Rattle.partitions.proofs.CompositionIter.step.Statement.{statement}
 use Rattle.partitions.proofs.CompositionIter.step.Tie as tie
 
@@ -82,10 +82,7 @@ next-requires : tie.Need-next-requires
 next-requires c κs = next-asks (holds (c .before .before .before))
 
 returns-5 : tie.Need-returns-5
-returns-5 c = let n = c .before .before .next in step-next (holds (c .before .before .before .before .before .before)) (c .before .before .before .before .pad .ensures) (n .ensures .0) (n .ensures .1) (c .if5 .taken)
-
-returns-6 : tie.Need-returns-6
-returns-6 c = let n = c .before .before .next in step-last (holds (c .before .before .before .before .before .before)) (c .before .before .before .before .pad .ensures) (n .ensures .0) (n .ensures .1) (c .if5 .left)
+returns-5 c = let n = c .before .next in step-on (holds (c .before .before .before .before .before)) (n .result) (c .before .before .before .pad .ensures) (n .ensures .0) (n .ensures .1)
 
 pub step-spec : {M : Type 1} → statement M
 step-spec =
@@ -112,5 +109,4 @@ step-spec =
     array-borrow-prefix-current
     slice-aggregate-next
     next-requires
-    returns-5
-    returns-6)
+    returns-5)
