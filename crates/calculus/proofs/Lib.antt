@@ -11,14 +11,11 @@ pub mod UpTo
 pub mod Quotients
 pub mod Norms
 pub mod UpToQuotients
--- the graded index; arrays that are filled in turn; the table of binomial coefficients
+-- jets that agree up to an order: the same lists and arrays
+pub mod Same
+-- the graded index
 pub mod Layers
 pub mod Graded
-pub mod Filling
-pub mod Same
-pub mod SurfaceFilling
-pub mod Pascal
-pub mod Table
 -- the integers: a ring, finite sums, exact division
 pub mod Ints
 pub mod Ring
@@ -45,13 +42,21 @@ pub mod Plain
 pub mod Entries
 pub mod Masks
 pub mod Quotient
--- what the loops of the jets need: the order of work, lists that are written, the bits of masks, walks over part lists
-pub mod Places
-pub mod Left
-pub mod Writing
-pub mod Bits
-pub mod Walking
-pub mod Cut
-pub mod Shifts
-pub mod Terms
-pub mod Orders
+-- a kind of jet: the answer by the tests that led to it
+pub mod Tested
+-- what loops need, by the name `Loop…`: arrays that are filled in turn, the table of binomial coefficients, the order of work, lists that are
+-- written, the bits of masks, walks over part lists
+pub mod LoopFilling
+pub mod LoopSurfaceFilling
+pub mod LoopPascal
+pub mod LoopTable
+pub mod LoopPlaces
+pub mod LoopLeft
+pub mod LoopWriting
+pub mod LoopPairs
+pub mod LoopBits
+pub mod LoopWalking
+pub mod LoopCut
+pub mod LoopShifts
+pub mod LoopTerms
+pub mod LoopOrders

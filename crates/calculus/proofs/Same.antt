@@ -9,7 +9,7 @@ use lib.Dec.{ltb}
 use borrow.Author.Tests.{ltb-true}
 use Rattle.calculus.specs.Array.{listed, filled}
 use Rattle.calculus.specs.Order.{rows, curveEntries, surfaceEntries}
-use Rattle.calculus.proofs.Filling.{listed-same}
+use Rattle.calculus.proofs.LoopFilling.{listed-same}
 
 module _ {X : Type 0} where
   pub curve-entries-same : (n : ℕ) {f g : ℕ → X} → ((m : ℕ) → m ≤ n → f m ≡ g m) → curveEntries f n ≡ curveEntries g n

@@ -11,4 +11,5 @@ pub mod Carry
 pub mod Graded
 pub mod Array
 pub mod Order
+pub mod JetKind
 pub mod Orders

@@ -11,7 +11,7 @@ use lib.Signed.{quotZ, remZ}
 use Rattle.whole.specs.declared.Whole.{Whole}
 use Rattle.whole.specs.declared.Whole.the-variants.{Value, Refused}
 use Rattle.whole.specs.Checked.{inRange, formed, divided, both, plus, minus, times, over, ofNat}
-use Rattle.whole.specs.History.{Event, forms, divides, Traced, judge, orElse, verdict, settleBy, settle, given, then, tracedPlus, tracedMinus, tracedTimes, tracedOver, tracedOfNat, numbers, every, exact}
+use Rattle.whole.specs.History.{Event, forms, divides, Traced, judge, orElse, verdict, settleBy, settle, bare, then, tracedPlus, tracedMinus, tracedTimes, tracedOver, tracedOfNat, numbers, every, exact}
 use Rattle.whole.proofs.Range.{never}
 use Rattle.whole.proofs.Answers.{same-value}
 
@@ -59,9 +59,9 @@ divides-one : (x y : ℤ) → settleBy (verdict (divides x y ∷ (forms (quotZ x
 unfolding verdict divided
 divides-one x y = division (eqb (natAbs y) 0) (eqb (natAbs (remZ x y)) 0) (verdict (forms (quotZ x y) ∷ [])) (quotZ x y) (formed (quotZ x y)) (forms-one (quotZ x y))
 
-pub settle-given : (z : ℤ) → settle (given z) ≡ Value z
+pub settle-bare : (z : ℤ) → settle (bare z) ≡ Value z
 unfolding verdict
-settle-given z = refl
+settle-bare z = refl
 
 pub settle-plus : (s t : Traced) → settle (tracedPlus s t) ≡ plus (settle s) (settle t)
 settle-plus = settle-then _+ℤ_ (λ x y. forms (x +ℤ y) ∷ []) (λ x y. formed (x +ℤ y)) (λ x y. forms-one (x +ℤ y))

@@ -40,9 +40,9 @@ settleBy (suc c) z = Refused (suc c)
 abbrev pub settle : Traced → Whole
 settle t = settleBy (verdict (t .history)) (t .value)
 
--- a number that is given: nothing is formed
-abbrev pub given : ℤ → Traced
-given z = record { value = z; history = [] }
+-- a number that is given, bare of a history: nothing is formed
+abbrev pub bare : ℤ → Traced
+bare z = record { value = z; history = [] }
 
 -- an operation on two numbers: what the first took, what the second took, and then what the operation adds
 abbrev pub then : (ℤ → ℤ → ℤ) → (ℤ → ℤ → List Event) → Traced → Traced → Traced

@@ -1,5 +1,5 @@
 -- `calculus::binomials` meets its contract: the table is Pascal's triangle, row by row. Assumes nothing.
-use Rattle.calculus.proofs.Pascal.{sums, pascal, whole-table}
+use Rattle.calculus.proofs.LoopPascal.{sums, pascal, whole-table}
 use Rattle.calculus.proofs.binomials.Statement.{statement}
 use Rattle.calculus.proofs.binomials.Tie as tie
 

@@ -6,7 +6,7 @@ use Prim.Native.Nat.{_≤_}
 use native.Mathlib.Omega.{arith}
 use borrow.Author.Needs.{needs}
 use denote.Ref.{now}
-use Rattle.calculus.proofs.Orders.{smaller, not-smaller, smallest-none}
+use Rattle.calculus.proofs.LoopOrders.{smaller, not-smaller, smallest-none}
 use Rattle.calculus.proofs.smallest.Statement.{statement}
 use Rattle.calculus.proofs.smallest.Tie as tie
 

@@ -6,7 +6,7 @@ use Prim.Native.Nat.{_-_, _≤_}
 use native.Mathlib.Omega.{arith}
 use borrow.Author.Needs.{needs}
 use denote.Ref.{now}
-use Rattle.calculus.proofs.Orders.{above-here, above-later, above-none}
+use Rattle.calculus.proofs.LoopOrders.{above-here, above-later, above-none}
 use Rattle.calculus.proofs.some_above_20.Statement.{statement}
 use Rattle.calculus.proofs.some_above_20.Tie as tie
 

@@ -12,7 +12,7 @@ use borrow.Author.Tests.{le-ltb}
 use Rattle.calculus.specs.Graded.{triangle, index}
 use Rattle.calculus.specs.Choose.{choose, binomialTable}
 use Rattle.calculus.proofs.Graded.{index-is, index-231}
-use Rattle.calculus.proofs.Pascal.{binomial-at, choose-small}
+use Rattle.calculus.proofs.LoopPascal.{binomial-at, choose-small}
 
 -- where [i][j] stands, as the code works it out, is a place of the array
 pub in-array : {k : ℕ} (i j : ℕ) → k ≡ index i j → i + j ≤ 20 → k < 231

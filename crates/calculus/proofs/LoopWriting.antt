@@ -11,7 +11,7 @@ use Rattle.calculus.specs.Array.{listed}
 use Rattle.calculus.specs.Graded.{triangle}
 use Rattle.calculus.proofs.Graded.{triangle-suc}
 use Rattle.calculus.specs.Order.{rows}
-use Rattle.calculus.proofs.Filling.{listed-length}
+use Rattle.calculus.proofs.LoopFilling.{listed-length}
 
 module _ {X : Type 0} (all : List X) where
   -- the first k are written, and `left` is left

@@ -15,7 +15,7 @@ use Rattle.calculus.specs.Graded.{triangle, index, place, graded}
 use Rattle.calculus.specs.Array.{filled, surfaceArray}
 use Rattle.calculus.proofs.Rising.{earlier-row, same-row, later-row, later-entry}
 use Rattle.calculus.proofs.Graded.{index-below, index-only, index-231, index-place, place-first, place-second, place-order}
-use Rattle.calculus.proofs.Filling.{Stored, stored-none, stored-more, stored-as, stored-all, filled-at}
+use Rattle.calculus.proofs.LoopFilling.{Stored, stored-none, stored-more, stored-as, stored-all, filled-at}
 
 -- the entries up to the order N that come before [m][n]
 abbrev pub Earlier : ℕ → ℕ → ℕ → ℕ → ℕ → Type 0

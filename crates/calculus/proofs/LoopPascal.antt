@@ -12,7 +12,7 @@ use Rattle.calculus.specs.Graded.{triangle, index, graded}
 use Rattle.calculus.specs.Choose.{choose, binomialTable}
 use Rattle.calculus.proofs.Binom.{binom-above}
 use Rattle.calculus.proofs.Graded.{triangle-suc, index-is, index-231, place-first, place-second}
-use Rattle.calculus.proofs.Filling.{listed-same, listed-at}
+use Rattle.calculus.proofs.LoopFilling.{listed-same, listed-at}
 
 -- ---- how large a coefficient is
 choose-bounded : (m i : ℕ) → choose m i ≤ 2 ^ m

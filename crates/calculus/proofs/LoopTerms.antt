@@ -8,7 +8,7 @@ use Rattle.calculus.specs.Graded.{triangle, index}
 use Rattle.calculus.specs.Choose.{choose, binomialTable}
 use Rattle.calculus.specs.InTurn.{inTurn, inRows}
 use Rattle.calculus.proofs.Graded.{index-is}
-use Rattle.calculus.proofs.Pascal.{binomial-at, choose-small}
+use Rattle.calculus.proofs.LoopPascal.{binomial-at, choose-small}
 
 pub coefficient : (m i : ℕ) → i ≤ m → m ≤ 20 → getD binomialTable (index i (m - i)) 0 ≡ choose m i
 coefficient m i h l =
