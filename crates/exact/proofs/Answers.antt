@@ -7,14 +7,14 @@ use lib.IntN.{ℤ}
 use borrow.Author.Tests.{ne-eqb}
 use Rattle.whole.specs.declared.Whole.{Whole}
 use Rattle.whole.specs.declared.Whole.the-variants.{Value}
-use Rattle.whole.specs.History.{Traced, given, verdict, settleBy, settle}
-use Rattle.whole.proofs.History.{settle-given}
+use Rattle.whole.specs.History.{Traced, bare, verdict, settleBy, settle}
+use Rattle.whole.proofs.History.{settle-bare}
 use Rattle.calculus.specs.declared.Operation.{Operation}
 use Rattle.calculus.specs.Operation.{curveOperation, surfaceOperation}
 use Rattle.calculus.specs.Order.{curveEntries, surfaceEntries}
 use Rattle.calculus.proofs.Operations.{curve-alike, surface-alike}
 use Rattle.calculus.proofs.Same.{curve-entries-same, surface-entries-same}
-use Rattle.calculus.proofs.Cut.{uncut}
+use Rattle.calculus.proofs.LoopCut.{uncut}
 use Rattle.exact_formulas.specs.declared.CurveEntries.{CurveEntries}
 use Rattle.exact_formulas.specs.declared.SurfaceEntries.{SurfaceEntries}
 use Rattle.exact_formulas.specs.Kinds.{checked, traced}
@@ -22,7 +22,8 @@ use Rattle.exact_formulas.specs.Entries.{curveNumbers, surfaceNumbers, curveVal
 use Rattle.exact_formulas.proofs.Work.{map-listed, map-rows}
 use Rattle.exact_formulas.proofs.Progress.{CurveProgress, SurfaceProgress, curve-filled, surface-filled}
 use Rattle.exact_carry.proofs.Masks.{carriedJet}
-use Rattle.exact.specs.Answer.{refusedCurve, refusedSurface, answeredCurve, answeredSurface, curveAnswer, surfaceAnswer}
+use Rattle.exact.specs.Names.{refusedCurve, refusedSurface, answeredCurve, answeredSurface}
+use Rattle.exact.specs.Answer.{curveAnswer, surfaceAnswer}
 use Rattle.exact.specs.Inner.{curveWith, surfaceWith}
 use Rattle.exact.proofs.Judged.{Settled, settled}
 use Rattle.exact.proofs.CarryJudged.{carriedTraces, carry-settles}
@@ -67,17 +68,17 @@ module _ (n : ℕ) (f : ℕ → ℕ → Whole) (g : ℕ → ℕ → Traced) (s :
 pub curve-operated : (op : Operation) (n : ℕ) (a b : List ℤ) → n ≤ 20 → {e : CurveEntries} → e ≡ formedCurve (curveOperation checked op (curveValues a) (curveValues b)) (min n 20) →
     curveWith n e ≡ curveAnswer (curveOperation checked op (curveValues a) (curveValues b)) n
 curve-operated op n a b =
-    curve-with n (curveOperation checked op (curveValues a) (curveValues b)) (curveOperation traced op (λ m. given (curveNumbers a m)) (λ m. given (curveNumbers b m)))
-    (curve-alike Settled traced checked settled n op (λ m. given (curveNumbers a m)) (λ m. given (curveNumbers b m)) (curveValues a) (curveValues b)
-    (λ m l. settle-given (curveNumbers a m)) (λ m l. settle-given (curveNumbers b m)))
+    curve-with n (curveOperation checked op (curveValues a) (curveValues b)) (curveOperation traced op (λ m. bare (curveNumbers a m)) (λ m. bare (curveNumbers b m)))
+    (curve-alike Settled traced checked settled n op (λ m. bare (curveNumbers a m)) (λ m. bare (curveNumbers b m)) (curveValues a) (curveValues b)
+    (λ m l. settle-bare (curveNumbers a m)) (λ m l. settle-bare (curveNumbers b m)))
 
 pub surface-operated : (op : Operation) (n : ℕ) (a b : List ℤ) → n ≤ 20 → {e : SurfaceEntries} →
     e ≡ formedSurface (surfaceOperation checked op (surfaceValues a) (surfaceValues b)) (min n 20) →
     surfaceWith n e ≡ surfaceAnswer (surfaceOperation checked op (surfaceValues a) (surfaceValues b)) n
 surface-operated op n a b =
-    surface-with n (surfaceOperation checked op (surfaceValues a) (surfaceValues b)) (surfaceOperation traced op (λ i j. given (surfaceNumbers a i j)) (λ i j. given (surfaceNumbers b i j)))
-    (surface-alike Settled traced checked settled n op (λ i j. given (surfaceNumbers a i j)) (λ i j. given (surfaceNumbers b i j)) (surfaceValues a) (surfaceValues b)
-    (λ i j l. settle-given (surfaceNumbers a i j)) (λ i j l. settle-given (surfaceNumbers b i j)))
+    surface-with n (surfaceOperation checked op (surfaceValues a) (surfaceValues b)) (surfaceOperation traced op (λ i j. bare (surfaceNumbers a i j)) (λ i j. bare (surfaceNumbers b i j)))
+    (surface-alike Settled traced checked settled n op (λ i j. bare (surfaceNumbers a i j)) (λ i j. bare (surfaceNumbers b i j)) (surfaceValues a) (surfaceValues b)
+    (λ i j l. settle-bare (surfaceNumbers a i j)) (λ i j l. settle-bare (surfaceNumbers b i j)))
 
 pub curve-carried : (entries u v : List ℤ) (n : ℕ) → n ≤ 20 → {e : CurveEntries} → e ≡ formedCurve (carriedJet entries u v) (min n 20) → curveWith n e ≡ curveAnswer (carriedJet entries u v) n
 curve-carried entries u v n =

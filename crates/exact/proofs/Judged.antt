@@ -11,8 +11,8 @@ use Rattle.whole.specs.declared.Whole.{Whole}
 use Rattle.whole.specs.declared.Whole.the-variants.{Value}
 use Rattle.whole.specs.Checked as checks
 use Rattle.whole.specs.Checked.{inRange}
-use Rattle.whole.specs.History.{Event, forms, Traced, orElse, verdict, settleBy, settle, given, then, numbers, every, exact}
-use Rattle.whole.proofs.History.{verdict-append, verdict-parts, verdict-exact, exact-append, exact-then, exact-one, settle-given, settle-plus, settle-minus, settle-times, settle-over, settle-ofNat}
+use Rattle.whole.specs.History.{Event, forms, Traced, orElse, verdict, settleBy, settle, bare, then, numbers, every, exact}
+use Rattle.whole.proofs.History.{verdict-append, verdict-parts, verdict-exact, exact-append, exact-then, exact-one, settle-bare, settle-plus, settle-minus, settle-times, settle-over, settle-ofNat}
 use Rattle.calculus.specs.Kind.{Kind, regular, plain}
 use Rattle.calculus.specs.Array.{listed}
 use Rattle.calculus.specs.Curve
@@ -23,7 +23,8 @@ use Rattle.exact.specs.declared.SurfaceAnswer.{SurfaceAnswer}
 use Rattle.exact_formulas.specs.Kinds.{checked, traced}
 use Rattle.calculus.specs.Order.{rows, curveEntries, surfaceEntries}
 use Rattle.exact_formulas.specs.Entries.{valueOf, unlessRefused}
-use Rattle.exact.specs.Answer.{refusedCurve, refusedSurface, answeredCurve, answeredSurface, curveAnswer, surfaceAnswer}
+use Rattle.exact.specs.Names.{refusedCurve, refusedSurface, answeredCurve, answeredSurface}
+use Rattle.exact.specs.Answer.{curveAnswer, surfaceAnswer}
 use Rattle.exact.specs.Judged.{histories, byVerdict, judgedCurve, judgedSurface}
 use Rattle.exact_formulas.proofs.Work.{map-listed, map-rows}
 use Rattle.exact.proofs.Same.{curve-same, surface-same, curve-answer-same, surface-answer-same}
@@ -37,8 +38,8 @@ Valued t z = t .value ≡ z
 
 pub settled : Related Settled traced checked
 settled = record {
-  zero = settle-given (pos 0);
-  one = settle-given (pos 1);
+  zero = settle-bare (pos 0);
+  one = settle-bare (pos 1);
   plus = λ a c b d p q. settle-plus a c ∙ ap₂ checks.plus p q;
   minus = λ a c b d p q. settle-minus a c ∙ ap₂ checks.minus p q;
   times = λ a c b d p q. settle-times a c ∙ ap₂ checks.times p q;
@@ -210,52 +211,52 @@ surface-answered n f g a s v e =
 module _ (n : ℕ) (f : (A : Type 0) → Kind A → (ℕ → A) → (ℕ → A) → ℕ → A)
     (alike : (A B : Type 0) (R : A → B → Type 0) (K : Kind A) (L : Kind B) → Related R K L → (a c : ℕ → A) (b d : ℕ → B) →
     CurvesAlike R n a b → CurvesAlike R n c d → CurvesAlike R n (f A K a c) (f B L b d)) (a b : ℕ → ℤ) where
-  formula-judged : curveAnswer (f Whole checked (λ m. Value (a m)) (λ m. Value (b m))) n ≡ judgedCurve (f Traced traced (λ m. given (a m)) (λ m. given (b m))) (f ℤ plain a b) n
+  formula-judged : curveAnswer (f Whole checked (λ m. Value (a m)) (λ m. Value (b m))) n ≡ judgedCurve (f Traced traced (λ m. bare (a m)) (λ m. bare (b m))) (f ℤ plain a b) n
   formula-judged =
-      curve-judged n _ (f Traced traced (λ m. given (a m)) (λ m. given (b m))) _
-      (alike Traced Whole Settled traced checked settled _ _ (λ m. Value (a m)) (λ m. Value (b m)) (λ m l. settle-given (a m)) (λ m l. settle-given (b m)))
+      curve-judged n _ (f Traced traced (λ m. bare (a m)) (λ m. bare (b m))) _
+      (alike Traced Whole Settled traced checked settled _ _ (λ m. Value (a m)) (λ m. Value (b m)) (λ m l. settle-bare (a m)) (λ m l. settle-bare (b m)))
       (alike Traced ℤ Valued traced plain valued _ _ a b (λ m l. refl) (λ m l. refl))
 
 module _ (n : ℕ) (f : (A : Type 0) → Kind A → (ℕ → ℕ → A) → (ℕ → ℕ → A) → ℕ → ℕ → A)
     (alike : (A B : Type 0) (R : A → B → Type 0) (K : Kind A) (L : Kind B) → Related R K L → (a c : ℕ → ℕ → A) (b d : ℕ → ℕ → B) →
     SurfacesAlike R n a b → SurfacesAlike R n c d → SurfacesAlike R n (f A K a c) (f B L b d)) (a b : ℕ → ℕ → ℤ) where
   surface-formula-judged : surfaceAnswer (f Whole checked (λ i j. Value (a i j)) (λ i j. Value (b i j))) n
-      ≡ judgedSurface (f Traced traced (λ i j. given (a i j)) (λ i j. given (b i j))) (f ℤ plain a b) n
+      ≡ judgedSurface (f Traced traced (λ i j. bare (a i j)) (λ i j. bare (b i j))) (f ℤ plain a b) n
   surface-formula-judged =
-      surface-judged n _ (f Traced traced (λ i j. given (a i j)) (λ i j. given (b i j))) _
-      (alike Traced Whole Settled traced checked settled _ _ (λ i j. Value (a i j)) (λ i j. Value (b i j)) (λ i j l. settle-given (a i j)) (λ i j l. settle-given (b i j)))
+      surface-judged n _ (f Traced traced (λ i j. bare (a i j)) (λ i j. bare (b i j))) _
+      (alike Traced Whole Settled traced checked settled _ _ (λ i j. Value (a i j)) (λ i j. Value (b i j)) (λ i j l. settle-bare (a i j)) (λ i j l. settle-bare (b i j)))
       (alike Traced ℤ Valued traced plain valued _ _ a b (λ i j l. refl) (λ i j l. refl))
 
 module _ (a b : ℕ → ℤ) (n : ℕ) where
   pub sum-judged : curveAnswer (Curve.sum (regular checked) (λ m. Value (a m)) (λ m. Value (b m))) n
-      ≡ judgedCurve (Curve.sum (regular traced) (λ m. given (a m)) (λ m. given (b m))) (Curve.sum (regular plain) a b) n
+      ≡ judgedCurve (Curve.sum (regular traced) (λ m. bare (a m)) (λ m. bare (b m))) (Curve.sum (regular plain) a b) n
   sum-judged = formula-judged n (λ A K. Curve.sum (regular K)) (λ A B R K L r a c b d p q. sum-alike R R (regular K) (regular L) (regulars r) n p q) a b
 
   pub difference-judged : curveAnswer (Curve.difference (regular checked) (λ m. Value (a m)) (λ m. Value (b m))) n
-      ≡ judgedCurve (Curve.difference (regular traced) (λ m. given (a m)) (λ m. given (b m))) (Curve.difference (regular plain) a b) n
+      ≡ judgedCurve (Curve.difference (regular traced) (λ m. bare (a m)) (λ m. bare (b m))) (Curve.difference (regular plain) a b) n
   difference-judged = formula-judged n (λ A K. Curve.difference (regular K)) (λ A B R K L r a c b d p q. difference-alike R R (regular K) (regular L) (regulars r) n p q) a b
 
   pub product-judged : curveAnswer (Curve.product checked (λ m. Value (a m)) (λ m. Value (b m))) n
-      ≡ judgedCurve (Curve.product traced (λ m. given (a m)) (λ m. given (b m))) (Curve.product plain a b) n
+      ≡ judgedCurve (Curve.product traced (λ m. bare (a m)) (λ m. bare (b m))) (Curve.product plain a b) n
   product-judged = formula-judged n (λ A K. Curve.product K) (λ A B R K L r. product-alike R K L r n) a b
 
   pub quotient-judged : curveAnswer (Curve.quotient checked (λ m. Value (a m)) (λ m. Value (b m))) n
-      ≡ judgedCurve (Curve.quotient traced (λ m. given (a m)) (λ m. given (b m))) (Curve.quotient plain a b) n
+      ≡ judgedCurve (Curve.quotient traced (λ m. bare (a m)) (λ m. bare (b m))) (Curve.quotient plain a b) n
   quotient-judged = formula-judged n (λ A K. Curve.quotient K) (λ A B R K L r. quotient-alike R K L r n) a b
 
 module _ (a b : ℕ → ℕ → ℤ) (n : ℕ) where
   pub surface-sum-judged : surfaceAnswer (Surface.sum (regular checked) (λ i j. Value (a i j)) (λ i j. Value (b i j))) n
-      ≡ judgedSurface (Surface.sum (regular traced) (λ i j. given (a i j)) (λ i j. given (b i j))) (Surface.sum (regular plain) a b) n
+      ≡ judgedSurface (Surface.sum (regular traced) (λ i j. bare (a i j)) (λ i j. bare (b i j))) (Surface.sum (regular plain) a b) n
   surface-sum-judged = surface-formula-judged n (λ A K. Surface.sum (regular K)) (λ A B R K L r a c b d p q. surface-sum-alike R R (regular K) (regular L) (regulars r) n p q) a b
 
   pub surface-difference-judged : surfaceAnswer (Surface.difference (regular checked) (λ i j. Value (a i j)) (λ i j. Value (b i j))) n
-      ≡ judgedSurface (Surface.difference (regular traced) (λ i j. given (a i j)) (λ i j. given (b i j))) (Surface.difference (regular plain) a b) n
+      ≡ judgedSurface (Surface.difference (regular traced) (λ i j. bare (a i j)) (λ i j. bare (b i j))) (Surface.difference (regular plain) a b) n
   surface-difference-judged = surface-formula-judged n (λ A K. Surface.difference (regular K)) (λ A B R K L r a c b d p q. surface-difference-alike R R (regular K) (regular L) (regulars r) n p q) a b
 
   pub surface-product-judged : surfaceAnswer (Surface.product checked (λ i j. Value (a i j)) (λ i j. Value (b i j))) n
-      ≡ judgedSurface (Surface.product traced (λ i j. given (a i j)) (λ i j. given (b i j))) (Surface.product plain a b) n
+      ≡ judgedSurface (Surface.product traced (λ i j. bare (a i j)) (λ i j. bare (b i j))) (Surface.product plain a b) n
   surface-product-judged = surface-formula-judged n (λ A K. Surface.product K) (λ A B R K L r. surface-product-alike R K L r n) a b
 
   pub surface-quotient-judged : surfaceAnswer (Surface.quotient checked (λ i j. Value (a i j)) (λ i j. Value (b i j))) n
-      ≡ judgedSurface (Surface.quotient traced (λ i j. given (a i j)) (λ i j. given (b i j))) (Surface.quotient plain a b) n
+      ≡ judgedSurface (Surface.quotient traced (λ i j. bare (a i j)) (λ i j. bare (b i j))) (Surface.quotient plain a b) n
   surface-quotient-judged = surface-formula-judged n (λ A K. Surface.quotient K) (λ A B R K L r. surface-quotient-alike R K L r n) a b

@@ -6,5 +6,4 @@ pub mod Same
 -- the answer that entries make, and the entries that a loop has stored
 pub mod Answers
 -- a parameter curve's list; the tests of the orders of a carry
-pub mod Pairs
 pub mod Orders

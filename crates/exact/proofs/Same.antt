@@ -9,7 +9,8 @@ use Rattle.calculus.specs.Graded.{triangle, place, graded}
 use Rattle.calculus.proofs.Graded.{place-order}
 use Rattle.calculus.proofs.Same.{curve-entries-same, surface-entries-same, filled-same}
 use Rattle.exact_formulas.specs.Entries.{valueOf, unlessRefused}
-use Rattle.exact.specs.Answer.{refusedCurve, refusedSurface, answeredCurve, answeredSurface, curveAnswer, surfaceAnswer}
+use Rattle.exact.specs.Names.{refusedCurve, refusedSurface, answeredCurve, answeredSurface}
+use Rattle.exact.specs.Answer.{curveAnswer, surfaceAnswer}
 
 pub curve-same : (n : ℕ) {a b : ℕ → ℤ} → ((m : ℕ) → m ≤ n → a m ≡ b m) → answeredCurve n a ≡ answeredCurve n b
 curve-same n {a} {b} h = ap (λ (l : List ℤ). record { refusal = 0; jet = record { order = n; entries = l } }) (filled-same 21 (suc n) (pos 0) a b (λ k l. h k (omega arith)))

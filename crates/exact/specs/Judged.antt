@@ -7,7 +7,7 @@ use Rattle.whole.specs.History.{Event, Traced, verdict}
 use Rattle.exact.specs.declared.CurveAnswer.{CurveAnswer}
 use Rattle.exact.specs.declared.SurfaceAnswer.{SurfaceAnswer}
 use Rattle.calculus.specs.Order.{curveEntries, surfaceEntries}
-use Rattle.exact.specs.Answer.{refusedCurve, refusedSurface, answeredCurve, answeredSurface}
+use Rattle.exact.specs.Names.{refusedCurve, refusedSurface, answeredCurve, answeredSurface}
 
 -- what the entries of a list took, one after the other
 unfoldable pub histories : List Traced → List Event

@@ -1,4 +1,5 @@
 pub mod Answer
+pub mod Names
 pub mod Judged
 pub mod Composite
 pub mod Inner

@@ -1,6 +1,7 @@
 // Exact jets of surfaces along curves in their parameters: Faà di Bruno's formula (document 01's carry).
 ghost use mathlib.Core.Path.{_≡_};
-ghost use Rattle.exact.specs.Composite.{withinOrders, alongCurveAt, alongCurve};
+ghost use Rattle.exact.specs.Composite.{alongCurveAt, alongCurve};
+ghost use Rattle.exact.specs.Inner.{withinOrders};
 use crate::CurveAnswer;
 use crate::ParameterCurve;
 use crate::SurfaceDerivatives;
@@ -19,10 +20,8 @@ fn refusal(surface: usize, curve: usize, order: usize) -> u8
     if 20 < order {
         return 1;
     }
-    if surface < order {
-        return 2;
-    }
-    if curve < order { 2 } else { 0 }
+    let least = calculus::smaller(surface, curve);
+    if least < order { 2 } else { 0 }
 }
 
 impl SurfaceDerivatives {

@@ -10,7 +10,9 @@ ghost use Rattle.calculus.specs.Operation.{curveOperation};
 ghost use Rattle.exact_formulas.specs.Kinds.{checked};
 ghost use Rattle.calculus.specs.Order.{curveEntries};
 ghost use Rattle.exact_formulas.specs.Entries.{curveNumbers};
-ghost use Rattle.exact.specs.Answer.{answeredCurve, onCurves, onCurvesAt, curveDerivative, curveFromList, curveIntoList};
+ghost use Rattle.calculus.specs.JetKind.{differentiated, fromList, intoList};
+ghost use Rattle.exact.specs.Answer.{curves, onCurves, onCurvesAt};
+ghost use Rattle.exact.specs.Names.{answeredCurve};
 use crate::CurveAnswer;
 use crate::CurveDerivatives;
 use calculus::Operation;
@@ -91,7 +93,7 @@ fn write(a: &[i64; 21], n: usize, out: &mut [i64])
 impl CurveDerivatives {
     // From a list with an entry for each order.
     pub fn from_list(order: usize, list: &[i64]) -> CurveAnswer
-        ensures { λ r. ⌜ r ≡ curveFromList order (now (list .entry)) ⌝ }
+        ensures { λ r. ⌜ r ≡ fromList curves order (now (list .entry)) ⌝ }
     {
         if 20 < order {
             return crate::refused_curve(1);
@@ -105,7 +107,7 @@ impl CurveDerivatives {
 
     // Into such a list: 0, or the number of the refusal.
     pub fn into_list(self, out: &mut [i64]) -> u8
-        ensures { λ r. ⌜ _≡_ {A = ℕ × List ℤ} (r, now (out .exit)) (curveIntoList self (now (out .entry))) ⌝ }
+        ensures { λ r. ⌜ _≡_ {A = ℕ × List ℤ} (r, now (out .exit)) (intoList curves self (now (out .entry))) ⌝ }
     {
         let n = self.order;
         if 20 < n {
@@ -133,7 +135,7 @@ impl CurveDerivatives {
     }
 
     pub fn derivative(self) -> CurveAnswer
-        ensures { λ r. ⌜ r ≡ curveDerivative self ⌝ }
+        ensures { λ r. ⌜ r ≡ differentiated curves derivative self ⌝ }
     {
         let n = self.order;
         if 20 < n {

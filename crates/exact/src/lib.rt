@@ -3,7 +3,8 @@
 ghost use mathlib.Core.Path.{_≡_};
 ghost use Prim.Native.Nat.{_+_, _≤_};
 ghost use Rattle.calculus.specs.Graded.{index as indexOf};
-ghost use Rattle.exact.specs.Answer.{refusedCurve, refusedSurface, refusedParameter};
+ghost use Rattle.exact.specs.Answer.{curves, surfaces, parameters};
+ghost use Rattle.calculus.specs.JetKind.{refused};
 ghost use Rattle.exact.specs.Inner.{curveWith, surfaceWith};
 use exact_formulas::CurveEntries;
 use exact_formulas::SurfaceEntries;
@@ -50,7 +51,7 @@ pub struct ParameterAnswer {
 
 // A refusal's number, beside the zero jet of order 0.
 pub fn refused_curve(c: u8) -> CurveAnswer
-    ensures { λ r. ⌜ r ≡ refusedCurve c ⌝ }
+    ensures { λ r. ⌜ r ≡ refused curves c ⌝ }
 {
     let z = [0i64; 21];
     CurveAnswer {
@@ -63,7 +64,7 @@ pub fn refused_curve(c: u8) -> CurveAnswer
 }
 
 pub fn refused_surface(c: u8) -> SurfaceAnswer
-    ensures { λ r. ⌜ r ≡ refusedSurface c ⌝ }
+    ensures { λ r. ⌜ r ≡ refused surfaces c ⌝ }
 {
     let z = [0i64; 231];
     SurfaceAnswer {
@@ -76,7 +77,7 @@ pub fn refused_surface(c: u8) -> SurfaceAnswer
 }
 
 fn refused_parameter(c: u8) -> ParameterAnswer
-    ensures { λ r. ⌜ r ≡ refusedParameter c ⌝ }
+    ensures { λ r. ⌜ r ≡ refused parameters c ⌝ }
 {
     let y = [0i64; 21];
     let z = [0i64; 21];

@@ -6,7 +6,9 @@ ghost use lib.IntN.{ℤ, pos};
 ghost use lib.ListN.{length, getD};
 ghost use Rattle.calculus.specs.Array.{curveArray};
 ghost use Rattle.exact_formulas.specs.Entries.{curveNumbers};
-ghost use Rattle.exact.specs.Answer.{pairs, parameterFromList, parameterIntoList};
+ghost use Rattle.calculus.specs.JetKind.{fromList, intoList};
+ghost use Rattle.calculus.specs.Order.{pairs};
+ghost use Rattle.exact.specs.Answer.{parameters};
 use crate::ParameterAnswer;
 use crate::ParameterCurve;
 
@@ -44,7 +46,7 @@ fn write(u: &[i64; 21], v: &[i64; 21], n: usize, out: &mut [i64])
 impl ParameterCurve {
     // From a list of u0 v0 u1 v1 ..
     pub fn from_list(order: usize, list: &[i64]) -> ParameterAnswer
-        ensures { λ r. ⌜ r ≡ parameterFromList order (now (list .entry)) ⌝ }
+        ensures { λ r. ⌜ r ≡ fromList parameters order (now (list .entry)) ⌝ }
     {
         if 20 < order {
             return crate::refused_parameter(1);
@@ -67,7 +69,7 @@ impl ParameterCurve {
 
     // Into such a list: 0, or the number of the refusal.
     pub fn into_list(self, out: &mut [i64]) -> u8
-        ensures { λ r. ⌜ _≡_ {A = ℕ × List ℤ} (r, now (out .exit)) (parameterIntoList self (now (out .entry))) ⌝ }
+        ensures { λ r. ⌜ _≡_ {A = ℕ × List ℤ} (r, now (out .exit)) (intoList parameters self (now (out .entry))) ⌝ }
     {
         let n = self.order;
         if 20 < n {

@@ -11,7 +11,9 @@ ghost use Rattle.calculus.specs.Operation.{surfaceOperation};
 ghost use Rattle.exact_formulas.specs.Kinds.{checked};
 ghost use Rattle.calculus.specs.Order.{surfaceEntries, listPlace};
 ghost use Rattle.exact_formulas.specs.Entries.{surfaceNumbers};
-ghost use Rattle.exact.specs.Answer.{answeredSurface, onSurfaces, onSurfacesAt, surfaceDerivative, surfaceFromList, surfaceIntoList};
+ghost use Rattle.calculus.specs.JetKind.{differentiated, fromList, intoList};
+ghost use Rattle.exact.specs.Answer.{surfaces, onSurfaces, onSurfacesAt};
+ghost use Rattle.exact.specs.Names.{answeredSurface};
 use crate::SurfaceAnswer;
 use crate::SurfaceDerivatives;
 use calculus::Operation;
@@ -66,7 +68,7 @@ fn shifted(a: &[i64; 231], n: usize, p: usize, q: usize) -> SurfaceAnswer
 // The derivative once by u or once by v.
 fn derivative(a: SurfaceDerivatives, p: usize, q: usize) -> SurfaceAnswer
     requires { ⌜ p + q ≡ 1 ⌝ }
-    ensures { λ r. ⌜ r ≡ surfaceDerivative (λ s i j. s (i + p) (j + q)) a ⌝ }
+    ensures { λ r. ⌜ r ≡ differentiated surfaces (λ s i j. s (i + p) (j + q)) a ⌝ }
 {
     let n = a.order;
     if 20 < n {
@@ -130,7 +132,7 @@ fn write(a: &[i64; 231], n: usize, out: &mut [i64])
 impl SurfaceDerivatives {
     // From a list of the entries [i][j], i rising, then j.
     pub fn from_list(order: usize, list: &[i64]) -> SurfaceAnswer
-        ensures { λ r. ⌜ r ≡ surfaceFromList order (now (list .entry)) ⌝ }
+        ensures { λ r. ⌜ r ≡ fromList surfaces order (now (list .entry)) ⌝ }
     {
         if 20 < order {
             return crate::refused_surface(1);
@@ -144,7 +146,7 @@ impl SurfaceDerivatives {
 
     // Into such a list: 0, or the number of the refusal.
     pub fn into_list(self, out: &mut [i64]) -> u8
-        ensures { λ r. ⌜ _≡_ {A = ℕ × List ℤ} (r, now (out .exit)) (surfaceIntoList self (now (out .entry))) ⌝ }
+        ensures { λ r. ⌜ _≡_ {A = ℕ × List ℤ} (r, now (out .exit)) (intoList surfaces self (now (out .entry))) ⌝ }
     {
         let n = self.order;
         if 20 < n {
@@ -172,13 +174,13 @@ impl SurfaceDerivatives {
     }
 
     pub fn derivative_u(self) -> SurfaceAnswer
-        ensures { λ r. ⌜ r ≡ surfaceDerivative derivativeU self ⌝ }
+        ensures { λ r. ⌜ r ≡ differentiated surfaces derivativeU self ⌝ }
     {
         derivative(self, 1, 0)
     }
 
     pub fn derivative_v(self) -> SurfaceAnswer
-        ensures { λ r. ⌜ r ≡ surfaceDerivative derivativeV self ⌝ }
+        ensures { λ r. ⌜ r ≡ differentiated surfaces derivativeV self ⌝ }
     {
         derivative(self, 0, 1)
     }

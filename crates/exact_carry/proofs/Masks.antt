@@ -10,8 +10,8 @@ use Rattle.partitions.specs.Parts.{total, multiplicity}
 use Rattle.calculus.specs.Kind.{regular}
 use Rattle.calculus.specs.Carry.{digits, factors, ones, coordinates, surfaceEntry, compositeDerivative, compositeDerivatives}
 use Rattle.calculus.specs.Graded.{index}
-use Rattle.calculus.proofs.Bits as bits
-use Rattle.calculus.proofs.Walking.{multiplicity-fits}
+use Rattle.calculus.proofs.LoopBits as bits
+use Rattle.calculus.proofs.LoopWalking.{multiplicity-fits}
 use Rattle.whole.specs.declared.Whole.{Whole}
 use Rattle.whole.specs.declared.Whole.the-variants.{Value}
 use Rattle.whole.specs.Checked.{formed}

@@ -11,8 +11,8 @@ use Rattle.calculus.specs.Rising.{before, rising, beforeEntry, risingRows}
 use Rattle.calculus.proofs.Related.{same}
 use Rattle.calculus.proofs.Alike.{dividend-alike, surface-dividend-alike}
 use Rattle.calculus.proofs.Graded.{room-231}
-use Rattle.calculus.proofs.Filling.{curve-earlier}
-use Rattle.calculus.proofs.SurfaceFilling.{surface-earlier}
+use Rattle.calculus.proofs.LoopFilling.{curve-earlier}
+use Rattle.calculus.proofs.LoopSurfaceFilling.{surface-earlier}
 use Rattle.calculus.specs.declared.Operation.{Operation}
 use Rattle.calculus.specs.declared.Operation.the-variants.{Sum, Difference, Product, Quotient}
 use Rattle.exact_formulas.specs.Kinds.{checked}

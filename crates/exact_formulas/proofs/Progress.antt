@@ -13,13 +13,13 @@ use Rattle.whole.specs.declared.Whole.the-variants.{Value, Refused}
 use Rattle.calculus.specs.Graded.{index}
 use Rattle.calculus.specs.Array.{curveArray, surfaceArray}
 use Rattle.calculus.proofs.Graded.{room-231}
-use Rattle.calculus.proofs.Filling.{CurveStored, curve-none, curve-more, curve-all}
-use Rattle.calculus.proofs.SurfaceFilling.{SurfaceStored, surface-none, surface-more, surface-next, surface-all}
+use Rattle.calculus.proofs.LoopFilling.{CurveStored, curve-none, curve-more, curve-all}
+use Rattle.calculus.proofs.LoopSurfaceFilling.{SurfaceStored, surface-none, surface-more, surface-next, surface-all}
 use Rattle.exact_formulas.specs.declared.CurveEntries.{CurveEntries}
 use Rattle.exact_formulas.specs.declared.SurfaceEntries.{SurfaceEntries}
 use Rattle.exact_formulas.specs.Entries.{valueOf, unlessRefused, noCurve, noSurface, curveOf, surfaceOf, formedCurve, formedSurface}
-use Rattle.calculus.proofs.Left as order
-use Rattle.calculus.proofs.Table.{in-array}
+use Rattle.calculus.proofs.LoopLeft as order
+use Rattle.calculus.proofs.LoopTable.{in-array}
 use Rattle.exact_formulas.proofs.Work as work
 
 abbrev curve : List ℤ → CurveEntries

@@ -3,7 +3,7 @@ use lib.IntN.{pos}
 use Rattle.whole.specs.declared.Whole.{Whole}
 use Rattle.whole.specs.declared.Whole.the-variants.{Value}
 use Rattle.whole.specs.Checked
-use Rattle.whole.specs.History.{Traced, given, tracedPlus, tracedMinus, tracedTimes, tracedOver, tracedOfNat}
+use Rattle.whole.specs.History.{Traced, bare, tracedPlus, tracedMinus, tracedTimes, tracedOver, tracedOfNat}
 use Rattle.calculus.specs.Kind.{Kind}
 
 abbrev pub checked : Kind Whole
@@ -19,8 +19,8 @@ checked = record {
 
 abbrev pub traced : Kind Traced
 traced = record {
-  zero = given (pos 0);
-  one = given (pos 1);
+  zero = bare (pos 0);
+  one = bare (pos 1);
   plus = tracedPlus;
   minus = tracedMinus;
   times = tracedTimes;

@@ -10,8 +10,9 @@ use lib.ListN.{length, getD, take, length-map}
 use lib.Seq.{take-all, getD-take, length-take-le}
 use Rattle.exact.specs.Judged.{byVerdict}
 use Rattle.roads.specs.declared.Step.{Step}
-use Rattle.roads.specs.Recipe.{Jets, wellFormed, worked, built}
+use Rattle.roads.specs.Recipe.{RecipeKind, wellFormed, worked, built}
 use Rattle.calculus.specs.Orders.{someAbove20, smallest}
+use Rattle.calculus.specs.JetKind.{refused}
 use Rattle.roads.proofs.Inputs.{counts}
 use Rattle.roads.proofs.Working.{stays, worked-same}
 
@@ -36,36 +37,36 @@ pub no-refusal : {B : Type 0} (refused : ℕ → B) (b : B) {x y : ℕ} → x �
 no-refusal refused b e h = ap (λ (z : ℕ). byVerdict refused z b) (sym h ∙ e)
 
 -- ---- the orders os of four jets, and how many of the four the count names
-pub record Given {J A : Type 0} (K : Jets J A) (jets : List J) (inputs : ℕ) (os : List ℕ) (g : ℕ) : Type 0 where
+pub record Given {X E J A : Type 0} (K : RecipeKind X E J A) (jets : List J) (inputs : ℕ) (os : List ℕ) (g : ℕ) : Type 0 where
   pub four : length jets ≡ 4
-  pub all : os ≡ map (K .order) jets
+  pub all : os ≡ map (K .jets .order) jets
   pub count : g ≡ min inputs 4
 
-module _ {J A : Type 0} {K : Jets J A} {jets : List J} {inputs : ℕ} {os : List ℕ} {g : ℕ} (p : Given K jets inputs os g) where
+module _ {X E J A : Type 0} {K : RecipeKind X E J A} {jets : List J} {inputs : ℕ} {os : List ℕ} {g : ℕ} (p : Given K jets inputs os g) where
   pub given-length : g ≡ length (take g os)
-  given-length = sym (length-take-le g os (omega (arith, ap length (p .all), length-map jets (K .order), p .four, p .count, min-le-right inputs 4)))
+  given-length = sym (length-take-le g os (omega (arith, ap length (p .all), length-map jets (K .jets .order), p .four, p .count, min-le-right inputs 4)))
 
-module _ {J A : Type 0} {K : Jets J A} {jets : List J} {inputs : ℕ} {os : List ℕ} {g : ℕ} (p : Given K jets inputs os g) (steps : ℕ) (program : List Step) where
+module _ {X E J A : Type 0} {K : RecipeKind X E J A} {jets : List J} {inputs : ℕ} {os : List ℕ} {g : ℕ} (p : Given K jets inputs os g) (steps : ℕ) (program : List Step) where
   abbrev orders : List ℕ
-  orders = map (K .order) (take inputs jets)
+  orders = map (K .jets .order) (take inputs jets)
 
   abbrev outcome : A
   outcome = built K inputs jets steps program
 
   given-orders : take g os ≡ orders
-  given-orders = ap (take g) (p .all) ∙ take-map (K .order) g jets ∙ ap (map (K .order)) (take-four jets (p .four) inputs g (p .count))
+  given-orders = ap (take g) (p .all) ∙ take-map (K .jets .order) g jets ∙ ap (map (K .jets .order)) (take-four jets (p .four) inputs g (p .count))
 
-  pub too-high : someAbove20 (take g os) ≡ true → K .refused 1 ≡ outcome
+  pub too-high : someAbove20 (take g os) ≡ true → refused (K .jets) 1 ≡ outcome
   too-high h = rw (← given-orders, h)
 
   module _ (h : someAbove20 (take g os) ≡ false) where
     abbrev work : A
     work = worked K (λ i. K .cut (smallest orders) (getD (take inputs jets) i (K .blank))) inputs (take steps program)
 
-    checked : (t : Bool) → wellFormed inputs steps (take steps program) ≡ t → outcome ≡ cond t work (K .refused 4)
-    checked t e = ap₂ (λ (x y : Bool). cond x (K .refused 1) (cond y work (K .refused 4))) (ap someAbove20 (sym given-orders) ∙ h) e
+    checked : (t : Bool) → wellFormed inputs steps (take steps program) ≡ t → outcome ≡ cond t work (refused (K .jets) 4)
+    checked t e = ap₂ (λ (x y : Bool). cond x (refused (K .jets) 1) (cond y work (refused (K .jets) 4))) (ap someAbove20 (sym given-orders) ∙ h) e
 
-    pub ill-formed : wellFormed inputs steps (take steps program) ≡ false → K .refused 4 ≡ outcome
+    pub ill-formed : wellFormed inputs steps (take steps program) ≡ false → refused (K .jets) 4 ≡ outcome
     ill-formed e = sym (checked false e)
 
     pub builds : wellFormed inputs steps (take steps program) ≡ true → {n : ℕ} → n ≡ smallest (take g os) → (jet-of : List J) →
@@ -78,9 +79,9 @@ module _ {J A : Type 0} {K : Jets J A} {jets : List J} {inputs : ℕ} {os : List
         ∙ sym (checked true e)
 
 -- ---- only the jets that are given count
-pub built-same : {J A : Type 0} (K : Jets J A) (inputs steps : ℕ) (program : List Step) (l k : List J) → take inputs l ≡ take inputs k →
+pub built-same : {X E J A : Type 0} (K : RecipeKind X E J A) (inputs steps : ℕ) (program : List Step) (l k : List J) → take inputs l ≡ take inputs k →
     built K inputs l steps program ≡ built K inputs k steps program
 built-same {J} K inputs steps program l k e =
-    ap (λ (given : List J). cond (someAbove20 (map (K .order) given)) (K .refused 1)
+    ap (λ (given : List J). cond (someAbove20 (map (K .jets .order) given)) (refused (K .jets) 1)
     (cond (wellFormed inputs steps (take steps program))
-    (worked K (λ i. K .cut (smallest (map (K .order) given)) (getD given i (K .blank))) inputs (take steps program)) (K .refused 4))) e
+    (worked K (λ i. K .cut (smallest (map (K .jets .order) given)) (getD given i (K .blank))) inputs (take steps program)) (refused (K .jets) 4))) e

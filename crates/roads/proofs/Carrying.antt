@@ -11,7 +11,7 @@ use Rattle.whole.specs.History.{orElse}
 use Rattle.exact.specs.declared.CurveDerivatives.{CurveDerivatives}
 use Rattle.exact.specs.declared.SurfaceDerivatives.{SurfaceDerivatives}
 use Rattle.exact.specs.declared.CurveAnswer.{CurveAnswer}
-use Rattle.roads.specs.Roads.{surfaces, firstRefusal}
+use Rattle.roads.specs.Roads.{surfaceSteps, firstRefusal}
 use Rattle.roads.proofs.Building.{take-four}
 
 -- i of the first `count` surfaces are carried
@@ -39,13 +39,13 @@ module _ {along : SurfaceDerivatives → CurveAnswer} {jets : List SurfaceDeriva
 
   module _ (b : i < count) where
     abbrev here : SurfaceDerivatives
-    here = getD jets i (surfaces .blank)
+    here = getD jets i (surfaceSteps .blank)
 
     one-more : orElse (along here .refusal) (refusals (i + 1)) ≡ refusals 0
     unfolding firstRefusal
     one-more =
-        ap₂ (λ (s : SurfaceDerivatives) (k : ℕ). firstRefusal (map along (s ∷ drop k (take count jets)))) (sym (getD-take count jets i (surfaces .blank) b)) (add-one i)
-        ∙ ap (λ (t : List SurfaceDerivatives). firstRefusal (map along t)) (sym (drop-cons (take count jets) i (surfaces .blank) (omega (arith, count-taken)))) ∙ w .rest
+        ap₂ (λ (s : SurfaceDerivatives) (k : ℕ). firstRefusal (map along (s ∷ drop k (take count jets)))) (sym (getD-take count jets i (surfaceSteps .blank) b)) (add-one i)
+        ∙ ap (λ (t : List SurfaceDerivatives). firstRefusal (map along t)) (sym (drop-cons (take count jets) i (surfaceSteps .blank) (omega (arith, count-taken)))) ∙ w .rest
 
     pub carry-goes-on : {a : CurveAnswer} → a ≡ along here → a .refusal ≡ 0 → Carrying along jets count (set curves i (a .jet)) (i + 1)
     carry-goes-on {a} e h = record {
@@ -57,7 +57,7 @@ module _ {along : SurfaceDerivatives → CurveAnswer} {jets : List SurfaceDeriva
       done = ap (λ (k : ℕ). take k (set curves i (a .jet))) (add-one i) ∙ take-suc-set curves i (a .jet) (omega (arith, w .long, w .room))
           ∙ ap₂ (λ (l : List CurveDerivatives) (x : CurveAnswer). l ++ (x .jet ∷ [])) (w .done) e
           ∙ sym (map-append jet (take i jets) (here ∷ []))
-          ∙ ap (map jet) (sym (take-suc jets i (surfaces .blank) (omega (arith, w .four, w .room))) ∙ ap (λ (k : ℕ). take k jets) (sym (add-one i)));
+          ∙ ap (map jet) (sym (take-suc jets i (surfaceSteps .blank) (omega (arith, w .four, w .room))) ∙ ap (λ (k : ℕ). take k jets) (sym (add-one i)));
     }
 
     pub carry-stops : {a : CurveAnswer} → a ≡ along here → ¬ (a .refusal ≡ 0) → a .refusal ≡ firstRefusal (map along (take count jets))

@@ -20,7 +20,7 @@ use Rattle.exact.specs.declared.ParameterCurve.{ParameterCurve}
 use Rattle.exact.specs.declared.CurveAnswer.{CurveAnswer}
 use Rattle.calculus.specs.Order.{rows}
 use Rattle.exact_formulas.specs.Entries.{unlessRefused}
-use Rattle.exact.specs.Answer.{refusedCurve, refusedSurface}
+use Rattle.exact.specs.Names.{refusedCurve, refusedSurface}
 use Rattle.exact.specs.Judged.{histories}
 use Rattle.roads.specs.declared.Step.{Step}
 use Rattle.roads.specs.declared.SurfaceRecipe.{SurfaceRecipe}

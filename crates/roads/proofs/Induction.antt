@@ -19,12 +19,12 @@ use Rattle.exact.specs.declared.SurfaceDerivatives.{SurfaceDerivatives}
 use Rattle.exact.specs.declared.ParameterCurve.{ParameterCurve}
 use Rattle.exact.specs.declared.CurveAnswer.{CurveAnswer}
 use Rattle.exact.specs.declared.SurfaceAnswer.{SurfaceAnswer}
-use Rattle.exact.specs.Answer.{refusedCurve, refusedSurface, answeredCurve}
+use Rattle.exact.specs.Names.{refusedCurve, refusedSurface, answeredCurve}
 use Rattle.exact.specs.Judged.{byVerdict}
 use Rattle.exact.specs.Composite.{alongCurve}
 use Rattle.roads.specs.declared.Step.{Step}
 use Rattle.roads.specs.Recipe.{with, namesEarlier, worked}
-use Rattle.roads.specs.Roads.{surfaces, curves}
+use Rattle.roads.specs.Roads.{surfaceSteps, curveSteps}
 use Rattle.roads.specs.Formed.{formedBy, carriedWith, stepWith, stepsTake}
 use Rattle.roads.proofs.Meeting.{alongNumbers, alongJet, Meets, Orders, result-order, along-within, step-answer, step-meets}
 
@@ -43,28 +43,28 @@ module _ {X : Type 0} (jet-of : ℕ → X) (m : ℕ) (x : X) where
 -- ---- the result of the steps on surfaces of the order k has the order k
 module _ {k : ℕ} (high : k ≤ 20) where
   order-goes-on : (s : Step) (ss : List Step) (jet-of : ℕ → SurfaceDerivatives) (m : ℕ) → ((i : ℕ) → i < m → jet-of i .order ≡ k) → s .left < m → s .right < m →
-      let a = surfaces .apply (s .operation) (jet-of (s .left)) (jet-of (s .right)) in
-      (((i : ℕ) → i < suc m → with jet-of m (a .jet) i .order ≡ k) → worked surfaces (with jet-of m (a .jet)) (suc m) ss .refusal ≡ 0 →
-      worked surfaces (with jet-of m (a .jet)) (suc m) ss .jet .order ≡ k) →
-      (x : ℕ) → a .refusal ≡ x → byVerdict refusedSurface x (worked surfaces (with jet-of m (a .jet)) (suc m) ss) .refusal ≡ 0 →
-      byVerdict refusedSurface x (worked surfaces (with jet-of m (a .jet)) (suc m) ss) .jet .order ≡ k
+      let a = surfaceSteps .apply (s .operation) (jet-of (s .left)) (jet-of (s .right)) in
+      (((i : ℕ) → i < suc m → with jet-of m (a .jet) i .order ≡ k) → worked surfaceSteps (with jet-of m (a .jet)) (suc m) ss .refusal ≡ 0 →
+      worked surfaceSteps (with jet-of m (a .jet)) (suc m) ss .jet .order ≡ k) →
+      (x : ℕ) → a .refusal ≡ x → byVerdict refusedSurface x (worked surfaceSteps (with jet-of m (a .jet)) (suc m) ss) .refusal ≡ 0 →
+      byVerdict refusedSurface x (worked surfaceSteps (with jet-of m (a .jet)) (suc m) ss) .jet .order ≡ k
   order-goes-on s ss jet-of m h l r next zero e f =
       next (λ i b. ⊎-elim
       (λ q. ap (λ (x : ℕ). with jet-of m a (x) .order) q ∙ ap (λ (x : SurfaceDerivatives). x .order) (with-new jet-of m a) ∙ result-order high (s .operation) (jet-of (s .left)) (jet-of (s .right)) (h (s .left) l) (h (s .right) r) e)
       (λ q. ap (λ (x : SurfaceDerivatives). x .order) (with-old jet-of m a i q) ∙ h i q) (eq-or-lt-of-le (le-of-suc-le-suc b))) f
     where
       a : SurfaceDerivatives
-      a = surfaces .apply (s .operation) (jet-of (s .left)) (jet-of (s .right)) .jet
+      a = surfaceSteps .apply (s .operation) (jet-of (s .left)) (jet-of (s .right)) .jet
   order-goes-on s ss jet-of m h l r next (suc x) e f = absurd (suc-ne-zero x f)
 
   pub steps-order : (ss : List Step) (jet-of : ℕ → SurfaceDerivatives) (m : ℕ) → 0 < m → ((i : ℕ) → i < m → jet-of i .order ≡ k) → namesEarlier m ss ≡ true →
-      worked surfaces jet-of m ss .refusal ≡ 0 → worked surfaces jet-of m ss .jet .order ≡ k
+      worked surfaceSteps jet-of m ss .refusal ≡ 0 → worked surfaceSteps jet-of m ss .jet .order ≡ k
   unfolding worked namesEarlier
   steps-order [] jet-of m p h e r = h (m - 1) (omega arith)
   steps-order (s ∷ ss) jet-of m p h e r =
       let f = both-true (ltb (s .left) m) (cond (ltb (s .right) m) (namesEarlier (suc m) ss) false) e in
       let g = both-true (ltb (s .right) m) (namesEarlier (suc m) ss) (f .1) in
-      let a = surfaces .apply (s .operation) (jet-of (s .left)) (jet-of (s .right)) in
+      let a = surfaceSteps .apply (s .operation) (jet-of (s .left)) (jet-of (s .right)) in
       order-goes-on s ss jet-of m h (ltb-true (s .left) m (f .0)) (ltb-true (s .right) m (g .0))
       (λ hs r. steps-order ss (with jet-of m (a .jet)) (suc m) (omega arith) hs (g .1) r) (a .refusal) refl r
 
@@ -106,20 +106,20 @@ module _ (c : ParameterCurve) (k n : ℕ) (o : Orders c k n) where
   -- what is to be shown of the steps from the number m on
   abbrev pub Met : (ℕ → SurfaceDerivatives) → (ℕ → CurveDerivatives) → (ℕ → ℕ → ℤ) → ℕ → List Step → Type 0
   Met hs hc hz m ss =
-      thenCarry (worked surfaces hs m ss) .refusal ≡ 0 →
-      worked curves hc m ss ≡ cond (every inRange (numbers (stepsTake n hz m ss))) (thenCarry (worked surfaces hs m ss)) (refusedCurve 9)
+      thenCarry (worked surfaceSteps hs m ss) .refusal ≡ 0 →
+      worked curveSteps hc m ss ≡ cond (every inRange (numbers (stepsTake n hz m ss))) (thenCarry (worked surfaceSteps hs m ss)) (refusedCurve 9)
 
   -- one step, and then those after it
   module _ (s : Step) (ss : List Step) {hs : ℕ → SurfaceDerivatives} {hc : ℕ → CurveDerivatives} {hz : ℕ → ℕ → ℤ} (m : ℕ) (h : Hands hs hc hz m)
       (l : s .left < m) (r : s .right < m) where
     abbrev first : SurfaceAnswer
-    first = surfaces .apply (s .operation) (hs (s .left)) (hs (s .right))
+    first = surfaceSteps .apply (s .operation) (hs (s .left)) (hs (s .right))
 
     abbrev second : CurveAnswer
-    second = curves .apply (s .operation) (hc (s .left)) (hc (s .right))
+    second = curveSteps .apply (s .operation) (hc (s .left)) (hc (s .right))
 
     abbrev after : SurfaceAnswer
-    after = worked surfaces (with hs m (first .jet)) (suc m) ss
+    after = worked surfaceSteps (with hs m (first .jet)) (suc m) ss
 
     abbrev handed : ℕ → ℕ → ℤ
     handed = with hz m (λ i. stepWith s hz i .value)
@@ -127,18 +127,18 @@ module _ (c : ParameterCurve) (k n : ℕ) (o : Orders c k n) where
     step-met : (Hands (with hs m (first .jet)) (with hc m (alongJet c k n (first .jet))) handed (suc m) →
         Met (with hs m (first .jet)) (with hc m (alongJet c k n (first .jet))) handed (suc m) ss) →
         (x : ℕ) → first .refusal ≡ x → thenCarry (byVerdict refusedSurface x after) .refusal ≡ 0 →
-        byVerdict refusedCurve (second .refusal) (worked curves (with hc m (second .jet)) (suc m) ss)
+        byVerdict refusedCurve (second .refusal) (worked curveSteps (with hc m (second .jet)) (suc m) ss)
         ≡ cond (every inRange (numbers (formedBy (stepWith s hz) n ++ stepsTake n handed (suc m) ss))) (thenCarry (byVerdict refusedSurface x after)) (refusedCurve 9)
     step-met next zero e f =
-        ap (λ (a : CurveAnswer). byVerdict refusedCurve (a .refusal) (worked curves (with hc m (a .jet)) (suc m) ss))
+        ap (λ (a : CurveAnswer). byVerdict refusedCurve (a .refusal) (worked curveSteps (with hc m (a .jet)) (suc m) ss))
         (step-answer c k n o (s .operation) (h (s .left) l) (h (s .right) r) e)
         ∙ by (every inRange (numbers (formedBy (stepWith s hz) n)))
         (next (hands-more m h (step-meets c k n o (s .operation) (h (s .left) l) (h (s .right) r) e)) f)
         ∙ ap (λ (t : Bool). cond t (thenCarry after) (refusedCurve 9)) (sym (every-two (formedBy (stepWith s hz) n) (stepsTake n handed (suc m) ss)))
       where
-        by : (t : Bool) → worked curves (with hc m (alongJet c k n (first .jet))) (suc m) ss
+        by : (t : Bool) → worked curveSteps (with hc m (alongJet c k n (first .jet))) (suc m) ss
             ≡ cond (every inRange (numbers (stepsTake n handed (suc m) ss))) (thenCarry after) (refusedCurve 9) →
-            byVerdict refusedCurve (cond t (answeredCurve n (alongNumbers c k n (first .jet))) (refusedCurve 9) .refusal) (worked curves (with hc m (cond t (answeredCurve n (alongNumbers c k n (first .jet))) (refusedCurve 9) .jet)) (suc m) ss)
+            byVerdict refusedCurve (cond t (answeredCurve n (alongNumbers c k n (first .jet))) (refusedCurve 9) .refusal) (worked curveSteps (with hc m (cond t (answeredCurve n (alongNumbers c k n (first .jet))) (refusedCurve 9) .jet)) (suc m) ss)
             ≡ cond (cond t (every inRange (numbers (stepsTake n handed (suc m) ss))) false) (thenCarry after) (refusedCurve 9)
         by true g = g
         by false g = refl
@@ -151,7 +151,7 @@ module _ (c : ParameterCurve) (k n : ℕ) (o : Orders c k n) where
   steps-met (s ∷ ss) hs hc hz m p h e f =
       let x = both-true (ltb (s .left) m) (cond (ltb (s .right) m) (namesEarlier (suc m) ss) false) e in
       let y = both-true (ltb (s .right) m) (namesEarlier (suc m) ss) (x .1) in
-      let a = surfaces .apply (s .operation) (hs (s .left)) (hs (s .right)) in
+      let a = surfaceSteps .apply (s .operation) (hs (s .left)) (hs (s .right)) in
       step-met s ss m h (ltb-true (s .left) m (x .0)) (ltb-true (s .right) m (y .0))
       (λ g. steps-met ss (with hs m (a .jet)) (with hc m (alongJet c k n (a .jet))) (with hz m (λ i. stepWith s hz i .value)) (suc m) (omega arith) g (y .1))
       (a .refusal) refl f

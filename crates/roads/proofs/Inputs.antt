@@ -1,6 +1,6 @@
 -- The inputs of the two roads: what an answered first road says of the orders, and what carrying every input answers. Assumes nothing.
 use mathlib.Core.Path.{_≡_, refl, sym, ap, ap₂, _∙_}
-use mathlib.Core.Bool.{Bool, true, false, cond}
+use mathlib.Core.Bool.{Bool, true, false, cond, _||_}
 use mathlib.Core.List.{List, [], _∷_, map}
 use Prim.Native.Nat.{ℕ, zero, suc, _≤_, _<_, min}
 use native.Mathlib.Nat.{le-refl, min-le-left, min-le-right, min-eq-left, le-min, suc-ne-zero, not-suc-le-zero}
@@ -16,12 +16,16 @@ use Rattle.exact.specs.declared.CurveDerivatives.{CurveDerivatives}
 use Rattle.exact.specs.declared.SurfaceDerivatives.{SurfaceDerivatives}
 use Rattle.exact.specs.declared.ParameterCurve.{ParameterCurve}
 use Rattle.exact.specs.declared.CurveAnswer.{CurveAnswer}
-use Rattle.exact.specs.Answer.{refusedCurve, answeredCurve}
-use Rattle.exact.specs.Composite.{withinOrders, alongCurve}
+use Rattle.exact.specs.Names.{refusedCurve, answeredCurve}
+use Rattle.exact.specs.Inner.{withinOrders}
+use Rattle.calculus.specs.JetKind.{above20}
+use Rattle.calculus.proofs.Tested.{split-first, split-second}
+use Rattle.exact.specs.Composite.{alongCurve}
 use Rattle.roads.specs.declared.Step.{Step}
 use Rattle.roads.specs.Recipe.{namesEarlier, wellFormed}
 use Rattle.calculus.specs.Orders.{someAbove20, smallest}
-use Rattle.roads.specs.Roads.{surfaces, curves, firstRefusal}
+use Rattle.roads.specs.Roads.{firstRefusal}
+use Rattle.exact.specs.Answer.{surfaces, curves}
 use Rattle.roads.specs.Formed.{formedBy, carriedWith, carriesTake}
 use Rattle.roads.proofs.Meeting.{alongNumbers, alongJet, along-within}
 use Rattle.roads.proofs.Induction.{every-two}
@@ -60,16 +64,15 @@ pub record Within (s c n : ℕ) : Type 0 where
   pub reach : n ≤ c
 
 pub within : (a : CurveAnswer) (s c n : ℕ) → withinOrders refusedCurve a s c n .refusal ≡ 0 → Within s c n
-within a s c n = by (ltb 20 s) (ltb 20 c) (ltb 20 n) (ltb s n) (ltb c n) (ltb-false 20 c) (ltb-false s n) (ltb-false c n)
+within a s c n =
+    by (above20 s c || ltb 20 n) (ltb (min s c) n) (λ e. ltb-false 20 c (split-second (ltb 20 s) (ltb 20 c) (split-first (above20 s c) (ltb 20 n) e))) (ltb-false (min s c) n)
   where
-    by : (t u v w x : Bool) → (u ≡ false → c ≤ 20) → (w ≡ false → n ≤ s) → (x ≡ false → n ≤ c) →
-        cond t (refusedCurve 1) (cond u (refusedCurve 1) (cond v (refusedCurve 1) (cond w (refusedCurve 2) (cond x (refusedCurve 2) a)))) .refusal ≡ 0 → Within s c n
-    by true u v w x f g h e = absurd (suc-ne-zero 0 e)
-    by false true v w x f g h e = absurd (suc-ne-zero 0 e)
-    by false false true w x f g h e = absurd (suc-ne-zero 0 e)
-    by false false false true x f g h e = absurd (suc-ne-zero 1 e)
-    by false false false false true f g h e = absurd (suc-ne-zero 1 e)
-    by false false false false false f g h e = record { curve = f refl; surface = g refl; reach = h refl }
+    by : (t u : Bool) → (t ≡ false → c ≤ 20) → (u ≡ false → n ≤ min s c) → cond t (refusedCurve 1) (cond u (refusedCurve 2) a) .refusal ≡ 0 → Within s c n
+    by true u f g e = absurd (suc-ne-zero 0 e)
+    by false true f g e = absurd (suc-ne-zero 1 e)
+    by false false f g e =
+        let h = g refl in
+        record { curve = f refl; surface = omega (arith, h); reach = omega (arith, h) }
 
 -- ---- lists
 pub at-map : {X Y : Type 0} (f : X → Y) (l : List X) (i : ℕ) (d : X) (e : Y) → i < length l → getD (map f l) i e ≡ f (getD l i d)

@@ -11,8 +11,8 @@ use borrow.Author.Tests.{lt-ltb, le-ltb}
 use Rattle.whole.specs.declared.Whole.{Whole}
 use Rattle.whole.specs.declared.Whole.the-variants.{Value}
 use Rattle.whole.specs.Checked.{inRange}
-use Rattle.whole.specs.History.{Traced, given, verdict, numbers, every}
-use Rattle.whole.proofs.History.{settle-given}
+use Rattle.whole.specs.History.{Traced, bare, verdict, numbers, every}
+use Rattle.whole.proofs.History.{settle-bare}
 use Rattle.calculus.specs.Kind.{regular, plain}
 use Rattle.calculus.specs.Array.{curveArray}
 use Rattle.calculus.specs.Carry.{compositeDerivatives}
@@ -20,15 +20,16 @@ use Rattle.calculus.proofs.Related.{same, regulars}
 use Rattle.calculus.proofs.UpTo.{CurvesAgree, SurfacesAgree}
 use Rattle.calculus.proofs.CarryAlike.{compositeDerivatives-alike}
 use Rattle.calculus.proofs.Laws.{carried, carry-upto}
-use Rattle.calculus.proofs.Filling.{filled-at}
-use Rattle.calculus.proofs.SurfaceFilling.{array-at}
+use Rattle.calculus.proofs.LoopFilling.{filled-at}
+use Rattle.calculus.proofs.LoopSurfaceFilling.{array-at}
 use Rattle.exact.specs.declared.CurveDerivatives.{CurveDerivatives}
 use Rattle.exact.specs.declared.SurfaceDerivatives.{SurfaceDerivatives}
 use Rattle.exact.specs.declared.ParameterCurve.{ParameterCurve}
 use Rattle.exact.specs.declared.SurfaceAnswer.{SurfaceAnswer}
 use Rattle.exact_formulas.specs.Kinds.{checked, traced}
 use Rattle.exact_formulas.specs.Entries.{curveNumbers, surfaceNumbers, curveValues, surfaceValues}
-use Rattle.exact.specs.Answer.{refusedCurve, answeredCurve, answeredSurface, curveAnswer, surfaceAnswer, onCurves, onSurfaces}
+use Rattle.exact.specs.Names.{refusedCurve, answeredCurve, answeredSurface}
+use Rattle.exact.specs.Answer.{curveAnswer, surfaceAnswer, onCurves, onSurfaces}
 use Rattle.exact.specs.Judged.{histories}
 use Rattle.exact.specs.Composite.{alongCurve}
 use Rattle.exact.proofs.Judged.{Settled, settled, Valued, valued, Sound, curve-exact, surface-answered}
@@ -62,7 +63,7 @@ module _ {k : ℕ} (high : k ≤ 20) (op : Operation) (s r : SurfaceDerivatives)
   on = onSurfaces (surfaceOperation checked op) s r
 
   abbrev entries : ℕ → ℕ → Traced
-  entries = surfaceOperation traced op (λ i j. given (surfaceNumbers (s .entries) i j)) (λ i j. given (surfaceNumbers (r .entries) i j))
+  entries = surfaceOperation traced op (λ i j. bare (surfaceNumbers (s .entries) i j)) (λ i j. bare (surfaceNumbers (r .entries) i j))
 
   abbrev values : ℕ → ℕ → Whole
   values = surfaceOperation checked op (surfaceValues (s .entries)) (surfaceValues (r .entries))
@@ -76,7 +77,7 @@ module _ {k : ℕ} (high : k ≤ 20) (op : Operation) (s r : SurfaceDerivatives)
       let is = on-surfaces high (surfaceOperation checked op) s r p q in
       let h = surface-answered k values entries integers
       (surface-alike Settled traced checked settled k op _ _ (surfaceValues (s .entries)) (surfaceValues (r .entries))
-      (λ i j l. settle-given (surfaceNumbers (s .entries) i j)) (λ i j l. settle-given (surfaceNumbers (r .entries) i j)))
+      (λ i j l. settle-bare (surfaceNumbers (s .entries) i j)) (λ i j l. settle-bare (surfaceNumbers (r .entries) i j)))
       (surface-alike Valued traced plain valued k op _ _ (surfaceNumbers (s .entries)) (surfaceNumbers (r .entries)) (λ i j l. refl) (λ i j l. refl))
       (sym (ap (λ (x : SurfaceAnswer). x .refusal) is) ∙ e) in
       (is ∙ h .0, h .1)
@@ -119,7 +120,7 @@ module _ (c : ParameterCurve) (k n : ℕ) where
   pub carried-value : (s : SurfaceDerivatives) (m : ℕ) → carriedWith c s m .value ≡ alongNumbers s m
   carried-value s m =
       compositeDerivatives-alike Valued Valued (regular traced) (regular plain) (regulars valued) m
-      (λ i. given (curveNumbers (c .u) i)) (λ i. given (curveNumbers (c .v) i)) (curveNumbers (c .u)) (curveNumbers (c .v)) (λ i j. given (surfaceNumbers (s .entries) i j)) (surfaceNumbers (s .entries))
+      (λ i. bare (curveNumbers (c .u) i)) (λ i. bare (curveNumbers (c .v) i)) (curveNumbers (c .u)) (curveNumbers (c .v)) (λ i j. bare (surfaceNumbers (s .entries) i j)) (surfaceNumbers (s .entries))
       (λ i l. refl) (λ i l. refl) (λ i j l. refl) m (le-refl m)
 
   pub along-within : (s : SurfaceDerivatives) → s .order ≤ 20 → c .order ≤ 20 → n ≤ s .order → n ≤ c .order →
@@ -135,7 +136,7 @@ module _ (c : ParameterCurve) (k n : ℕ) where
     abbrev jet : SurfaceDerivatives
     jet = onSurfaces (surfaceOperation checked op) s r .jet
 
-    verdicts : (i j : ℕ) → i + j ≤ k → verdict (surfaceOperation traced op (λ i j. given (surfaceNumbers (s .entries) i j)) (λ i j. given (surfaceNumbers (r .entries) i j)) i j .history) ≡ 0
+    verdicts : (i j : ℕ) → i + j ≤ k → verdict (surfaceOperation traced op (λ i j. bare (surfaceNumbers (s .entries) i j)) (λ i j. bare (surfaceNumbers (r .entries) i j)) i j .history) ≡ 0
     verdicts = result-verdicts (o .high) op s r (p .order) (q .order) e
 
     result-along : CurvesAgree n (curveOperation plain op (alongNumbers s) (alongNumbers r)) (alongNumbers (jet))
@@ -145,17 +146,17 @@ module _ (c : ParameterCurve) (k n : ℕ) where
 
     -- the operation on the curves, by the integers in hand, and by those carried
     abbrev pub inHand : ℕ → Traced
-    inHand = curveOperation traced op (λ i. given (y i)) (λ i. given (z i))
+    inHand = curveOperation traced op (λ i. bare (y i)) (λ i. bare (z i))
 
     abbrev byNumbers : ℕ → Traced
-    byNumbers = curveOperation traced op (λ i. given (alongNumbers s i)) (λ i. given (alongNumbers r i))
+    byNumbers = curveOperation traced op (λ i. bare (alongNumbers s i)) (λ i. bare (alongNumbers r i))
 
     small : n ≤ 20
     small = omega (arith, o .high, o .asked)
 
     hand-numbers : CurvesAgree n inHand byNumbers
     hand-numbers =
-        curve-alike (λ (a b : Traced). a ≡ b) traced traced (same traced) n op _ _ _ _ (λ i l. ap given (p .number i l)) (λ i l. ap given (q .number i l))
+        curve-alike (λ (a b : Traced). a ≡ b) traced traced (same traced) n op _ _ _ _ (λ i l. ap bare (p .number i l)) (λ i l. ap bare (q .number i l))
 
     numbers-sound : (m : ℕ) → m ≤ n → Sound (byNumbers m) (curveOperation plain op (alongNumbers s) (alongNumbers r) m)
     numbers-sound = carry-exact (curveNumbers (c .u)) (curveNumbers (c .v)) (surfaceNumbers (s .entries)) (surfaceNumbers (r .entries)) k n (o .asked) op verdicts
@@ -163,8 +164,8 @@ module _ (c : ParameterCurve) (k n : ℕ) where
     numbers-settle : (m : ℕ) → m ≤ n → Settled (byNumbers m) (curveOperation checked op (curveValues (alongJet s .entries)) (curveValues (alongJet r .entries)) m)
     numbers-settle =
         curve-alike Settled traced checked settled n op _ _ (curveValues (alongJet s .entries)) (curveValues (alongJet r .entries))
-        (λ i l. settle-given (alongNumbers s i) ∙ ap Value (sym (curve-array-at small (alongNumbers s) i l)))
-        (λ i l. settle-given (alongNumbers r i) ∙ ap Value (sym (curve-array-at small (alongNumbers r) i l)))
+        (λ i l. settle-bare (alongNumbers s i) ∙ ap Value (sym (curve-array-at small (alongNumbers s) i l)))
+        (λ i l. settle-bare (alongNumbers r i) ∙ ap Value (sym (curve-array-at small (alongNumbers r) i l)))
 
     numbers-value : (m : ℕ) → m ≤ n → Valued (byNumbers m) (alongNumbers jet m)
     numbers-value m l = numbers-sound m l .0 ∙ result-along m l

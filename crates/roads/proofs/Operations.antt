@@ -9,7 +9,7 @@ use lib.Dec.{eqb}
 use lib.IntN.{ℤ, pos, natAbs}
 use lib.Signed.{remZ}
 use borrow.Author.Tests.{eqb-true, eqb-false}
-use Rattle.whole.specs.History.{Traced, given, verdict}
+use Rattle.whole.specs.History.{Traced, bare, verdict}
 use Rattle.whole.proofs.Range.{natAbs-zero}
 use Rattle.calculus.specs.Kind.{regular, plain}
 use Rattle.calculus.specs.Rising.{before}
@@ -32,16 +32,16 @@ use Rattle.roads.proofs.Sound.{sound-over, over-answered}
 not-zero : (z : ℤ) → eqb (natAbs z) 0 ≡ false → ¬ (z ≡ pos 0)
 not-zero z h e = eqb-false (natAbs z) 0 h (ap natAbs e)
 
-as-given : (n : ℕ) (f : ℕ → ℤ) → CurvesAlike Sound n (λ i. given (f i)) f
+as-given : (n : ℕ) (f : ℕ → ℤ) → CurvesAlike Sound n (λ i. bare (f i)) f
 as-given n f i l = (refl, exact-none)
 
 -- ---- a quotient of given curves whose divisions are all exact
 module _ (n : ℕ) (a b : ℕ → ℤ) where
   abbrev givenA : ℕ → Traced
-  givenA i = given (a i)
+  givenA i = bare (a i)
 
   abbrev givenB : ℕ → Traced
-  givenB i = given (b i)
+  givenB i = bare (b i)
 
   quotient-sound : eqb (natAbs (b 0)) 0 ≡ false → ((m : ℕ) → m ≤ n → remZ (Curve.quotientDividend plain a b m) (b 0) ≡ pos 0) →
       CurvesAlike Sound n (Curve.quotient traced givenA givenB) (Curve.quotient plain a b)
@@ -62,16 +62,16 @@ module _ (n : ℕ) (a b : ℕ → ℤ) where
 -- ---- an answered operation on surfaces a and b, up to the order N, along the curve (u, v)
 module _ (u v : ℕ → ℤ) (a b : ℕ → ℕ → ℤ) (N : ℕ) where
   abbrev operated : Operation → ℕ → ℕ → Traced
-  operated op = surfaceOperation traced op (λ i j. given (a i j)) (λ i j. given (b i j))
+  operated op = surfaceOperation traced op (λ i j. bare (a i j)) (λ i j. bare (b i j))
 
   abbrev pub Answered : Operation → Type 0
   Answered op = (i j : ℕ) → i + j ≤ N → verdict (operated op i j .history) ≡ 0
 
   divides : Answered Quotient → (i j : ℕ) → i + j ≤ N → (eqb (natAbs (b 0 0)) 0 ≡ false) × (remZ (Surface.quotientDividend plain a b i j) (b 0 0) ≡ pos 0)
   divides h i j l =
-      let d = over-answered (Surface.quotientDividend traced (λ i j. given (a i j)) (λ i j. given (b i j)) i j) (b 0 0) (h i j l) in
-      let e : Surface.quotientDividend traced (λ i j. given (a i j)) (λ i j. given (b i j)) i j .value ≡ Surface.quotientDividend plain a b i j =
-      surface-quotient-dividend-alike Valued traced plain valued (i + j) (λ i j. given (a i j)) (λ i j. given (b i j)) a b (λ i j l. refl) (λ i j l. refl) i j (le-refl (i + j))
+      let d = over-answered (Surface.quotientDividend traced (λ i j. bare (a i j)) (λ i j. bare (b i j)) i j) (b 0 0) (h i j l) in
+      let e : Surface.quotientDividend traced (λ i j. bare (a i j)) (λ i j. bare (b i j)) i j .value ≡ Surface.quotientDividend plain a b i j =
+      surface-quotient-dividend-alike Valued traced plain valued (i + j) (λ i j. bare (a i j)) (λ i j. bare (b i j)) a b (λ i j l. refl) (λ i j l. refl) i j (le-refl (i + j))
       in
       (d .0, ap (λ x. remZ x (b 0 0)) (sym e) ∙ natAbs-zero _ (eqb-true _ 0 (d .1)))
 
@@ -86,12 +86,12 @@ module _ (u v : ℕ → ℤ) (a b : ℕ → ℕ → ℤ) (N : ℕ) where
     carry-operation Quotient h i l = exact-carry-quotient u v N a b (not-zero (b 0 0) (divisor h)) (λ i j l. divides h i j l .1) i (omega arith)
 
     pub carry-exact : (op : Operation) → Answered op →
-        CurvesAlike Sound n (curveOperation traced op (λ i. given (carried u v a i)) (λ i. given (carried u v b i))) (curveOperation plain op (carried u v a) (carried u v b))
+        CurvesAlike Sound n (curveOperation traced op (λ i. bare (carried u v a i)) (λ i. bare (carried u v b i))) (curveOperation plain op (carried u v a) (carried u v b))
     carry-exact Sum h = sum-alike Sound Sound (regular traced) (regular plain) soundModule n (as-given n (carried u v a)) (as-given n (carried u v b))
     carry-exact Difference h = difference-alike Sound Sound (regular traced) (regular plain) soundModule n (as-given n (carried u v a)) (as-given n (carried u v b))
     carry-exact Product h =
         productBy-alike Sound Sound (regular traced) (regular plain) soundModule n Sound Sound (traced .times) (plain .times) (sound .times)
-        (λ i. given (carried u v a i)) (λ i. given (carried u v b i)) (carried u v a) (carried u v b) (as-given n (carried u v a)) (as-given n (carried u v b))
+        (λ i. bare (carried u v a i)) (λ i. bare (carried u v b i)) (carried u v a) (carried u v b) (as-given n (carried u v a)) (as-given n (carried u v b))
     carry-exact Quotient h =
         quotient-sound n (carried u v a) (carried u v b) (subst (λ x. eqb (natAbs x) 0 ≡ false) (sym (composite-zero (regular plain) u v b)) (divisor h))
         (λ m l. exact-carry-remainder u v N a b (not-zero (b 0 0) (divisor h)) (λ i j l. divides h i j l .1) m (omega arith))

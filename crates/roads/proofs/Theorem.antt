@@ -17,14 +17,15 @@ use Rattle.exact.specs.declared.SurfaceDerivatives.{SurfaceDerivatives}
 use Rattle.exact.specs.declared.ParameterCurve.{ParameterCurve}
 use Rattle.exact.specs.declared.CurveAnswer.{CurveAnswer}
 use Rattle.exact.specs.declared.SurfaceAnswer.{SurfaceAnswer}
-use Rattle.exact.specs.Answer.{refusedCurve, refusedSurface}
+use Rattle.exact.specs.Names.{refusedCurve, refusedSurface}
 use Rattle.exact.specs.Judged.{byVerdict}
 use Rattle.exact.specs.Composite.{alongCurve}
 use Rattle.roads.specs.declared.Step.{Step}
 use Rattle.roads.specs.declared.SurfaceRecipe.{SurfaceRecipe}
 use Rattle.roads.specs.Recipe.{wellFormed, worked}
 use Rattle.calculus.specs.Orders.{someAbove20, smallest}
-use Rattle.roads.specs.Roads.{surfaces, curves, builtSurface, buildThenCarry, carryThenBuild}
+use Rattle.roads.specs.Roads.{surfaceSteps, curveSteps, builtSurface, buildThenCarry, carryThenBuild}
+use Rattle.exact.specs.Answer.{surfaces, curves}
 use Rattle.roads.specs.Formed.{carriedWith, carriesTake, stepsTake, numbersFormed}
 use Rattle.roads.proofs.Meeting.{alongJet, Orders, carried-value}
 use Rattle.roads.proofs.Induction.{steps-order, steps-met, every-two}
@@ -53,13 +54,13 @@ module _ (r : SurfaceRecipe) (four : length (r .surfaces) ≡ 4) (c : ParameterC
   k = smallest (map (surfaces .order) inputs)
 
   abbrev cut-input : ℕ → SurfaceDerivatives
-  cut-input i = surfaces .cut k (getD inputs i (surfaces .blank))
+  cut-input i = surfaceSteps .cut k (getD inputs i (surfaceSteps .blank))
 
   abbrev carried-input : ℕ → ℕ → ℤ
-  carried-input i = λ m. carriedWith c (getD inputs i (surfaces .blank)) m .value
+  carried-input i = λ m. carriedWith c (getD inputs i (surfaceSteps .blank)) m .value
 
   abbrev work : SurfaceAnswer
-  work = worked surfaces cut-input (r .inputs) steps
+  work = worked surfaceSteps cut-input (r .inputs) steps
 
   abbrev carry : SurfaceAnswer → CurveAnswer
   carry a = byVerdict refusedCurve (a .refusal) (alongCurve (a .jet) c n)
@@ -68,7 +69,7 @@ module _ (r : SurfaceRecipe) (four : length (r .surfaces) ≡ 4) (c : ParameterC
   abbrev rebuild : List CurveDerivatives → CurveAnswer
   rebuild l =
       cond (someAbove20 (map (curves .order) l)) (refusedCurve 1)
-      (cond (wellFormed (r .inputs) (r .steps) steps) (worked curves (λ i. curves .cut (smallest (map (curves .order) l)) (getD l i (curves .blank))) (r .inputs) steps) (refusedCurve 4))
+      (cond (wellFormed (r .inputs) (r .steps) steps) (worked curveSteps (λ i. curveSteps .cut (smallest (map (curves .order) l)) (getD l i (curveSteps .blank))) (r .inputs) steps) (refusedCurve 4))
 
   module _ (e : buildThenCarry r c n .refusal ≡ 0) where
     checks : (someAbove20 (map (surfaces .order) inputs) ≡ false) × (wellFormed (r .inputs) (r .steps) steps ≡ true)
@@ -107,14 +108,14 @@ module _ (r : SurfaceRecipe) (four : length (r .surfaces) ≡ 4) (c : ParameterC
     rebuilt : rebuild jets ≡ cond (every inRange (numbers (stepsTake n carried-input (r .inputs) steps))) (carry work) (refusedCurve 9)
     unfolding jets
     rebuilt =
-        ap₂ (λ (t u : Bool). cond t (refusedCurve 1) (cond u (worked curves (λ i. curves .cut (smallest (map (curves .order) jets)) (getD jets i (curves .blank))) (r .inputs) steps) (refusedCurve 4)))
+        ap₂ (λ (t u : Bool). cond t (refusedCurve 1) (cond u (worked curveSteps (λ i. curveSteps .cut (smallest (map (curves .order) jets)) (getD jets i (curveSteps .blank))) (r .inputs) steps) (refusedCurve 4)))
         (jets-above c k n (orders .parameter) (orders .reach) (omega (arith, orders .asked, orders .high)) inputs) (checks .1)
-        ∙ steps-met c k n orders steps cut-input (λ i. curves .cut (smallest (map (curves .order) jets)) (getD jets i (curves .blank))) carried-input (r .inputs) (count .some)
+        ∙ steps-met c k n orders steps cut-input (λ i. curveSteps .cut (smallest (map (curves .order) jets)) (getD jets i (curveSteps .blank))) carried-input (r .inputs) (count .some)
         (λ i l. record {
           order = refl;
           curve = ap₂ (λ (x : ℕ) (a : CurveDerivatives). record { order = x; entries = a .entries }) smallest-jets
-              (at-map (alongJet c k n) inputs i (surfaces .blank) (curves .blank) (omega (arith, l, length-inputs)));
-          number = λ m b. carried-value c k n (getD inputs i (surfaces .blank)) m;
+              (at-map (alongJet c k n) inputs i (surfaceSteps .blank) (curveSteps .blank) (omega (arith, l, length-inputs)));
+          number = λ m b. carried-value c k n (getD inputs i (surfaceSteps .blank)) m;
         })
         (count .names) (sym (ap (λ (a : SurfaceAnswer). carry a .refusal) built-is) ∙ e)
 

@@ -16,14 +16,15 @@ use Rattle.whole.proofs.History.{both-true}
 use Rattle.exact.specs.Judged.{byVerdict}
 use Rattle.calculus.specs.declared.Operation.the-variants.{Sum}
 use Rattle.roads.specs.declared.Step.{Step}
-use Rattle.roads.specs.Recipe.{Jets, with, namesEarlier, worked}
+use Rattle.roads.specs.Recipe.{RecipeKind, with, namesEarlier, worked}
+use Rattle.calculus.specs.JetKind.{refused}
 
 -- a refusal is passed on
 pub stays : {B : Type 0} (refused : ℕ → B) (b : B) (x : ℕ) → ¬ (x ≡ 0) → refused x ≡ byVerdict refused x b
 stays refused b zero h = absurd (h refl)
 stays refused b (suc x) h = refl
 
-module _ {J A : Type 0} (K : Jets J A) where
+module _ {X E J A : Type 0} (K : RecipeKind X E J A) where
   -- a list of jets, by number
   abbrev pub held : List J → ℕ → J
   held l i = getD l i (K .blank)
@@ -46,26 +47,26 @@ module _ {J A : Type 0} (K : Jets J A) where
 
   pub worked-same : (ss : List Step) (f g : ℕ → J) (m : ℕ) → 0 < m → ((i : ℕ) → i < m → f i ≡ g i) → namesEarlier m ss ≡ true → worked K f m ss ≡ worked K g m ss
   unfolding worked namesEarlier
-  worked-same [] f g m p h e = ap (K .answered) (h (m - 1) (omega arith))
+  worked-same [] f g m p h e = ap (K .jets .answer 0) (h (m - 1) (omega arith))
   worked-same (s ∷ ss) f g m p h e =
       let x = both-true (ltb (s .left) m) (cond (ltb (s .right) m) (namesEarlier (suc m) ss) false) e in
       let y = both-true (ltb (s .right) m) (namesEarlier (suc m) ss) (x .1) in
       let a = K .apply (s .operation) (g (s .left)) (g (s .right)) in
-      ap₂ (λ (l r : J). byVerdict (K .refused) (K .refusal (K .apply (s .operation) l r)) (worked K (with f m (K .jet (K .apply (s .operation) l r))) (suc m) ss))
+      ap₂ (λ (l r : J). byVerdict (refused (K .jets)) (K .jets .refusal (K .apply (s .operation) l r)) (worked K (with f m (K .jets .jet (K .apply (s .operation) l r))) (suc m) ss))
       (h (s .left) (ltb-true (s .left) m (x .0))) (h (s .right) (ltb-true (s .right) m (y .0)))
-      ∙ ap (byVerdict (K .refused) (K .refusal a))
-      (worked-same ss (with f m (K .jet a)) (with g m (K .jet a)) (suc m) (omega arith) (with-same f g m (K .jet a) h) (y .1))
+      ∙ ap (byVerdict (refused (K .jets)) (K .jets .refusal a))
+      (worked-same ss (with f m (K .jets .jet a)) (with g m (K .jets .jet a)) (suc m) (omega arith) (with-same f g m (K .jets .jet a) h) (y .1))
 
 -- ---- the jets given are cut to the order of work in turn; the first i are in hand
-pub record Cutting {J A : Type 0} (K : Jets J A) (jets : List J) (order inputs : ℕ) (jet-of : List J) (i : ℕ) : Type 0 where
+pub record Cutting {X E J A : Type 0} (K : RecipeKind X E J A) (jets : List J) (order inputs : ℕ) (jet-of : List J) (i : ℕ) : Type 0 where
   pub upto : i ≤ inputs
   pub wide : length jet-of ≡ 16
   pub done : (k : ℕ) → k < i → getD jet-of k (K .blank) ≡ K .cut order (getD jets k (K .blank))
 
-pub cut-begins : {J A : Type 0} (K : Jets J A) (jets : List J) (order inputs : ℕ) {jet-of : List J} → length jet-of ≡ 16 → Cutting K jets order inputs jet-of 0
+pub cut-begins : {X E J A : Type 0} (K : RecipeKind X E J A) (jets : List J) (order inputs : ℕ) {jet-of : List J} → length jet-of ≡ 16 → Cutting K jets order inputs jet-of 0
 cut-begins K jets order inputs w = record { upto = omega arith; wide = w; done = λ k h. absurd (not-suc-le-zero h) }
 
-module _ {J A : Type 0} {K : Jets J A} {jets : List J} {order inputs : ℕ} {jet-of : List J} {i : ℕ} (w : Cutting K jets order inputs jet-of i) where
+module _ {X E J A : Type 0} {K : RecipeKind X E J A} {jets : List J} {order inputs : ℕ} {jet-of : List J} {i : ℕ} (w : Cutting K jets order inputs jet-of i) where
   pub cut-goes-on : i < inputs → inputs ≤ 4 → Cutting K jets order inputs (set jet-of i (K .cut order (getD jets i (K .blank)))) (i + 1)
   cut-goes-on b four = record {
     upto = omega arith;
@@ -81,7 +82,7 @@ module _ {J A : Type 0} {K : Jets J A} {jets : List J} {order inputs : ℕ} {jet
   cut-ends b k h = w .done k (omega arith)
 
 -- ---- the first n steps of a program are worked on the jets `start`; i of them are done
-pub record Working {J A : Type 0} (K : Jets J A) (start : List J) (inputs n : ℕ) (program : List Step) (jet-of : List J) (i : ℕ) : Type 0 where
+pub record Working {X E J A : Type 0} (K : RecipeKind X E J A) (start : List J) (inputs n : ℕ) (program : List Step) (jet-of : List J) (i : ℕ) : Type 0 where
   pub upto : i ≤ n
   pub four : inputs ≤ 4
   pub twelve : n ≤ 12
@@ -94,7 +95,7 @@ pub record Working {J A : Type 0} (K : Jets J A) (start : List J) (inputs n : �
 abbrev none : Step
 none = record { operation = Sum; left = 0; right = 0 }
 
-module _ {J A : Type 0} (K : Jets J A) {start : List J} {inputs n : ℕ} {program : List Step} where
+module _ {X E J A : Type 0} (K : RecipeKind X E J A) {start : List J} {inputs n : ℕ} {program : List Step} where
   pub work-begins : inputs ≤ 4 → n ≤ 12 → length program ≡ 12 → length start ≡ 16 → namesEarlier inputs (take n program) ≡ true → Working K start inputs n program start 0
   work-begins f t l w e = record {
     upto = omega arith;
@@ -106,7 +107,7 @@ module _ {J A : Type 0} (K : Jets J A) {start : List J} {inputs n : ℕ} {progra
     rest = ap (λ (m : ℕ). worked K (held K start) m (take n program)) (add-zero inputs);
   }
 
-module _ {J A : Type 0} {K : Jets J A} {start : List J} {inputs n : ℕ} {program : List Step} {jet-of : List J} {i : ℕ} (w : Working K start inputs n program jet-of i) where
+module _ {X E J A : Type 0} {K : RecipeKind X E J A} {start : List J} {inputs n : ℕ} {program : List Step} {jet-of : List J} {i : ℕ} (w : Working K start inputs n program jet-of i) where
   abbrev outcome : A
   outcome = worked K (held K start) inputs (take n program)
 
@@ -142,16 +143,16 @@ module _ {J A : Type 0} {K : Jets J A} {start : List J} {inputs n : ℕ} {progra
     answer = K .apply (step .operation) (held K jet-of (step .left)) (held K jet-of (step .right))
 
     abbrev after : A
-    after = worked K (with (held K jet-of) (inputs + i) (K .jet answer)) (suc (inputs + i)) later
+    after = worked K (with (held K jet-of) (inputs + i) (K .jets .jet answer)) (suc (inputs + i)) later
 
-    one-step : byVerdict (K .refused) (K .refusal answer) after ≡ outcome
+    one-step : byVerdict (refused (K .jets)) (K .jets .refusal answer) after ≡ outcome
     unfolding worked
     one-step = ap (worked K (held K jet-of) (inputs + i)) (sym left-over) ∙ w .rest
 
-    pub work-stops : {a : A} → a ≡ answer → ¬ (K .refusal a ≡ 0) → K .refused (K .refusal a) ≡ outcome
-    work-stops {a} e h = ap (λ (x : A). K .refused (K .refusal x)) e ∙ stays (K .refused) after (K .refusal answer) (λ z. h (ap (K .refusal) e ∙ z)) ∙ one-step
+    pub work-stops : {a : A} → a ≡ answer → ¬ (K .jets .refusal a ≡ 0) → refused (K .jets) (K .jets .refusal a) ≡ outcome
+    work-stops {a} e h = ap (λ (x : A). refused (K .jets) (K .jets .refusal x)) e ∙ stays (refused (K .jets)) after (K .jets .refusal answer) (λ z. h (ap (K .jets .refusal) e ∙ z)) ∙ one-step
 
-    pub work-goes-on : {a : A} → a ≡ answer → K .refusal a ≡ 0 → Working K start inputs n program (set jet-of (inputs + i) (K .jet a)) (i + 1)
+    pub work-goes-on : {a : A} → a ≡ answer → K .jets .refusal a ≡ 0 → Working K start inputs n program (set jet-of (inputs + i) (K .jets .jet a)) (i + 1)
     work-goes-on {a} e h =
         let m : inputs + (i + 1) ≡ suc (inputs + i) = omega arith in
         record {
@@ -159,18 +160,18 @@ module _ {J A : Type 0} {K : Jets J A} {start : List J} {inputs n : ℕ} {progra
           four = w .four;
           twelve = w .twelve;
           long = w .long;
-          wide = length-set jet-of (inputs + i) (K .jet a) ∙ w .wide;
+          wide = length-set jet-of (inputs + i) (K .jets .jet a) ∙ w .wide;
           names = ap (λ (k : ℕ). namesEarlier k later) m ∙ named .2;
-          rest = ap₂ (λ (f : ℕ → J) (k : ℕ). worked K f k later) (stored K jet-of (inputs + i) (K .jet a) (omega (arith, w .wide, w .four, w .twelve))) m
-              ∙ ap (λ (x : A). worked K (with (held K jet-of) (inputs + i) (K .jet x)) (suc (inputs + i)) later) e
-              ∙ ap (λ (x : ℕ). byVerdict (K .refused) x after) (sym (ap (K .refusal) (sym e) ∙ h))
+          rest = ap₂ (λ (f : ℕ → J) (k : ℕ). worked K f k later) (stored K jet-of (inputs + i) (K .jets .jet a) (omega (arith, w .wide, w .four, w .twelve))) m
+              ∙ ap (λ (x : A). worked K (with (held K jet-of) (inputs + i) (K .jets .jet x)) (suc (inputs + i)) later) e
+              ∙ ap (λ (x : ℕ). byVerdict (refused (K .jets)) x after) (sym (ap (K .jets .refusal) (sym e) ∙ h))
               ∙ one-step;
         }
 
-  pub work-ends : n ≤ i → K .answered (held K jet-of (inputs + n - 1)) ≡ outcome
+  pub work-ends : n ≤ i → (K .jets .answer 0) (held K jet-of (inputs + n - 1)) ≡ outcome
   unfolding worked
   work-ends h =
       let e : i ≡ n = omega (arith, w .upto) in
-      ap (λ (k : ℕ). K .answered (held K jet-of (inputs + k - 1))) (sym e)
+      ap (λ (k : ℕ). (K .jets .answer 0) (held K jet-of (inputs + k - 1))) (sym e)
       ∙ ap (worked K (held K jet-of) (inputs + i)) (sym (drop-of-length-le (take n program) {i = i} (omega (arith, length-take n program, min-le-left n (length program)))))
       ∙ w .rest

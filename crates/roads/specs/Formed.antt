@@ -4,7 +4,7 @@ use mathlib.Core.List.{List, [], _∷_, _++_}
 use Prim.Native.Nat.{ℕ, suc}
 use lib.IntN.{ℤ}
 use lib.ListN.{getD, take}
-use Rattle.whole.specs.History.{Event, Traced, given, numbers}
+use Rattle.whole.specs.History.{Event, Traced, bare, numbers}
 use Rattle.calculus.specs.Kind.{regular}
 use Rattle.calculus.specs.Carry.{compositeDerivatives}
 use Rattle.exact.specs.declared.SurfaceDerivatives.{SurfaceDerivatives}
@@ -17,7 +17,7 @@ use Rattle.roads.specs.declared.Step.{Step}
 use Rattle.roads.specs.declared.SurfaceRecipe.{SurfaceRecipe}
 use Rattle.calculus.specs.Operation.{curveOperation}
 use Rattle.roads.specs.Recipe.{with}
-use Rattle.roads.specs.Roads.{surfaces}
+use Rattle.roads.specs.Roads.{surfaceSteps}
 
 -- what the entries up to the order n of a jet took
 abbrev pub formedBy : (ℕ → Traced) → ℕ → List Event
@@ -26,10 +26,10 @@ formedBy t n = histories (curveEntries t n)
 -- a surface's numbers carried along a curve, and an operation on two jets of numbers
 abbrev pub carriedWith : ParameterCurve → SurfaceDerivatives → ℕ → Traced
 carriedWith c s =
-    compositeDerivatives (regular traced) (λ i. given (curveNumbers (c .u) i)) (λ i. given (curveNumbers (c .v) i)) (λ i j. given (surfaceNumbers (s .entries) i j))
+    compositeDerivatives (regular traced) (λ i. bare (curveNumbers (c .u) i)) (λ i. bare (curveNumbers (c .v) i)) (λ i j. bare (surfaceNumbers (s .entries) i j))
 
 abbrev pub stepWith : Step → (ℕ → ℕ → ℤ) → ℕ → Traced
-stepWith s jet-of = curveOperation traced (s .operation) (λ i. given (jet-of (s .left) i)) (λ i. given (jet-of (s .right) i))
+stepWith s jet-of = curveOperation traced (s .operation) (λ i. bare (jet-of (s .left) i)) (λ i. bare (jet-of (s .right) i))
 
 -- what carrying each surface took
 unfoldable pub carriesTake : ParameterCurve → ℕ → List SurfaceDerivatives → List Event
@@ -46,4 +46,4 @@ abbrev pub numbersFormed : SurfaceRecipe → ParameterCurve → ℕ → List ℤ
 numbersFormed r c n =
     let inputs = take (r .inputs) (r .surfaces) in
     numbers (carriesTake c n inputs
-    ++ stepsTake n (λ k i. carriedWith c (getD inputs k (surfaces .blank)) i .value) (r .inputs) (take (r .steps) (r .program)))
+    ++ stepsTake n (λ k i. carriedWith c (getD inputs k (surfaceSteps .blank)) i .value) (r .inputs) (take (r .steps) (r .program)))

@@ -2,26 +2,22 @@
 -- quotient of two earlier jets. One definition over the kind of jet. Assumes nothing.
 use mathlib.Core.Bool.{Bool, true, false, cond}
 use mathlib.Core.List.{List, [], _∷_, map}
-use Prim.Native.Nat.{ℕ, suc, _-_, min}
+use Prim.Native.Nat.{ℕ, suc, _-_}
 use lib.Dec.{ltb, eqb}
 use lib.ListN.{getD, take}
 use Rattle.exact.specs.Judged.{byVerdict}
 use Rattle.calculus.specs.declared.Operation.{Operation}
 use Rattle.calculus.specs.Orders.{someAbove20, smallest}
+use Rattle.calculus.specs.JetKind.{JetKind, refused}
 use Rattle.roads.specs.declared.Step.{Step}
 
--- what a recipe asks of its jets, of the kind J, and of the answers to its steps, of the kind A
-pub record Jets (J A : Type 0) : Type 0 where
-  pub order : J → ℕ
-  -- the same jet at a smaller order: the entries past it are not read
-  pub cut : ℕ → J → J
-  -- what stands past the end of a list of jets
+-- what a recipe asks of its jets: their kind, what stands past the end of a list of them, the same jet at a smaller order, whose entries past it
+-- are not read, and the operations
+pub record RecipeKind (X E J A : Type 0) : Type 0 where
+  pub jets : JetKind X E J A
   pub blank : J
+  pub cut : ℕ → J → J
   pub apply : Operation → J → J → A
-  pub refusal : A → ℕ
-  pub jet : A → J
-  pub answered : J → A
-  pub refused : ℕ → A
 
 -- the jets in hand, by number, and j as the number m
 abbrev pub with : {J : Type 0} → (ℕ → J) → ℕ → J → ℕ → J
@@ -37,22 +33,22 @@ abbrev pub wellFormed : ℕ → ℕ → List Step → Bool
 wellFormed inputs steps program =
     cond (eqb inputs 0) false (cond (ltb 4 inputs) false (cond (eqb steps 0) false (cond (ltb 12 steps) false (namesEarlier inputs program))))
 
-module _ {J A : Type 0} (K : Jets J A) where
+module _ {X E J A : Type 0} (K : RecipeKind X E J A) where
   -- the steps in turn, on the jets before the number m: each adds its jet to those in hand, unless it is refused, which is the outcome then;
   -- the last number's jet is the result
   unfoldable pub worked : (ℕ → J) → ℕ → List Step → A
-  worked jet-of m [] = K .answered (jet-of (m - 1))
+  worked jet-of m [] = K .jets .answer 0 (jet-of (m - 1))
   worked jet-of m (s ∷ ss) =
       let a = K .apply (s .operation) (jet-of (s .left)) (jet-of (s .right)) in
-      byVerdict (K .refused) (K .refusal a) (worked (with jet-of m (K .jet a)) (suc m) ss)
+      byVerdict (refused (K .jets)) (K .jets .refusal a) (worked (with jet-of m (K .jets .jet a)) (suc m) ss)
 
   -- the jets that are there have orders up to 20, or it is 1; the recipe is well formed, or it is 4; and every step works at the smallest
   -- order of all the jets given, used or not
   abbrev pub built : ℕ → List J → ℕ → List Step → A
   built inputs jets steps program =
       let given = take inputs jets in
-      let orders = map (K .order) given in
-      cond (someAbove20 orders) (K .refused 1)
+      let orders = map (K .jets .order) given in
+      cond (someAbove20 orders) (refused (K .jets) 1)
       (cond (wellFormed inputs steps (take steps program))
       (worked (λ i. K .cut (smallest orders) (getD given i (K .blank))) inputs (take steps program))
-      (K .refused 4))
+      (refused (K .jets) 4))

@@ -5,7 +5,7 @@ ghost use mathlib.Core.List.{map};
 ghost use Prim.Native.Nat.{ℕ, _≤_, _<_};
 ghost use lib.ListN.{length, take, getD};
 ghost use Rattle.roads.specs.Recipe.{namesEarlier, worked};
-ghost use Rattle.roads.specs.Roads.{surfaces as kind, builtSurface};
+ghost use Rattle.roads.specs.Roads.{surfaceSteps as kind, builtSurface};
 use crate::Step;
 use crate::SurfaceRecipe;
 use crate::checks;
@@ -14,7 +14,7 @@ use exact::SurfaceDerivatives;
 
 // The orders of the four jets.
 fn orders(jets: [SurfaceDerivatives; 4]) -> [usize; 4]
-    ensures { λ r. ⌜ (r ≡ map (kind .order) jets) × (length jets ≡ 4) ⌝ }
+    ensures { λ r. ⌜ (r ≡ map (kind .jets .order) jets) × (length jets ≡ 4) ⌝ }
 {
     let a = jets[0];
     let b = jets[1];
@@ -30,18 +30,18 @@ fn cut(jets: [SurfaceDerivatives; 4], inputs: usize, order: usize) -> [SurfaceDe
 {
     let none = exact::refused_surface(0);
     let blank = none.jet;
-    let mut hand = [blank; 16];
+    let mut jet_of = [blank; 16];
     let mut i = 0;
     while i < inputs {
         let s = jets[i];
         let entries = s.entries;
-        hand[i] = SurfaceDerivatives { order, entries };
+        jet_of[i] = SurfaceDerivatives { order, entries };
         i += 1;
     }
-    hand
+    jet_of
 }
 
-// The steps in turn, on the jets in hand; the last number's jet is the result.
+// The steps in turn, on the jets by their numbers; the last number's jet is the result.
 fn work(
     start: [SurfaceDerivatives; 16],
     inputs: usize,
@@ -51,15 +51,15 @@ fn work(
     requires { ⌜ (0 < inputs) × (inputs ≤ 4) × (steps ≤ 12) × (namesEarlier inputs (take steps program) ≡ true) ⌝ }
     ensures { λ r. ⌜ r ≡ worked kind (λ i. getD start i (kind .blank)) inputs (take steps program) ⌝ }
 {
-    let mut hand = start;
+    let mut jet_of = start;
     let mut i = 0;
     while i < steps {
         let s = program[i];
         let operation = s.operation;
         let left = s.left;
         let right = s.right;
-        let a = hand[left];
-        let b = hand[right];
+        let a = jet_of[left];
+        let b = jet_of[right];
         let answer = crate::on_surfaces(operation, a, b);
         let number = answer.refusal;
         if number != 0 {
@@ -67,11 +67,11 @@ fn work(
         }
         let jet = answer.jet;
         let m = inputs + i;
-        hand[m] = jet;
+        jet_of[m] = jet;
         i += 1;
     }
     let last = inputs + steps - 1;
-    let jet = hand[last];
+    let jet = jet_of[last];
     SurfaceAnswer { refusal: 0, jet }
 }
 
@@ -93,7 +93,7 @@ impl SurfaceRecipe {
             return exact::refused_surface(4);
         }
         let order = calculus::smallest(&all[..count]);
-        let hand = cut(jets, inputs, order);
-        work(hand, inputs, steps, program)
+        let jet_of = cut(jets, inputs, order);
+        work(jet_of, inputs, steps, program)
     }
 }

@@ -16,7 +16,7 @@ use Rattle.calculus.specs.Carry.{summand as Summand, coordinates, surfaceEntry}
 use Rattle.whole.specs.declared.Whole.{Whole}
 use Rattle.exact_formulas.specs.Kinds.{checked}
 use Rattle.exact_formulas.specs.Entries.{curveValues, surfaceValues}
-use Rattle.calculus.proofs.Walking.{Walks, Steps, pending, pending-some, pending-none, steps, first-step, is-list, shorter}
+use Rattle.calculus.proofs.LoopWalking.{Walks, Steps, pending, pending-some, pending-none, steps, first-step, is-list, shorter}
 use Prim.Native.Nat.{ℕ}
 use native.Mathlib.Omega.{arith}
 use borrow.Author.Needs.{needs}

@@ -10,7 +10,7 @@ use Rattle.whole.specs.declared.Whole.the-variants.{Value}
 use Rattle.exact_carry.proofs.Masks.{carried-value, carried-derivative}
 use Rattle.calculus.specs.Kind.{regular}
 use Rattle.calculus.specs.Carry.{compositeDerivative}
-use Rattle.calculus.proofs.Cut.{uncut}
+use Rattle.calculus.proofs.LoopCut.{uncut}
 use Rattle.exact_formulas.specs.Kinds.{checked}
 use Rattle.exact_formulas.specs.Entries.{curveValues, surfaceValues}
 use borrow.Author.Needs.{needs}

@@ -12,7 +12,7 @@ use Rattle.calculus.specs.Carry.{factors as Factors, coordinates}
 use Rattle.exact_formulas.specs.Kinds.{checked}
 use Rattle.exact_formulas.specs.Entries.{curveValues}
 use Rattle.whole.specs.declared.Whole.the-variants.{Value}
-use Rattle.calculus.proofs.Bits.{factors-at, factors-past, by-u, by-v}
+use Rattle.calculus.proofs.LoopBits.{factors-at, factors-past, by-u, by-v}
 use Prim.Native.Nat.{_+_, _-_, _/_, _%_, _≤_}
 use native.Mathlib.Omega.{arith}
 use borrow.Author.Needs.{needs}

@@ -10,7 +10,7 @@ use Rattle.partitions.specs.declared.Count.{Count}
 use Rattle.partitions.specs.declared.Count.the-variants as Counts
 use Rattle.whole.specs.declared.Whole.the-variants.{Value}
 use Rattle.exact_formulas.specs.Kinds.{checked}
-use Rattle.calculus.proofs.Walking.{counted-list, list-short, multiplicity-fits}
+use Rattle.calculus.proofs.LoopWalking.{counted-list, list-short, multiplicity-fits}
 use Rattle.exact_carry.proofs.Masks.{coefficient-formed}
 use Prim.Native.Nat.{ℕ}
 use native.Mathlib.Omega.{arith}

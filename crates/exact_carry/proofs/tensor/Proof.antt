@@ -15,9 +15,9 @@ use Rattle.calculus.specs.Carry.{digits, surfaceEntry}
 use Rattle.whole.specs.declared.Whole.the-variants.{Value}
 use Rattle.exact_formulas.specs.Kinds.{checked}
 use Rattle.exact_formulas.specs.Entries.{surfaceValues}
-use Rattle.calculus.proofs.Bits.{masks-le, masks-shift}
+use Rattle.calculus.proofs.LoopBits.{masks-le, masks-shift}
 use Rattle.exact_carry.proofs.Masks.{termOf, entry-at}
-use Rattle.calculus.proofs.Table.{small-square}
+use Rattle.calculus.proofs.LoopTable.{small-square}
 use Prim.Native.Nat.{_+_, _-_, _≤_, _<_}
 use native.Mathlib.Omega.{arith}
 use borrow.Author.Needs.{needs}

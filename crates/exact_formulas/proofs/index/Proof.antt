@@ -4,7 +4,7 @@ use Prim.Native.Nat.{_+_}
 use native.Mathlib.Omega.{arith}
 use borrow.Author.Needs.{needs}
 use Rattle.calculus.specs.Graded.{index}
-use Rattle.calculus.proofs.Table.{small-square}
+use Rattle.calculus.proofs.LoopTable.{small-square}
 use Rattle.exact_formulas.proofs.index.Statement.{statement}
 use Rattle.exact_formulas.proofs.index.Tie as tie
 

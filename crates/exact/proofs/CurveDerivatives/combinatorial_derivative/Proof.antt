@@ -3,7 +3,7 @@ use mathlib.Core.Path.{_∙_}
 use borrow.Author.Tests.{lt-ltb, le-ltb}
 use borrow.Author.Needs.{needs}
 use Rattle.calculus.specs.Curve.{product}
-use Rattle.calculus.proofs.Cut.{uncut}
+use Rattle.calculus.proofs.LoopCut.{uncut}
 use Rattle.exact_formulas.specs.Kinds.{checked}
 use Rattle.exact_formulas.specs.Entries.{curveValues}
 use Rattle.exact.proofs.CurveDerivatives.combinatorial_derivative.Statement.{statement}

@@ -11,7 +11,7 @@ use borrow.Author.Tests.{lt-ltb, le-ltb, eq-eqb, ne-eqb}
 use borrow.Author.Needs.{needs}
 use Rattle.calculus.specs.Array.{curveArray}
 use Rattle.exact.specs.declared.ParameterAnswer.{ParameterAnswer}
-use Rattle.calculus.proofs.Table.{twice}
+use Rattle.calculus.proofs.LoopTable.{twice}
 use Rattle.exact.proofs.ParameterCurve.from_list.Statement.{statement}
 use Rattle.exact.proofs.ParameterCurve.from_list.Tie as tie
 

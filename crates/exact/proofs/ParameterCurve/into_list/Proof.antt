@@ -8,7 +8,7 @@ use lib.ListN.{length}
 use denote.Ref.{now}
 use borrow.Author.Tests.{lt-ltb, le-ltb, eq-eqb, ne-eqb}
 use borrow.Author.Needs.{needs}
-use Rattle.calculus.proofs.Table.{twice}
+use Rattle.calculus.proofs.LoopTable.{twice}
 use Rattle.exact.proofs.ParameterCurve.into_list.Statement.{statement}
 use Rattle.exact.proofs.ParameterCurve.into_list.Tie as tie
 

@@ -7,7 +7,7 @@ use Rattle.calculus.specs.Kind.{regular}
 use Rattle.calculus.specs.Carry.{compositeDerivative}
 use Rattle.exact_formulas.specs.Kinds.{checked}
 use Rattle.exact_formulas.specs.Entries.{curveValues, surfaceValues}
-use Rattle.calculus.proofs.Cut.{uncut}
+use Rattle.calculus.proofs.LoopCut.{uncut}
 use Rattle.exact.specs.declared.SurfaceDerivatives.{SurfaceDerivatives}
 use Rattle.exact.specs.declared.ParameterCurve.{ParameterCurve}
 use Rattle.exact.proofs.Orders.{by-none, by-some}

@@ -1,6 +1,7 @@
 -- `exact::SurfaceDerivatives::composite_derivatives` meets its contract. Assumes nothing.
 use mathlib.Core.Path.{_∙_, sym, ap}
-use Rattle.exact.specs.Answer.{refusedCurve, curveAnswer}
+use Rattle.exact.specs.Names.{refusedCurve}
+use Rattle.exact.specs.Answer.{curveAnswer}
 use Rattle.exact_carry.proofs.Masks.{carriedJet}
 use Rattle.exact.proofs.Answers.{curve-carried}
 use Rattle.exact.proofs.Orders.{by-none, by-some}

@@ -7,7 +7,7 @@ use denote.Ref.{now}
 use borrow.Author.Tests.{lt-ltb, le-ltb, eq-eqb, ne-eqb}
 use borrow.Author.Needs.{needs}
 use Rattle.calculus.specs.Graded.{triangle}
-use Rattle.calculus.proofs.Table.{counted}
+use Rattle.calculus.proofs.LoopTable.{counted}
 use Rattle.exact.proofs.SurfaceDerivatives.from_list.Statement.{statement}
 use Rattle.exact.proofs.SurfaceDerivatives.from_list.Tie as tie
 

@@ -9,7 +9,7 @@ use denote.Ref.{now}
 use borrow.Author.Tests.{lt-ltb, le-ltb, eq-eqb, ne-eqb}
 use borrow.Author.Needs.{needs}
 use Rattle.calculus.specs.Graded.{triangle}
-use Rattle.calculus.proofs.Table.{counted}
+use Rattle.calculus.proofs.LoopTable.{counted}
 use Rattle.exact.proofs.SurfaceDerivatives.into_list.Statement.{statement}
 use Rattle.exact.proofs.SurfaceDerivatives.into_list.Tie as tie
 

@@ -11,9 +11,9 @@ use mir.Val.{SFits}
 use mir.Facts.{toZ-ofZ}
 use Rattle.calculus.specs.Order.{curveEntries}
 use Rattle.exact_formulas.specs.Entries.{curveNumbers}
-use Rattle.calculus.proofs.Left.{curveLeft, curve-start, curve-next, curve-end}
-use Rattle.calculus.proofs.Writing.{Writing, writing-begins, in-list, writing-goes-on, writing-ends}
-use Rattle.calculus.proofs.Filling.{listed-length}
+use Rattle.calculus.proofs.LoopLeft.{curveLeft, curve-start, curve-next, curve-end}
+use Rattle.calculus.proofs.LoopWriting.{Writing, writing-begins, in-list, writing-goes-on, writing-ends}
+use Rattle.calculus.proofs.LoopFilling.{listed-length}
 use Rattle.exact.proofs.curve.write.Statement.{statement}
 use Rattle.exact.proofs.curve.write.Tie as tie
 

@@ -11,9 +11,9 @@ use mir.Syntax.{w64}
 use mir.Val.{SFits}
 use mir.Facts.{toZ-ofZ}
 use Rattle.exact_formulas.specs.Entries.{curveNumbers}
-use Rattle.exact.specs.Answer.{pairs}
-use Rattle.exact.proofs.Pairs.{pairsLeft, pairs-start, pairs-next, pairs-end, pairs-length}
-use Rattle.calculus.proofs.Writing.{Writing, writing-begins, in-list, writing-goes-on, writing-ends}
+use Rattle.calculus.specs.Order.{pairs}
+use Rattle.calculus.proofs.LoopPairs.{pairsLeft, pairs-start, pairs-next, pairs-end, pairs-length}
+use Rattle.calculus.proofs.LoopWriting.{Writing, writing-begins, in-list, writing-goes-on, writing-ends}
 use Rattle.exact.proofs.parameter.write.Statement.{statement}
 use Rattle.exact.proofs.parameter.write.Tie as tie
 

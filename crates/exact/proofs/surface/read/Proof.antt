@@ -12,7 +12,7 @@ use Rattle.whole.specs.declared.Whole.the-variants.{Value}
 use Rattle.calculus.proofs.Graded.{room-231}
 use Rattle.calculus.specs.Graded.{triangle}
 use Rattle.calculus.specs.Order.{rowStart, listPlace}
-use Rattle.calculus.proofs.Places.{row-turn, list-place}
+use Rattle.calculus.proofs.LoopPlaces.{row-turn, list-place}
 use Rattle.exact_formulas.proofs.Progress.{SurfaceProgress, surface-begins, entry-inside, entry-place, surface-goes-on, surface-turns}
 use Rattle.exact.proofs.Answers.{surface-is}
 use Rattle.exact.proofs.surface.read.Statement.{statement}

@@ -9,7 +9,7 @@ use lib.ListN.{getD}
 use mir.Syntax.{w64}
 use mir.Val.{SFits}
 use Rattle.whole.specs.declared.Whole.the-variants.{Value}
-use Rattle.calculus.proofs.Table.{in-array}
+use Rattle.calculus.proofs.LoopTable.{in-array}
 use Rattle.exact_formulas.specs.Entries.{surfaceNumbers}
 use Rattle.exact_formulas.proofs.Progress.{SurfaceProgress, surface-begins, entry-inside, entry-place, surface-goes-on, surface-turns}
 use Rattle.exact.proofs.Answers.{surface-is}

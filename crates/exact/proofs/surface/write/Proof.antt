@@ -11,10 +11,10 @@ use mir.Val.{SFits, toZ, ofZ}
 use mir.Facts.{toZ-ofZ}
 use Rattle.calculus.proofs.Graded.{room-231}
 use Rattle.calculus.specs.Order.{surfaceEntries}
-use Rattle.calculus.proofs.Table.{in-array}
+use Rattle.calculus.proofs.LoopTable.{in-array}
 use Rattle.exact_formulas.specs.Entries.{surfaceNumbers}
-use Rattle.calculus.proofs.Left.{Inside, surfaceLeft, surface-start, surface-next, surface-row, surface-end}
-use Rattle.calculus.proofs.Writing.{Writing, writing-begins, in-list, writing-goes-on, writing-turns, writing-ends, rows-length}
+use Rattle.calculus.proofs.LoopLeft.{Inside, surfaceLeft, surface-start, surface-next, surface-row, surface-end}
+use Rattle.calculus.proofs.LoopWriting.{Writing, writing-begins, in-list, writing-goes-on, writing-turns, writing-ends, rows-length}
 use Rattle.exact.proofs.surface.write.Statement.{statement}
 use Rattle.exact.proofs.surface.write.Tie as tie
 

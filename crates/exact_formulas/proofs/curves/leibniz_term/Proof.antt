@@ -11,7 +11,7 @@ use mir.Val.{SFits}
 use mir.Facts.{toZ-ofZ}
 use Rattle.whole.specs.declared.Whole.the-variants.{Value}
 use Rattle.exact_formulas.specs.Kinds.{checked}
-use Rattle.calculus.proofs.Table.{in-table, coefficient}
+use Rattle.calculus.proofs.LoopTable.{in-table, coefficient}
 use Rattle.exact_formulas.proofs.curves.leibniz_term.Statement.{statement}
 use Rattle.exact_formulas.proofs.curves.leibniz_term.Tie as tie
 

@@ -17,7 +17,7 @@ use Rattle.calculus.specs.InTurn.{inTurn, inRows}
 use Rattle.calculus.specs.Surface.{leibniz}
 use Rattle.exact_formulas.specs.Kinds.{checked}
 use Rattle.exact_formulas.specs.Entries.{surfaceValues}
-use Rattle.calculus.proofs.Table.{in-array}
+use Rattle.calculus.proofs.LoopTable.{in-array}
 use Rattle.exact_formulas.proofs.Terms.{from-zero, from-one}
 use Rattle.exact_formulas.proofs.surfaces.dividend.Statement.{statement}
 use Rattle.exact_formulas.proofs.surfaces.dividend.Tie as tie

@@ -10,7 +10,7 @@ use mir.Syntax.{w64}
 use mir.Val.{SFits}
 use mir.Facts.{toZ-ofZ}
 use Rattle.whole.specs.Checked.{formed}
-use Rattle.calculus.proofs.Table.{in-array}
+use Rattle.calculus.proofs.LoopTable.{in-array}
 use Rattle.exact_formulas.proofs.surfaces.entry.Statement.{statement}
 use Rattle.exact_formulas.proofs.surfaces.entry.Tie as tie
 

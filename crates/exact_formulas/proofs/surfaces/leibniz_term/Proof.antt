@@ -12,7 +12,7 @@ use mir.Facts.{toZ-ofZ}
 use Rattle.whole.specs.declared.Whole.the-variants.{Value}
 use Rattle.calculus.specs.Choose.{choose}
 use Rattle.exact_formulas.specs.Kinds.{checked}
-use Rattle.calculus.proofs.Table.{in-array, in-table, coefficient, small-product}
+use Rattle.calculus.proofs.LoopTable.{in-array, in-table, coefficient, small-product}
 use Rattle.exact_formulas.proofs.surfaces.leibniz_term.Statement.{statement}
 use Rattle.exact_formulas.proofs.surfaces.leibniz_term.Tie as tie
 

@@ -6,7 +6,7 @@ use borrow.Author.Tests.{not-true, not-false}
 use borrow.Author.Needs.{needs}
 use Rattle.calculus.specs.Orders.{someAbove20}
 use Rattle.roads.specs.Recipe.{wellFormed}
-use Rattle.roads.specs.Roads.{surfaces}
+use Rattle.roads.specs.Roads.{surfaceSteps}
 use Rattle.roads.proofs.Inputs.{Counts, counts}
 use Rattle.roads.proofs.Building.{Given, given-length, too-high, ill-formed, builds}
 use Rattle.roads.proofs.SurfaceRecipe.build.Statement.{statement}
@@ -22,7 +22,7 @@ array-share-prefix-all : tie.Need-array-share-prefix-all
 array-share-prefix-all c = search needs
 
 -- what the orders and the count of the jets given are
-given : (c : tie.After-given) → let r = c .before .before .before .before .args .self in Given surfaces (r .surfaces) (r .inputs) (c .before .orders .result) (c .given .result)
+given : (c : tie.After-given) → let r = c .before .before .before .before .args .self in Given surfaceSteps (r .surfaces) (r .inputs) (c .before .orders .result) (c .given .result)
 given c = record { four = c .before .orders .ensures .1; all = c .before .orders .ensures .0; count = c .given .ensures }
 
 slice-aggregate-some-above-20 : tie.Need-slice-aggregate-some-above-20

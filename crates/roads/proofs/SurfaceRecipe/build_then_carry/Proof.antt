@@ -2,7 +2,7 @@
 use mathlib.Core.Path.{ap, _∙_}
 use borrow.Author.Needs.{needs}
 use Rattle.exact.specs.declared.SurfaceAnswer.{SurfaceAnswer}
-use Rattle.exact.specs.Answer.{refusedCurve}
+use Rattle.exact.specs.Names.{refusedCurve}
 use Rattle.exact.specs.Composite.{alongCurve}
 use Rattle.roads.specs.Roads.{builtSurface}
 use Rattle.roads.proofs.Building.{a-refusal, no-refusal}

@@ -6,10 +6,10 @@ use lib.ListN.{take}
 use borrow.Author.Needs.{needs}
 use Rattle.exact.specs.declared.CurveAnswer.{CurveAnswer}
 use Rattle.exact.specs.declared.ParameterCurve.{ParameterCurve}
-use Rattle.exact.specs.Answer.{refusedCurve}
+use Rattle.exact.specs.Names.{refusedCurve}
 use Rattle.exact.specs.Composite.{alongCurve}
 use Rattle.roads.specs.declared.SurfaceRecipe.{SurfaceRecipe}
-use Rattle.roads.specs.Roads.{curves, builtCurve, firstRefusal}
+use Rattle.roads.specs.Roads.{curveSteps, builtCurve, firstRefusal}
 use Rattle.roads.proofs.Building.{a-refusal, no-refusal, built-same}
 use Rattle.roads.proofs.Carrying.{all-refusals, all-carried}
 use Rattle.roads.proofs.SurfaceRecipe.carry_then_build.Statement.{statement}
@@ -55,7 +55,7 @@ returns-2 c =
     let e = d .carry-each .ensures in
     let l = d .carry-each .result .curves in
     c .build .ensures
-    ∙ built-same curves (a .self .inputs) (a .self .steps) (a .self .program) l (map (λ (x : CurveAnswer). x .jet) (carried (a .self) (a .curve) (a .order)))
+    ∙ built-same curveSteps (a .self .inputs) (a .self .steps) (a .self .program) l (map (λ (x : CurveAnswer). x .jet) (carried (a .self) (a .curve) (a .order)))
     (all-carried (λ s. alongCurve s (a .curve) (a .order)) (a .self .surfaces) (e .2) (a .self .inputs) (g .given .result) (g .given .ensures) l (e .3) (e .1 (c .before .before .if1 .left)))
     ∙ no-refusal refusedCurve (rebuilt (a .self) (a .curve) (a .order)) (refusals d) (c .before .before .if1 .left)
 

@@ -1,7 +1,8 @@
 -- `roads::curves::orders` meets its contract. Assumes nothing.
 use borrow.Author.Needs.{needs}
-use Rattle.roads.specs.Roads.{curves}
+use Rattle.exact.specs.Answer.{curves}
 use Rattle.roads.proofs.Tests.{four-orders}
+use Rattle.roads.specs.Roads.{curveSteps}
 use Rattle.roads.proofs.curves.orders.Statement.{statement}
 use Rattle.roads.proofs.curves.orders.Tie as tie
 
@@ -18,7 +19,7 @@ array-copy-out-d : tie.Need-array-copy-out-d
 array-copy-out-d c = search needs
 
 returns : tie.Need-returns
-returns c = (four-orders (curves .order) (curves .blank) (c .before .before .before .before .args .t1) (search needs), search needs)
+returns c = (four-orders (curves .order) (curveSteps .blank) (c .before .before .before .before .args .t1) (search needs), search needs)
 
 pub orders-spec : {M : Type 1} → statement M
 orders-spec =

@@ -1,7 +1,8 @@
 -- `roads::surfaces::orders` meets its contract. Assumes nothing.
 use borrow.Author.Needs.{needs}
-use Rattle.roads.specs.Roads.{surfaces}
+use Rattle.exact.specs.Answer.{surfaces}
 use Rattle.roads.proofs.Tests.{four-orders}
+use Rattle.roads.specs.Roads.{surfaceSteps}
 use Rattle.roads.proofs.surfaces.orders.Statement.{statement}
 use Rattle.roads.proofs.surfaces.orders.Tie as tie
 
@@ -18,7 +19,7 @@ array-copy-out-d : tie.Need-array-copy-out-d
 array-copy-out-d c = search needs
 
 returns : tie.Need-returns
-returns c = (four-orders (surfaces .order) (surfaces .blank) (c .before .before .before .before .args .t1) (search needs), search needs)
+returns c = (four-orders (surfaces .order) (surfaceSteps .blank) (c .before .before .before .before .args .t1) (search needs), search needs)
 
 pub orders-spec : {M : Type 1} → statement M
 orders-spec =
