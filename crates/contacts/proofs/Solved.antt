@@ -6,7 +6,7 @@ use lib.Dec.{eqb}
 use Rattle.ieee_vectors.specs.Matrices.{determinant2, determinant3}
 use Rattle.formulas.specs.Real.{isZero}
 use Rattle.formulas.specs.Numbers.{curveNumbers}
-use Rattle.contacts.specs.SurfaceInfo.{offset, form}
+use Rattle.surface_info.specs.SurfaceInfo.{offset, form}
 use Rattle.contacts.specs.Center.{jet0, jet1, start, planes, formed, found, noContacts, centerContacts}
 use Rattle.contacts.specs.declared.Place.{Place}
 

@@ -20,10 +20,10 @@ use Rattle.formulas.specs.Real.{real}
 use Rattle.calculus.specs.Rational.{rational}
 use Rattle.formulas.specs.Numbers.{curveNumbers}
 use Rattle.vector_formulas.specs.Vector.{origin, vectors, vectorNumbers, put, stored}
-use Rattle.contacts.specs.SurfaceInfo.{firstOnly, firstNumberOnly, initial, along, offset, parameters, nextParameters, nextCarried, nextCross, nextNorm, nextNormal, routine}
+use Rattle.surface_info.specs.SurfaceInfo.{firstOnly, firstNumberOnly, initial, along, offset, parameters, nextParameters, nextCarried, nextCross, nextNorm, nextNormal, routine}
 use Rattle.contacts.specs.Center.{edge, radii, jet0, jet1, start, planes, rightSide, nextCenter, next, after, formed}
 use Rattle.contacts.specs.declared.Place.{Place}
-use Rattle.contacts.specs.declared.surface_info.SurfaceInfo.{SurfaceInfo}
+use Rattle.surface_info.specs.declared.SurfaceInfo.{SurfaceInfo}
 use Rattle.contacts.specs.declared.steps.Formed.{Formed}
 
 -- ---- an entry stored leaves the others

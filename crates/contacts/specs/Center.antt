@@ -15,11 +15,11 @@ use Rattle.calculus.specs.Curve.{derivative, difference, productBy}
 use Rattle.formulas.specs.Real.{real, isZero}
 use Rattle.formulas.specs.Numbers.{curveNumbers}
 use Rattle.vector_formulas.specs.Vector.{vectors, vectorNumbers, vectorSurfaceNumbers, stored}
-use Rattle.contacts.specs.SurfaceInfo.{firstOnly, initial, offset, form, routine}
+use Rattle.surface_info.specs.SurfaceInfo.{firstOnly, initial, offset, form, routine}
 use Rattle.contacts.specs.declared.Place.{Place}
-use Rattle.contacts.specs.declared.Parameters.{Parameters}
+use Rattle.surface_info.specs.declared.Parameters.{Parameters}
 use Rattle.contacts.specs.declared.CenterContacts.{CenterContacts}
-use Rattle.contacts.specs.declared.surface_info.SurfaceInfo.{SurfaceInfo}
+use Rattle.surface_info.specs.declared.SurfaceInfo.{SurfaceInfo}
 use Rattle.contacts.specs.declared.steps.Formed.{Formed}
 
 -- ---- what is given, as jets

@@ -1,2 +1,1 @@
-pub mod SurfaceInfo
 pub mod Center

@@ -6,10 +6,9 @@ ghost use Rattle.contacts.specs.Center.{found as foundOf, noContacts, ce
 use crate::steps::Formed;
 use ieee_vectors::Vector2;
 use ieee_vectors::Vector3;
+use surface_info::Parameters;
 
-mod arrays;
 mod steps;
-mod surface_info;
 
 // What is known at one place of the edge: the edge, the radius and both surfaces as arrays of their derivatives; the ball's centre, and at each
 // contact point its parameters and the surface's unit normal.
@@ -23,12 +22,6 @@ pub struct Place {
     pub foot1: Vector2,
     pub normal0: Vector3,
     pub normal1: Vector3,
-}
-
-// The parameters of a contact point along the edge.
-pub struct Parameters {
-    pub u: [f64; 21],
-    pub v: [f64; 21],
 }
 
 // The centre, the contact points and their parameters along the edge, beside 0; or zeros beside a refusal's number.

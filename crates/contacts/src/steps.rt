@@ -1,18 +1,21 @@
 // The steps along the edge: from the entries up to one order, those of the next. NaN and infinities pass through. Each `requires` is met by the callers.
 ghost use mathlib.Core.Path.{_≡_};
 ghost use Prim.Native.Nat.{_<_};
+ghost use Rattle.ieee_vectors.specs.Vectors.{dot};
 ghost use Rattle.ieee_vectors.specs.Matrices.{columns, transposed};
+ghost use Rattle.calculus.specs.Kind.{regular};
+ghost use Rattle.calculus.specs.Curve.{derivative, difference, productBy};
+ghost use Rattle.formulas.specs.Real.{real};
 ghost use Rattle.formulas.specs.Numbers.{curveNumbers};
-ghost use Rattle.vector_formulas.specs.Vector.{vectorNumbers, vectorSurfaceNumbers};
-ghost use Rattle.contacts.specs.SurfaceInfo.{form, offset};
+ghost use Rattle.vector_formulas.specs.Vector.{vectors, vectorNumbers, vectorSurfaceNumbers};
+ghost use Rattle.surface_info.specs.SurfaceInfo.{form, offset};
 ghost use Rattle.contacts.specs.Center.{start as startOf, planes as planesOf, rightSide, nextCenter, next as nextOf, formed as formedOf};
 use crate::Place;
-use crate::arrays;
-use crate::surface_info;
-use crate::surface_info::SurfaceInfo;
 use ieee_vectors::Matrix2;
 use ieee_vectors::Matrix3;
 use ieee_vectors::Vector3;
+use surface_info::SurfaceInfo;
+use surface_info::arrays;
 
 // The entries formed so far: of the centre, and of both surfaces.
 pub struct Formed {
@@ -55,6 +58,15 @@ pub fn planes(p: Place) -> Matrix3
     by_rows(e, p.normal0, p.normal1)
 }
 
+// The entry m of a' · (a - b).
+fn derivative_dot_difference(a: &[f64; 63], b: &[f64; 63], m: usize) -> f64
+    requires { ⌜ m < 20 ⌝ }
+    ensures { λ r. ⌜ r ≡ productBy (regular real) dot (derivative (vectorNumbers (now (a .entry)))) (difference vectors (vectorNumbers (now (a .entry))) (vectorNumbers (now (b .entry)))) m ⌝ }
+{
+    let d = vector_formulas::derivative(a, m);
+    arrays::dot_difference(&d, a, b, m)
+}
+
 // What the known entries give at the order m.
 fn right_side(edge: &[f64; 63], radius: &[f64; 21], k: Formed, m: usize) -> Vector3
     requires { ⌜ (0 < m) × (m < 20) ⌝ }
@@ -63,7 +75,7 @@ fn right_side(edge: &[f64; 63], radius: &[f64; 21], k: Formed, m: usize) -> Vect
     let center = k.center;
     let a = k.info0.normal.unit;
     let b = k.info1.normal.unit;
-    let x = arrays::derivative_dot_difference(edge, &center, m);
+    let x = derivative_dot_difference(edge, &center, m);
     let y = arrays::derivative_dot(&center, &a, m - 1);
     let z = arrays::derivative_dot(&center, &b, m - 1);
     let r = radius[m];
@@ -107,8 +119,8 @@ fn next(
     let b = k.info1;
     Formed {
         center,
-        info0: surface_info::routine(s, &center, a, m),
-        info1: surface_info::routine(t, &center, b, m),
+        info0: surface_info::routine(s, &center, a, m - 1),
+        info1: surface_info::routine(t, &center, b, m - 1),
     }
 }
 

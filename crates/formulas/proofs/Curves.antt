@@ -1,14 +1,19 @@
--- A formula reads of the entries before it only those that are formed: what the array holds serves as well. Assumes nothing.
-use mathlib.Core.Path.{_≡_, refl, ap₂}
+-- An array of a curve's entries, as a loop fills it and as it is read; and what a formula reads of the entries before it. Assumes nothing.
+use mathlib.Core.Path.{_≡_, refl, sym, ap, ap₂, _∙_}
 use mathlib.Core.List.{List}
-use Prim.Native.Nat.{ℕ, _≤_}
+use Prim.Native.Nat.{ℕ, suc, _+_, _≤_, _<_}
 use native.Mathlib.Nat.{le-refl}
 use native.Mathlib.Omega.{arith}
+use lib.ListN.{set, replicate}
 use lib.Ieee.{Float, nan}
+use borrow.Author.Tests.{lt-ltb}
+use Rattle.booleans.proofs.Tests.{first}
+use Rattle.calculus.specs.Array.{filled, curveArray}
 use Rattle.calculus.specs.Kind.{regular}
 use Rattle.calculus.specs.Rising.{before, rising}
 use Rattle.calculus.proofs.Related.{sameModule}
-use Rattle.calculus.proofs.Filling.{CurveStored, curve-earlier}
+use Rattle.calculus.proofs.LoopFilling.{CurveStored, curve-none, curve-more, curve-all, curve-earlier, filled-at}
+use Rattle.calculus.proofs.UpTo.{CurvesAgree}
 use Rattle.calculus.proofs.Quotients.{rationalEntry-alike}
 use Rattle.calculus.specs.declared.Operation.{Operation}
 use Rattle.calculus.specs.declared.Operation.the-variants
@@ -18,6 +23,29 @@ use Rattle.formulas.specs.Numbers.{curveNumbers}
 use Rattle.formulas.specs.Operations.{curveBy}
 use Rattle.formulas.specs.Inner.{curveFormula}
 
+-- ---- an array of which those entries are stored that a loop has passed
+module _ (f : ℕ → Float) where
+  abbrev pub CurveFilled : ℕ → List Float → Type 0
+  CurveFilled = CurveStored 21 nan positiveZero (λ k v. f k ≡ v)
+
+  pub numbers-none : CurveFilled 0 (replicate 21 positiveZero)
+  numbers-none = curve-none 21 nan positiveZero (λ k v. f k ≡ v)
+
+  pub numbers-more : {r : List Float} {m : ℕ} (v : Float) → CurveFilled m r → m < 21 → f m ≡ v → CurveFilled (m + 1) (set r m v)
+  numbers-more = curve-more 21 nan positiveZero (λ k v. f k ≡ v)
+
+  pub numbers-all : {r : List Float} (n : ℕ) {m : ℕ} → CurveFilled m r → m ≡ n → r ≡ filled 21 positiveZero f n
+  numbers-all = curve-all 21 nan positiveZero (λ k v. f k ≡ v) f (λ k v e. sym e)
+
+-- ---- what is read of an array that a formula filled: the formula's entries
+pub numbers-held : (f : ℕ → Float) (n : ℕ) → n ≤ 21 → {r : List Float} → r ≡ filled 21 positiveZero f n → (k : ℕ) → k < n → curveNumbers r k ≡ f k
+numbers-held f n h e k l =
+    ap (λ (x : List Float). curveNumbers x k) e ∙ filled-at 21 nan positiveZero f n k (omega arith) ∙ first (f k) positiveZero (lt-ltb k n l)
+
+pub numbers-agree : (f : ℕ → Float) (n : ℕ) → n ≤ 20 → {r : List Float} → r ≡ curveArray positiveZero f n → CurvesAgree n (curveNumbers r) f
+numbers-agree f n h e k l = numbers-held f (suc n) (omega arith) e k (omega arith)
+
+-- ---- a formula reads only entries that are formed: what the array holds serves as well
 abbrev pub Eq : Float → Float → Type 0
 Eq a b = a ≡ b
 
@@ -32,9 +60,6 @@ curve-reads the-variants.Quotient a b p q m h =
 -- the entries of the jet that an operation forms, of which the array holds those before m
 abbrev pub curveOf : Operation → (ℕ → Float) → (ℕ → Float) → ℕ → Float
 curveOf f a b = rising positiveZero (curveFormula f a b)
-
-abbrev pub CurveFilled : (ℕ → Float) → ℕ → List Float → Type 0
-CurveFilled f = CurveStored 21 nan positiveZero (λ k v. f k ≡ v)
 
 pub curve-formed : (f : Operation) (a b : ℕ → Float) {r : List Float} {m : ℕ} → CurveFilled (curveOf f a b) m r → m ≤ 20 →
     curveOf f a b m ≡ curveFormula f a b (curveNumbers r) m

@@ -2,5 +2,3 @@ pub mod Table
 pub mod Finite
 pub mod Curves
 pub mod Surfaces
-pub mod Counts
-pub mod Carries

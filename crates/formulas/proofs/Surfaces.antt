@@ -11,8 +11,8 @@ use Rattle.calculus.specs.Graded.{index}
 use Rattle.calculus.specs.Array.{surfaceArray}
 use Rattle.calculus.proofs.Related.{sameModule}
 use Rattle.calculus.proofs.Graded.{room-231}
-use Rattle.calculus.proofs.SurfaceFilling.{SurfaceStored, surface-none, surface-more, surface-next, surface-all, surface-earlier}
-use Rattle.calculus.proofs.Left.{Inside}
+use Rattle.calculus.proofs.LoopSurfaceFilling.{SurfaceStored, surface-none, surface-more, surface-next, surface-all, surface-earlier}
+use Rattle.calculus.proofs.LoopLeft.{Inside}
 use Rattle.calculus.specs.declared.Operation.{Operation}
 use Rattle.formulas.specs.Operations.{surfaceBy}
 use Rattle.calculus.specs.declared.Operation.the-variants

@@ -4,7 +4,7 @@ use mathlib.Core.List.{List}
 use Prim.Native.Nat.{ℕ, _≤_, min}
 use native.Mathlib.Omega.{arith}
 use Rattle.calculus.specs.Choose.{choose, binomialTable}
-use Rattle.calculus.proofs.Terms.{coefficient}
+use Rattle.calculus.proofs.LoopTerms.{coefficient}
 use Rattle.formulas.specs.Numbers.{inRow}
 
 pub from-table : {r : ℕ} (c : List ℕ) (m i : ℕ) → (i ≤ m) × (m ≤ 20) × (c ≡ binomialTable) → r ≡ inRow c m i → r ≡ choose m i

@@ -2,19 +2,16 @@
 // as a function that forms many jets on its way needs it. An order above 20, for which an array has no entries, is cut to 20.
 ghost use mathlib.Core.Path.{_≡_};
 ghost use Prim.Native.Nat.{_-_, min};
-ghost use Rattle.calculus.specs.Kind.{regular};
 ghost use Rattle.calculus.specs.Array.{curveArray, surfaceArray};
 ghost use Rattle.calculus.specs.Graded.{index as indexOf};
 ghost use Rattle.calculus.specs.Curve.{product as productOf, derivative as derivativeOf};
 ghost use Rattle.calculus.specs.Surface.{product as surfaceProductOf, derivativeU, derivativeV};
-ghost use Rattle.calculus.specs.Carry.{compositeDerivative, compositeDerivatives};
 ghost use Rattle.ieee_vectors.specs.Vectors.{positiveZero};
 ghost use Rattle.formulas.specs.Real.{real};
 ghost use Rattle.formulas.specs.Numbers.{curveNumbers, surfaceNumbers, inRow, finiteList, finiteCurve, finiteSurface};
 ghost use Rattle.formulas.specs.Operations.{curveBy, surfaceBy};
 use calculus::Operation;
 
-mod carry;
 mod curve_entries;
 mod surface_entries;
 mod terms;
@@ -67,20 +64,6 @@ pub fn derivative_v(a: &[f64; 231], n: usize) -> [f64; 231]
     ensures { λ r. ⌜ r ≡ surfaceArray positiveZero (derivativeV (surfaceNumbers (now (a .entry)))) (min n 19) ⌝ }
 {
     surface_entries::shifted(a, calculus::smaller(n, 19), 0, 1)
-}
-
-// A surface carried along the curve (u, v) in its parameters: the derivative of one order, which is zero at order 0.
-pub fn composite(entries: &[f64; 231], u: &[f64; 21], v: &[f64; 21], m: usize) -> f64
-    ensures { λ r. ⌜ r ≡ compositeDerivative (regular real) (curveNumbers (now (u .entry))) (curveNumbers (now (v .entry))) (surfaceNumbers (now (entries .entry))) (min m 20) ⌝ }
-{
-    carry::derivative(entries, u, v, calculus::smaller(m, 20))
-}
-
-// The derivatives of all orders up to n, with the entry [0][0] at order 0.
-pub fn composites(entries: &[f64; 231], u: &[f64; 21], v: &[f64; 21], n: usize) -> [f64; 21]
-    ensures { λ r. ⌜ r ≡ curveArray positiveZero (compositeDerivatives (regular real) (curveNumbers (now (u .entry))) (curveNumbers (now (v .entry))) (surfaceNumbers (now (entries .entry)))) (min n 20) ⌝ }
-{
-    carry::derivatives(entries, u, v, calculus::smaller(n, 20))
 }
 
 // Where [i][j] stands in a surface's array: i is cut to 20, and j to 20 - i.

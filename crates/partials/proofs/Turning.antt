@@ -14,21 +14,20 @@ use Rattle.calculus.specs.Rising.{before}
 use Rattle.calculus.specs.Array.{curveArray}
 use Rattle.calculus.specs.Curve.{product}
 use Rattle.calculus.proofs.UpTo.{CurvesAgree, productBy-upto, product-upto}
-use Rattle.calculus.proofs.Filling.{curve-earlier}
+use Rattle.calculus.proofs.LoopFilling.{curve-earlier}
 use Rattle.ieee.specs.SquareRoot.{squareRoot}
 use Rattle.formulas.specs.Real.{real}
 use Rattle.formulas.specs.Numbers.{curveNumbers}
 use Rattle.calculus.specs.Rational.{rational}
 use Rattle.vector_formulas.specs.Vector.{vectors, vectorNumbers, vectorArray, vectorNorm}
-use Rattle.formulas.proofs.Curves.{Eq, CurveFilled}
+use Rattle.formulas.proofs.Curves.{Eq, CurveFilled, numbers-agree}
+use Rattle.vector_formulas.proofs.Vectors.{vectors-agree, vectors-upto}
 use Rattle.calculus.proofs.Quotients.{all-alike}
 use Rattle.calculus.proofs.UpToQuotients.{rational-upto, norm-upto}
 use Rattle.rodrigues.specs.Rotation.{two}
 use Rattle.partials.specs.AxisAngle.{crosses, lengths, axes, dots, rateEntry, rates, turnEntry, turns, angles, cosine, divisionByZero}
-use Rattle.partials.proofs.Entries.{numbers-agree, vectors-agree}
 use Rattle.calculus.proofs.Same.{filled-same}
-use Rattle.calculus.proofs.Cut.{uncut}
-use Rattle.partials.proofs.Filled.{vectors-upto}
+use Rattle.calculus.proofs.LoopCut.{uncut}
 
 -- ---- from the entries before
 rate-reads : (r p q : ℕ → Float) (m : ℕ) → CurvesAgree m p q → rateEntry r p m ≡ rateEntry r q m

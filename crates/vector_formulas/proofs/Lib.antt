@@ -1,4 +1,3 @@
 pub mod Vectors
 pub mod VectorCurves
-pub mod VectorCarries
 pub mod VectorSurfaces

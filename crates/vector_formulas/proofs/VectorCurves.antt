@@ -12,7 +12,7 @@ use Rattle.ieee_vectors.specs.Vectors.{quotient, dot, positiveZero}
 use Rattle.calculus.specs.Choose.{choose}
 use Rattle.calculus.specs.Rising.{before, rising}
 use Rattle.calculus.proofs.Related.{sameModule, inTurn-alike}
-use Rattle.calculus.proofs.Filling.{curve-earlier}
+use Rattle.calculus.proofs.LoopFilling.{curve-earlier}
 use Rattle.vector_formulas.specs.declared.VectorFormula.{VectorFormula}
 use Rattle.vector_formulas.specs.declared.VectorFormula.the-variants as vector
 use Rattle.vector_formulas.specs.declared.entries.NumberFormula.{NumberFormula}

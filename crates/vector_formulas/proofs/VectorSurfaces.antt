@@ -8,8 +8,8 @@ use lib.Ieee.{Float}
 use Rattle.ieee_vectors.specs.declared.Vector3.{Vector3}
 use Rattle.calculus.specs.Graded.{index}
 use Rattle.calculus.proofs.Graded.{room-231}
-use Rattle.calculus.proofs.SurfaceFilling.{SurfaceStored, surface-none, surface-more, surface-next, surface-all}
-use Rattle.calculus.proofs.Left.{Inside}
+use Rattle.calculus.proofs.LoopSurfaceFilling.{SurfaceStored, surface-none, surface-more, surface-next, surface-all}
+use Rattle.calculus.proofs.LoopLeft.{Inside}
 use Rattle.ieee_vectors.specs.Vectors.{positiveZero}
 use Rattle.vector_formulas.specs.Vector.{put, origin, flat, vectorSurfaceArray}
 use Rattle.vector_formulas.proofs.Vectors.{nowhere, Held, held-long, flat-put, flat-zeros}

@@ -1,5 +1,5 @@
 -- Arrays of vectors: what they hold, what a loop stores in them, and when they are finite. Assumes nothing.
-use mathlib.Core.Path.{_≡_, refl, sym, ap, ap₂, _∙_, fun-ext}
+use mathlib.Core.Path.{_≡_, refl, sym, ap, ap₂, _∙_}
 use mathlib.Core.Bool.{Bool, cond}
 use mathlib.Core.List.{List, [], _∷_}
 use Prim.Native.Nat.{ℕ, zero, suc, _+_, _*_, _≤_, _<_}
@@ -10,12 +10,16 @@ use borrow.Author.Tests.{lt-ltb}
 use Rattle.ieee_vectors.specs.declared.Vector3.{Vector3}
 use Rattle.ieee_vectors.specs.Vectors.{vector, positiveZero}
 use Rattle.ieee_vectors.specs.Finite.{finiteVector}
-use Rattle.calculus.specs.Array.{listed, filled}
+use Rattle.booleans.proofs.Tests.{first}
+use Rattle.calculus.specs.Array.{listed, filled, curveArray, surfaceArray}
 use Rattle.calculus.specs.Rising.{before, rising}
-use Rattle.calculus.proofs.Filling.{CurveStored, curve-none, curve-more, curve-all, curve-earlier, filled-at}
-use Rattle.calculus.specs.Graded.{triangle, graded}
+use Rattle.calculus.proofs.LoopFilling.{CurveStored, curve-none, curve-more, curve-all, curve-earlier, filled-at}
+use Rattle.calculus.proofs.LoopSurfaceFilling.{array-at}
+use Rattle.calculus.proofs.Same.{filled-same}
+use Rattle.calculus.proofs.UpTo.{CurvesAgree, SurfacesAgree}
+use Rattle.calculus.specs.Graded.{triangle, index, graded}
 use Rattle.calculus.proofs.Graded.{index-place}
-use Rattle.vector_formulas.specs.Vector.{origin, put, vectorNumbers, flat, vectorSurfaceNumbers, vectorArray, allVectorsFinite, finiteVectorSurface}
+use Rattle.vector_formulas.specs.Vector.{origin, put, stored, vectorNumbers, flat, vectorSurfaceNumbers, vectorArray, vectorSurfaceArray, allVectorsFinite, finiteVectorSurface}
 use Rattle.formulas.proofs.Finite.{same}
 
 -- what the logic reads past the end
@@ -53,6 +57,10 @@ pub end-at : {x y : Float} (l : List Float) (k : ℕ) → length l ≤ 3 * k + 2
 end-at l k h p q =
     ap₂ (λ (x y : Float). vector x y nan) p q
     ∙ ap (vector (getD l (3 * k) nan) (getD l (3 * k + 1) nan)) (sym (List·getD-eq-default l nan h))
+
+-- one stored where the array has the entry
+pub stored-put : (l : List Float) (k : ℕ) (v : Vector3) → 3 * k + 2 < length l → stored l k v ≡ put l (3 * k) v
+stored-put l k v h = first (put l (3 * k) v) l (lt-ltb (3 * k + 2) (length l) h)
 
 pub flat-at : (l : List Vector3) (k : ℕ) → vectorNumbers (flat l) k ≡ getD l k nowhere
 unfolding flat
@@ -136,6 +144,20 @@ vectors-earlier step {r} {m} h k l =
     curve-earlier 21 nowhere origin (λ (v : Vector3). v) step (h .holds) k l
     ∙ sym (ap (λ (x : List Float). vectorNumbers x k) (h .is) ∙ flat-at (h .list) k)
 
+-- ---- what is read of an array that a formula filled: the formula's entries
+pub vectors-agree : (f : ℕ → Vector3) (n : ℕ) → n ≤ 20 → {r : List Float} → r ≡ vectorArray f n → CurvesAgree n (vectorNumbers r) f
+vectors-agree f n h e k l =
+    ap (λ (x : List Float). vectorNumbers x k) e ∙ flat-at (curveArray origin f n) k ∙ filled-at 21 nowhere origin f (suc n) k (omega arith)
+    ∙ first (f k) origin (lt-ltb k (suc n) (omega arith))
+
+pub surface-agrees : (s : ℕ → ℕ → Vector3) (n : ℕ) → n ≤ 20 → {r : List Float} → r ≡ vectorSurfaceArray s n → SurfacesAgree n (vectorSurfaceNumbers r) s
+surface-agrees s n h e i j l =
+    ap (λ (x : List Float). vectorSurfaceNumbers x i j) e ∙ flat-at (surfaceArray origin s n) (index i j) ∙ array-at nowhere origin s n i j h l
+
+-- entries that agree up to an order fill an array alike
+pub vectors-upto : (f g : ℕ → Vector3) (n : ℕ) → CurvesAgree n f g → vectorArray f n ≡ vectorArray g n
+vectors-upto f g n h = ap flat (filled-same 21 (suc n) origin f g (λ k l. h k (omega arith)))
+
 -- ---- the array is finite as far as it is filled where its entries are
 pub filled-finite : (w : ℕ) (f : ℕ → Vector3) (n : ℕ) → n ≤ w → allVectorsFinite (vectorNumbers (flat (filled w origin f n))) n ≡ allVectorsFinite f n
 filled-finite w f n l =
@@ -147,10 +169,6 @@ filled-finite w f n l =
 pub surface-finite : (l : List Float) (n : ℕ) → allVectorsFinite (vectorNumbers l) (triangle (suc n)) ≡ finiteVectorSurface (vectorSurfaceNumbers l) n
 surface-finite l n =
     same finiteVector (vectorNumbers l) (graded (vectorSurfaceNumbers l)) (triangle (suc n)) (λ k h. ap (vectorNumbers l) (sym (index-place k)))
-
--- ---- an array of other entries that are the same
-pub same-array : (f g : ℕ → Vector3) (n : ℕ) → ((k : ℕ) → f k ≡ g k) → vectorArray f n ≡ vectorArray g n
-same-array f g n h = ap (λ (x : ℕ → Vector3). vectorArray x n) (fun-ext h)
 
 pub after-one : (k : ℕ) → 1 + k ≡ suc k
 after-one k = omega arith

@@ -247,15 +247,15 @@ pub fn numbers(f: NumberFormula, a: &[f64; 63], b: &[f64; 63], n: usize) -> [f64
     r
 }
 
-// The entries s, s + 1, .. up to s + n, as an array.
-pub fn taken(a: &[f64], s: usize, n: usize) -> [f64; 63]
-    requires { ⌜ (n ≤ 20) × (s ≤ 1) ⌝ }
-    ensures { λ r. ⌜ r ≡ vectorArray (λ m. vectorNumbers (now (a .entry)) (s + m)) n ⌝ }
+// The entries from `first` to `first + n`, as those of the orders 0 to n.
+pub fn entries_from(a: &[f64], first: usize, n: usize) -> [f64; 63]
+    requires { ⌜ (n ≤ 20) × (first ≤ 1) ⌝ }
+    ensures { λ r. ⌜ r ≡ vectorArray (λ m. vectorNumbers (now (a .entry)) (first + m)) n ⌝ }
 {
     let mut r = [0.0f64; 63];
     let mut m = 0;
     while m <= n {
-        let e = crate::vector_at(a, s + m);
+        let e = crate::vector_at(a, first + m);
         store(&mut r, m, e);
         m += 1;
     }
@@ -267,5 +267,5 @@ pub fn shifted(a: &[f64; 63], n: usize) -> [f64; 63]
     requires { ⌜ n < 20 ⌝ }
     ensures { λ r. ⌜ r ≡ vectorArray (derivative (vectorNumbers (now (a .entry)))) n ⌝ }
 {
-    taken(a, 1, n)
+    entries_from(a, 1, n)
 }

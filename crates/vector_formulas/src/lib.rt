@@ -1,6 +1,6 @@
 // The formulas on derivatives, on arrays of vectors, three floats an entry. There are no refusals here: NaN and infinities pass through, as a function
 // that forms many jets on its way needs it. An order above 20, for which an array has no entries, is cut to 20. The products and norms of surfaces stand
-// in vector_surface_formulas.
+// in vector_surface_formulas, the carry in float_carry.
 ghost use mathlib.Core.Path.{_≡_};
 ghost use Prim.Native.Nat.{min};
 ghost use Rattle.ieee_vectors.specs.Vectors.{multiple, quotient, dot as dotOf, cross as crossOf, positiveZero};
@@ -8,7 +8,6 @@ ghost use Rattle.calculus.specs.Kind.{regular};
 ghost use Rattle.calculus.specs.Array.{curveArray};
 ghost use Rattle.calculus.specs.Curve.{productBy, difference as differences, derivative as derivativeOf};
 ghost use Rattle.calculus.specs.Surface.{derivativeU, derivativeV};
-ghost use Rattle.calculus.specs.Carry.{compositeDerivative, compositeDerivatives};
 ghost use Rattle.calculus.specs.Rational.{rational as rationalOf};
 ghost use Rattle.formulas.specs.Real.{real};
 ghost use Rattle.formulas.specs.Numbers.{curveNumbers};
@@ -18,7 +17,6 @@ use entries::NumberFormula;
 use ieee_vectors::Vector3;
 
 mod arrays;
-mod carry;
 mod entries;
 mod shift;
 mod terms;
@@ -128,7 +126,7 @@ pub fn norm(a: &[f64; 63], n: usize) -> [f64; 21]
 pub fn read(list: &[f64], n: usize) -> [f64; 63]
     ensures { λ r. ⌜ r ≡ vectorArray (vectorNumbers (now (list .entry))) (min n 20) ⌝ }
 {
-    entries::taken(list, 0, calculus::smaller(n, 20))
+    entries::entries_from(list, 0, calculus::smaller(n, 20))
 }
 
 pub fn cut(a: &[f64; 63], n: usize) -> [f64; 63]
@@ -154,20 +152,6 @@ pub fn derivative_v(a: &[f64; 693], n: usize) -> [f64; 693]
     ensures { λ r. ⌜ r ≡ vectorSurfaceArray (derivativeV (vectorSurfaceNumbers (now (a .entry)))) (min n 19) ⌝ }
 {
     shift::shifted(a, calculus::smaller(n, 19), 0, 1)
-}
-
-// A surface carried along the curve (u, v) in its parameters: the derivative of one order, which is zero at order 0.
-pub fn composite(entries: &[f64; 693], u: &[f64; 21], v: &[f64; 21], m: usize) -> Vector3
-    ensures { λ r. ⌜ r ≡ compositeDerivative vectors (curveNumbers (now (u .entry))) (curveNumbers (now (v .entry))) (vectorSurfaceNumbers (now (entries .entry))) (min m 20) ⌝ }
-{
-    carry::derivative(entries, u, v, calculus::smaller(m, 20))
-}
-
-// The derivatives of all orders up to n, with the entry [0][0] at order 0.
-pub fn composites(entries: &[f64; 693], u: &[f64; 21], v: &[f64; 21], n: usize) -> [f64; 63]
-    ensures { λ r. ⌜ r ≡ vectorArray (compositeDerivatives vectors (curveNumbers (now (u .entry))) (curveNumbers (now (v .entry))) (vectorSurfaceNumbers (now (entries .entry)))) (min n 20) ⌝ }
-{
-    carry::derivatives(entries, u, v, calculus::smaller(n, 20))
 }
 
 // Whether the entries up to the order n are finite, of a curve and of a surface.

@@ -10,7 +10,7 @@ use Rattle.calculus.specs.Rising.{beforeEntry, risingRows}
 use Rattle.calculus.specs.Graded.{index}
 use Rattle.calculus.proofs.Related.{sameModule}
 use Rattle.calculus.proofs.Graded.{room-231}
-use Rattle.calculus.proofs.SurfaceFilling.{surface-earlier}
+use Rattle.calculus.proofs.LoopSurfaceFilling.{surface-earlier}
 use Rattle.vector_formulas.specs.declared.VectorFormula.{VectorFormula}
 use Rattle.vector_formulas.specs.declared.VectorFormula.the-variants as vector
 use Rattle.vector_formulas.specs.Vector.{origin, vectors, vectorSurfaceNumbers}

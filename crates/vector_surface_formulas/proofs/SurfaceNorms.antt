@@ -13,7 +13,7 @@ use Rattle.calculus.specs.Graded.{index}
 use Rattle.calculus.specs.Array.{surfaceArray}
 use Rattle.calculus.proofs.Related.{same}
 use Rattle.calculus.proofs.Graded.{room-231}
-use Rattle.calculus.proofs.SurfaceFilling.{surface-earlier, array-at}
+use Rattle.calculus.proofs.LoopSurfaceFilling.{surface-earlier, array-at}
 use Rattle.formulas.specs.Real.{real}
 use Rattle.calculus.specs.Norm.{surfaceNormEntry}
 use Rattle.formulas.specs.Numbers.{surfaceNumbers}

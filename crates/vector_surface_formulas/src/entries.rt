@@ -3,7 +3,7 @@ ghost use mathlib.Core.Path.{_≡_};
 ghost use Prim.Native.Nat.{suc, _+_, _≤_};
 ghost use Rattle.ieee_vectors.specs.Vectors.{multiple, quotient, dot, cross, positiveZero};
 ghost use Rattle.calculus.specs.Kind.{regular};
-ghost use Rattle.calculus.specs.InTurn.{inTurn};
+ghost use Rattle.calculus.specs.InTurn.{inTurn, inRows};
 ghost use Rattle.calculus.specs.Rising.{risingRows};
 ghost use Rattle.calculus.specs.Array.{surfaceArray};
 ghost use Rattle.calculus.specs.Choose.{binomialTable};
@@ -12,7 +12,7 @@ ghost use Rattle.calculus.specs.Rational.{surfaceRationalTerm, surfaceRationalE
 ghost use Rattle.formulas.specs.Real.{real};
 ghost use Rattle.formulas.specs.Numbers.{surfaceNumbers};
 ghost use Rattle.vector_formulas.specs.Vector.{origin, vectors, vectorSurfaceNumbers, vectorSurfaceArray};
-ghost use Rattle.vector_surface_formulas.specs.Inner.{vectorSurfaceFormula};
+ghost use Rattle.vector_surface_formulas.specs.Inner.{termBy, vectorSurfaceFormula};
 use crate::terms;
 use crate::terms::coefficient;
 use crate::terms::number_at;
@@ -98,97 +98,76 @@ fn rational_term(
     e.mul(d * x * y)
 }
 
-// The terms of one i, j rising, added to a sum.
-fn cross_row(
+// The formulas whose entries are formed from sums of such terms: of a and b; of a and the floats w; of w and the entries b before.
+pub enum Summed {
+    Cross,
+    Scaled,
+    Rational,
+}
+
+fn term(
+    f: Summed,
+    a: &[f64; 693],
+    b: &[f64; 693],
+    w: &[f64; 231],
+    c: &[u32; 231],
+    m: usize,
+    n: usize,
+    i: usize,
+    j: usize,
+) -> Vector3
+    requires { ⌜ (i ≤ m) × (j ≤ n) × (m + n ≤ 20) × (now c ≡ binomialTable) ⌝ }
+    ensures { λ r. ⌜ r ≡ termBy f (vectorSurfaceNumbers (now (a .entry))) (vectorSurfaceNumbers (now (b .entry))) (surfaceNumbers (now (w .entry))) m n i j ⌝ }
+{
+    match f {
+        Summed::Cross => cross_term(a, b, c, m, n, i, j),
+        Summed::Scaled => scaled_term(a, w, c, m, n, i, j),
+        Summed::Rational => rational_term(w, b, c, m, n, i, j),
+    }
+}
+
+// The terms of one i, j rising, added to a sum; then all of them, i rising, added to zero.
+fn row(
+    f: Summed,
     start: Vector3,
     a: &[f64; 693],
     b: &[f64; 693],
-    c: &[u32; 231],
-    m: usize,
-    n: usize,
-    i: usize,
-) -> Vector3
-    requires { ⌜ (i ≤ m) × (m + n ≤ 20) × (now c ≡ binomialTable) ⌝ }
-    ensures { λ r. ⌜ r ≡ inTurn (vectors .plus) start (leibniz vectors cross (vectorSurfaceNumbers (now (a .entry))) (vectorSurfaceNumbers (now (b .entry))) m n i) (suc n) ⌝ }
-{
-    let mut sum = start;
-    let mut j = 0;
-    while j <= n {
-        let t = cross_term(a, b, c, m, n, i, j);
-        sum = sum.add(t);
-        j += 1;
-    }
-    sum
-}
-
-pub fn cross_entry(a: &[f64; 693], b: &[f64; 693], c: &[u32; 231], m: usize, n: usize) -> Vector3
-    requires { ⌜ (m + n ≤ 20) × (now c ≡ binomialTable) ⌝ }
-    ensures { λ r. ⌜ r ≡ productBy vectors cross (vectorSurfaceNumbers (now (a .entry))) (vectorSurfaceNumbers (now (b .entry))) m n ⌝ }
-{
-    let mut sum = zero();
-    let mut i = 0;
-    while i <= m {
-        sum = cross_row(sum, a, b, c, m, n, i);
-        i += 1;
-    }
-    sum
-}
-
-// The terms of one i, j rising, added to a sum.
-fn scaled_row(
-    start: Vector3,
-    a: &[f64; 693],
-    b: &[f64; 231],
-    c: &[u32; 231],
-    m: usize,
-    n: usize,
-    i: usize,
-) -> Vector3
-    requires { ⌜ (i ≤ m) × (m + n ≤ 20) × (now c ≡ binomialTable) ⌝ }
-    ensures { λ r. ⌜ r ≡ inTurn (vectors .plus) start (leibniz vectors multiple (vectorSurfaceNumbers (now (a .entry))) (surfaceNumbers (now (b .entry))) m n i) (suc n) ⌝ }
-{
-    let mut sum = start;
-    let mut j = 0;
-    while j <= n {
-        let t = scaled_term(a, b, c, m, n, i, j);
-        sum = sum.add(t);
-        j += 1;
-    }
-    sum
-}
-
-pub fn scaled_entry(a: &[f64; 693], b: &[f64; 231], c: &[u32; 231], m: usize, n: usize) -> Vector3
-    requires { ⌜ (m + n ≤ 20) × (now c ≡ binomialTable) ⌝ }
-    ensures { λ r. ⌜ r ≡ productBy vectors multiple (vectorSurfaceNumbers (now (a .entry))) (surfaceNumbers (now (b .entry))) m n ⌝ }
-{
-    let mut sum = zero();
-    let mut i = 0;
-    while i <= m {
-        sum = scaled_row(sum, a, b, c, m, n, i);
-        i += 1;
-    }
-    sum
-}
-
-// The terms of one i, j rising, added to a sum.
-fn rational_row(
-    start: Vector3,
     w: &[f64; 231],
-    q: &[f64; 693],
     c: &[u32; 231],
     m: usize,
     n: usize,
     i: usize,
 ) -> Vector3
     requires { ⌜ (i ≤ m) × (m + n ≤ 20) × (now c ≡ binomialTable) ⌝ }
-    ensures { λ r. ⌜ r ≡ inTurn (vectors .plus) start (surfaceRationalTerm vectors quotient (surfaceNumbers (now (w .entry))) (vectorSurfaceNumbers (now (q .entry))) m n i) (suc n) ⌝ }
+    ensures { λ r. ⌜ r ≡ inTurn (vectors .plus) start (termBy f (vectorSurfaceNumbers (now (a .entry))) (vectorSurfaceNumbers (now (b .entry))) (surfaceNumbers (now (w .entry))) m n i) (suc n) ⌝ }
 {
     let mut sum = start;
     let mut j = 0;
     while j <= n {
-        let t = rational_term(w, q, c, m, n, i, j);
+        let t = term(f, a, b, w, c, m, n, i, j);
         sum = sum.add(t);
         j += 1;
+    }
+    sum
+}
+
+pub fn sum_of_terms(
+    f: Summed,
+    a: &[f64; 693],
+    b: &[f64; 693],
+    w: &[f64; 231],
+    c: &[u32; 231],
+    m: usize,
+    n: usize,
+) -> Vector3
+    requires { ⌜ (m + n ≤ 20) × (now c ≡ binomialTable) ⌝ }
+    ensures { λ r. ⌜ r ≡ inRows (vectors .plus) origin (termBy f (vectorSurfaceNumbers (now (a .entry))) (vectorSurfaceNumbers (now (b .entry))) (surfaceNumbers (now (w .entry))) m n) (suc m) (suc n) ⌝ }
+{
+    let mut sum = zero();
+    let mut i = 0;
+    while i <= m {
+        sum = row(f, sum, a, b, w, c, m, n, i);
+        i += 1;
     }
     sum
 }
@@ -205,12 +184,7 @@ fn rational_entry(
     requires { ⌜ (m + n ≤ 20) × (now c ≡ binomialTable) ⌝ }
     ensures { λ r. ⌜ r ≡ surfaceRationalEntry vectors quotient (vectorSurfaceNumbers (now (x .entry))) (surfaceNumbers (now (w .entry))) (vectorSurfaceNumbers (now (q .entry))) m n ⌝ }
 {
-    let mut sum = zero();
-    let mut i = 0;
-    while i <= m {
-        sum = rational_row(sum, w, q, c, m, n, i);
-        i += 1;
-    }
+    let sum = sum_of_terms(Summed::Rational, x, q, w, c, m, n);
     let e = surface_at(x, m, n);
     let d = e.sub(sum);
     let s = number_at(w, 0, 0);
@@ -241,8 +215,8 @@ fn entry(
             let y = surface_at(b, m, n);
             x.sub(y)
         }
-        VectorFormula::Cross => cross_entry(a, b, c, m, n),
-        VectorFormula::Scaled => scaled_entry(a, w, c, m, n),
+        VectorFormula::Cross => sum_of_terms(Summed::Cross, a, b, w, c, m, n),
+        VectorFormula::Scaled => sum_of_terms(Summed::Scaled, a, b, w, c, m, n),
         VectorFormula::Rational => rational_entry(a, w, q, c, m, n),
     }
 }

@@ -10,6 +10,7 @@ ghost use Rattle.formulas.specs.Real.{real};
 ghost use Rattle.formulas.specs.Numbers.{surfaceNumbers};
 ghost use Rattle.vector_formulas.specs.Vector.{vectors, vectorSurfaceNumbers, vectorSurfaceArray};
 ghost use Rattle.vector_surface_formulas.specs.Formulas.{vectorSurfaceBy, vectorSurfaceNorm};
+use entries::Summed;
 use ieee_vectors::Vector3;
 use vector_formulas::VectorFormula;
 
@@ -30,10 +31,11 @@ pub fn dot(a: &[f64; 693], b: &[f64; 693], m: usize, n: usize) -> f64
 pub fn cross(a: &[f64; 693], b: &[f64; 693], m: usize, n: usize) -> Vector3
     ensures { λ r. ⌜ r ≡ productBy vectors crossOf (vectorSurfaceNumbers (now (a .entry))) (vectorSurfaceNumbers (now (b .entry))) (min m 20) (min n (20 - min m 20)) ⌝ }
 {
+    let w = [0.0f64; 231];
     let c = calculus::binomials();
     let k = calculus::smaller(m, 20);
     let l = calculus::smaller(n, 20 - k);
-    entries::cross_entry(a, b, &c, k, l)
+    entries::sum_of_terms(Summed::Cross, a, b, &w, &c, k, l)
 }
 
 pub fn scaled(a: &[f64; 693], b: &[f64; 231], m: usize, n: usize) -> Vector3
@@ -42,7 +44,7 @@ pub fn scaled(a: &[f64; 693], b: &[f64; 231], m: usize, n: usize) -> Vector3
     let c = calculus::binomials();
     let k = calculus::smaller(m, 20);
     let l = calculus::smaller(n, 20 - k);
-    entries::scaled_entry(a, b, &c, k, l)
+    entries::sum_of_terms(Summed::Scaled, a, a, b, &c, k, l)
 }
 
 // The entries up to the order n of a formula, and zeros past them.

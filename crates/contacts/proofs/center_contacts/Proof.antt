@@ -9,7 +9,7 @@ use lib.Dec.{eqb}
 use Rattle.ieee_vectors.specs.Matrices.{determinant2, determinant3}
 use Rattle.formulas.specs.Real.{isZero}
 use Rattle.formulas.specs.Numbers.{curveNumbers}
-use Rattle.contacts.specs.SurfaceInfo.{form, offset}
+use Rattle.surface_info.specs.SurfaceInfo.{form, offset}
 use Rattle.contacts.specs.Center.{jet0, jet1, found, centerContacts}
 use Rattle.contacts.specs.declared.Place.{Place}
 use Rattle.contacts.specs.declared.steps.Formed.{Formed}

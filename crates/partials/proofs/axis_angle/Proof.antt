@@ -10,7 +10,6 @@ use Rattle.ieee_vectors.specs.declared.Vector3.{Vector3}
 use Rattle.booleans.proofs.Tests.{first, second}
 use Rattle.formulas.specs.Numbers.{curveNumbers}
 use Rattle.partials.specs.AxisAngle.{arm, lengths, rates, divisionByZero, noAxisAngle, someAxisAngle, axisAngle}
-use Rattle.partials.proofs.Filled.{same-axis-angle}
 use Rattle.partials.proofs.Turning.{division-is, axis-is, angle-is, cosine-is}
 use Rattle.partials.proofs.axis_angle.Statement.{statement}
 use Rattle.partials.proofs.axis_angle.Tie as tie
@@ -111,7 +110,7 @@ returns-2 c =
     let axis = axis-is (p l) (q l) (n l) h ep eq ex el (w .rational .ensures) in
     let angle = angle-is (p l) (q l) (n l) h ep eq ex el (a .angle) (rates (r l)) (t .angles .ensures) in
     let cos = c .cosine .ensures ∙ cosine-is (p l) (q l) (n l) h ep eq ex el (r l 0) in
-    same-axis-angle axis angle cos
+    (λ i. record { refusal = 0; axis = axis i; angle = angle i; cosine = cos i })
     ∙ sym (second (noAxisAngle 7) (someAxisAngle (p l) (q l) (r l) (a .angle) (n l)) (sym (d .division-by-zero .ensures ∙ division l) ∙ w .before .before .before .if1 .left))
     ∙ asked l
 

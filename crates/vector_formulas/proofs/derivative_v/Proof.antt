@@ -4,7 +4,7 @@ use Prim.Native.Nat.{ℕ}
 use denote.Ref.{now}
 use Rattle.ieee_vectors.specs.declared.Vector3.{Vector3}
 use Rattle.vector_formulas.specs.Vector.{vectorSurfaceNumbers, vectorSurfaceArray}
-use Rattle.calculus.proofs.Shifts.{v-entries}
+use Rattle.calculus.proofs.LoopShifts.{v-entries}
 use borrow.Author.Needs.{needs}
 use Rattle.vector_formulas.proofs.derivative_v.Statement.{statement}
 use Rattle.vector_formulas.proofs.derivative_v.Tie as tie

@@ -4,9 +4,10 @@ use Prim.Native.Nat.{_+_, _*_}
 use native.Mathlib.Omega.{arith}
 use denote.Ref.{now}
 use lib.ListN.{length}
-use borrow.Author.Tests.{lt-ltb, le-ltb}
-use Rattle.booleans.proofs.Tests.{first, second}
+use borrow.Author.Tests.{le-ltb}
+use Rattle.booleans.proofs.Tests.{second}
 use Rattle.vector_formulas.specs.Vector.{put}
+use Rattle.vector_formulas.proofs.Vectors.{stored-put}
 use borrow.Author.Needs.{needs}
 use Rattle.vector_formulas.proofs.store.Statement.{statement}
 use Rattle.vector_formulas.proofs.store.Tie as tie
@@ -18,8 +19,9 @@ same-length : tie.Need-same-length
 same-length c = search needs
 
 returns : tie.Need-returns
-returns c = let s = c .before .before .before .before .before .before .args in
-    c .before .before .store .ensures ∙ sym (first (put (now (s .a)) (3 * s .k) (s .v)) (now (s .a)) (lt-ltb (3 * s .k + 2) (length (now (s .a))) (omega arith)))
+returns c = let k = c .before .before in
+    let s = k .before .before .before .before .args in
+    k .store .ensures ∙ sym (stored-put (now (s .a)) (s .k) (s .v) (omega arith))
 
 returns-2 : tie.Need-returns-2
 returns-2 c = let s = c .before .before .args in

@@ -16,11 +16,11 @@ sub-smaller c = search needs
 smaller-requires-2 : tie.Need-smaller-requires-2
 smaller-requires-2 c κs = search needs
 
-cross-entry-requires : tie.Need-cross-entry-requires
-cross-entry-requires c κs = search needs
+sum-of-terms-requires : tie.Need-sum-of-terms-requires
+sum-of-terms-requires c κs = search needs
 
 returns : tie.Need-returns
-returns c = c .cross-entry .ensures ∙ rw (c .before .before .smaller2 .ensures, c .before .before .before .smaller .ensures)
+returns c = let l = c .before .before .before in c .sum-of-terms .ensures ∙ rw (l .smaller2 .ensures, l .before .smaller .ensures)
 
 pub cross-spec : {M : Type 1} → statement M
 cross-spec =
@@ -30,5 +30,5 @@ cross-spec =
     smaller-requires
     sub-smaller
     smaller-requires-2
-    cross-entry-requires
+    sum-of-terms-requires
     returns)

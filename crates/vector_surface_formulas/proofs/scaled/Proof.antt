@@ -16,11 +16,11 @@ sub-smaller c = search needs
 smaller-requires-2 : tie.Need-smaller-requires-2
 smaller-requires-2 c κs = search needs
 
-scaled-entry-requires : tie.Need-scaled-entry-requires
-scaled-entry-requires c κs = search needs
+sum-of-terms-requires : tie.Need-sum-of-terms-requires
+sum-of-terms-requires c κs = search needs
 
 returns : tie.Need-returns
-returns c = c .scaled-entry .ensures ∙ rw (c .before .before .smaller2 .ensures, c .before .before .before .smaller .ensures)
+returns c = c .sum-of-terms .ensures ∙ rw (c .before .before .smaller2 .ensures, c .before .before .before .smaller .ensures)
 
 pub scaled-spec : {M : Type 1} → statement M
 scaled-spec =
@@ -30,5 +30,5 @@ scaled-spec =
     smaller-requires
     sub-smaller
     smaller-requires-2
-    scaled-entry-requires
+    sum-of-terms-requires
     returns)

@@ -2,7 +2,7 @@
 use mathlib.Core.Path.{ap, _∙_}
 use denote.Ref.{now}
 use Rattle.vector_formulas.specs.Vector.{vectorSurfaceNumbers}
-use Rattle.contacts.specs.SurfaceInfo.{form}
+use Rattle.surface_info.specs.SurfaceInfo.{form}
 use Rattle.contacts.proofs.steps.form_at.Statement.{statement}
 use Rattle.contacts.proofs.steps.form_at.Tie as tie
 

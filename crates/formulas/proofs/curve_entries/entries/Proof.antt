@@ -1,11 +1,8 @@
 -- `formulas::curve_entries::entries` meets its contract. The invariant: the entries before m stand in the array. Assumes nothing.
-use Rattle.formulas.proofs.Curves.{CurveFilled, curveOf, curve-formed}
+use Rattle.formulas.proofs.Curves.{CurveFilled, numbers-none, numbers-more, numbers-all, curveOf, curve-formed}
 use Rattle.formulas.specs.Numbers.{curveNumbers}
-use Rattle.ieee_vectors.specs.Vectors.{positiveZero}
-use Rattle.calculus.proofs.Filling.{curve-none, curve-more, curve-all}
-use lib.Ieee.{nan}
 use denote.Ref.{now}
-use mathlib.Core.Path.{_≡_, sym, _∙_}
+use mathlib.Core.Path.{sym, _∙_}
 use Prim.Native.Nat.{suc, _-_, _≤_}
 use native.Mathlib.Omega.{arith}
 use borrow.Author.Needs.{needs}
@@ -22,7 +19,8 @@ binomials-requires : tie.Need-binomials-requires Inv-loop μ-loop
 binomials-requires c κs = search needs
 
 loop-holds : tie.Need-loop-holds Inv-loop μ-loop
-loop-holds c = (curve-none 21 nan positiveZero (λ k v. curveOf (c .before .args .f) (curveNumbers (now (c .before .args .a))) (curveNumbers (now (c .before .args .b))) k ≡ v), omega arith)
+loop-holds c = let s = c .before .args in
+    (numbers-none (curveOf (s .f) (curveNumbers (now (s .a))) (curveNumbers (now (s .b)))), omega arith)
 
 entry-requires : tie.Need-entry-requires Inv-loop μ-loop
 entry-requires c κs = search needs
@@ -40,19 +38,19 @@ loop-less : tie.Need-loop-less Inv-loop μ-loop
 loop-less c = search needs
 
 loop-again : tie.Need-loop-again Inv-loop μ-loop
-loop-again c = let l = c .before .before .before .before .loop in
-    let s = c .before .before .before .before .before .before .args in
+loop-again c = let k = c .before .before .before .before in
+    let l = k .loop in
+    let s = k .before .before .args in
     let x = curveNumbers (now (s .a)) in
     let y = curveNumbers (now (s .b)) in (
-      curve-more 21 nan positiveZero (λ k v. curveOf (s .f) x y k ≡ v) (c .entry .result) (l .inv .0) (omega arith)
+      numbers-more (curveOf (s .f) x y) (c .entry .result) (l .inv .0) (omega arith)
           (curve-formed (s .f) x y (l .inv .0) (omega arith) ∙ sym (c .entry .ensures)),
       omega arith,
     )
 
 returns : tie.Need-returns Inv-loop μ-loop
 returns c = let s = c .before .before .before .args in
-    let g = curveOf (s .f) (curveNumbers (now (s .a))) (curveNumbers (now (s .b))) in
-    curve-all 21 nan positiveZero (λ k v. g k ≡ v) g (λ k v e. sym e) (suc (s .n)) (c .before .loop .inv .0) (omega arith)
+    numbers-all (curveOf (s .f) (curveNumbers (now (s .a))) (curveNumbers (now (s .b)))) (suc (s .n)) (c .before .loop .inv .0) (omega arith)
 
 pub entries-spec : {M : Type 1} → statement M
 entries-spec =

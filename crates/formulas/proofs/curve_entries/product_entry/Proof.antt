@@ -1,5 +1,5 @@
 -- `formulas::curve_entries::product_entry` meets its contract. The invariant: the sum of the first i terms. Assumes nothing.
-use Rattle.calculus.proofs.Terms.{one-more}
+use Rattle.calculus.proofs.LoopTerms.{one-more}
 use Rattle.formulas.specs.Numbers.{curveNumbers}
 use Rattle.ieee_vectors.specs.Vectors.{positiveZero}
 use Rattle.formulas.specs.Real.{real}

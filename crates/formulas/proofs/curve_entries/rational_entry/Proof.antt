@@ -1,5 +1,5 @@
 -- `formulas::curve_entries::rational_entry` meets its contract. The invariant: the sum of the terms before i. Assumes nothing.
-use Rattle.calculus.proofs.Terms.{one-more}
+use Rattle.calculus.proofs.LoopTerms.{one-more}
 use Rattle.formulas.specs.Numbers.{curveNumbers}
 use Rattle.formulas.specs.Real.{real}
 use Rattle.calculus.specs.Rational.{rationalTerm}

@@ -1,13 +1,10 @@
 -- `formulas::curve_entries::shifted` meets its contract. The invariant: the first m entries stand in the array. Assumes nothing.
-use Rattle.formulas.proofs.Curves.{CurveFilled}
+use Rattle.formulas.proofs.Curves.{CurveFilled, numbers-none, numbers-more, numbers-all}
 use Rattle.formulas.specs.Numbers.{curveNumbers}
-use Rattle.ieee_vectors.specs.Vectors.{positiveZero}
-use Rattle.calculus.proofs.Filling.{curve-none, curve-more, curve-all}
 use Rattle.calculus.specs.Curve.{derivative}
-use lib.Ieee.{nan}
 use native.Mathlib.Numerals.{add-one}
 use denote.Ref.{now}
-use mathlib.Core.Path.{_≡_, sym, ap}
+use mathlib.Core.Path.{sym, ap}
 use Prim.Native.Nat.{suc, _-_, _≤_}
 use native.Mathlib.Omega.{arith}
 use borrow.Author.Needs.{needs}
@@ -21,7 +18,7 @@ abbrev μ-loop : tie.MeasureT-loop
 μ-loop a n r₀ m₀ r m = suc n - m
 
 loop-holds : tie.Need-loop-holds Inv-loop μ-loop
-loop-holds c = (curve-none 21 nan positiveZero (λ k v. curveNumbers (now (c .args .a)) (suc k) ≡ v), omega arith)
+loop-holds c = (numbers-none (derivative (curveNumbers (now (c .args .a)))), omega arith)
 
 add-r : tie.Need-add-r Inv-loop μ-loop
 add-r c = search needs
@@ -46,12 +43,11 @@ loop-less c = search needs
 
 loop-again : tie.Need-loop-again Inv-loop μ-loop
 loop-again c = let x = curveNumbers (now (c .before .before .before .args .a)) in
-    (curve-more 21 nan positiveZero (λ k v. x (suc k) ≡ v) _ (c .before .before .loop .inv .0) (omega arith) (ap x (sym (add-one (c .before .before .loop .m)))), omega arith)
+    (numbers-more (derivative x) _ (c .before .before .loop .inv .0) (omega arith) (ap x (sym (add-one (c .before .before .loop .m)))), omega arith)
 
 returns : tie.Need-returns Inv-loop μ-loop
 returns c = let s = c .before .before .args in
-    let x = derivative (curveNumbers (now (s .a))) in
-    curve-all 21 nan positiveZero (λ k v. x k ≡ v) x (λ k v e. sym e) (suc (s .n)) (c .before .loop .inv .0) (omega arith)
+    numbers-all (derivative (curveNumbers (now (s .a)))) (suc (s .n)) (c .before .loop .inv .0) (omega arith)
 
 pub shifted-spec : {M : Type 1} → statement M
 shifted-spec =

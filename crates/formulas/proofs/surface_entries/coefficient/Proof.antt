@@ -1,7 +1,7 @@
 -- `formulas::surface_entries::coefficient` meets its contract. Assumes nothing.
 use Rattle.formulas.proofs.Table.{from-table}
 use denote.Ref.{now}
-use Rattle.calculus.proofs.Terms.{small-product}
+use Rattle.calculus.proofs.LoopTerms.{small-product}
 use Rattle.formulas.specs.Real.{real}
 use borrow.Author.Needs.{needs}
 use mathlib.Core.Path.{ap, ap₂, _∙_}

@@ -1,5 +1,5 @@
 -- `formulas::surface_entries::product_entry` meets its contract. The invariant: the sum of the first i rows of terms. Assumes nothing.
-use Rattle.calculus.proofs.Terms.{one-row-more}
+use Rattle.calculus.proofs.LoopTerms.{one-row-more}
 use Rattle.calculus.specs.Surface.{leibniz}
 use Rattle.calculus.specs.InTurn.{inRows}
 use Rattle.calculus.specs.Kind.{regular}

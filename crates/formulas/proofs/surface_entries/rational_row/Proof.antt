@@ -1,5 +1,5 @@
 -- `formulas::surface_entries::rational_row` meets its contract. The invariant: the sum of the first j terms of the row. Assumes nothing.
-use Rattle.calculus.proofs.Terms.{one-more}
+use Rattle.calculus.proofs.LoopTerms.{one-more}
 use Rattle.calculus.specs.Rational.{surfaceRationalTerm}
 use Rattle.calculus.specs.InTurn.{inTurn}
 use Rattle.calculus.specs.Kind.{regular}

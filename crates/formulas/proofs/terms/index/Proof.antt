@@ -1,6 +1,6 @@
 -- `formulas::terms::index` meets its contract. Assumes nothing.
 use mathlib.Core.Path.{refl}
-use Rattle.calculus.proofs.Terms.{small-square}
+use Rattle.calculus.proofs.LoopTerms.{small-square}
 use Rattle.calculus.specs.Graded.{index}
 use Prim.Native.Nat.{_+_}
 use native.Mathlib.Omega.{arith}

@@ -3,10 +3,10 @@ use Rattle.formulas.specs.Numbers.{curveNumbers}
 use Rattle.vector_formulas.specs.Vector.{vectorNumbers}
 use Rattle.ieee_vectors.specs.Vectors.{positiveZero}
 use Rattle.partials.specs.AxisAngle.{rates, dots, turns, angles}
-use Rattle.partials.proofs.Entries.{numbers-held, numbers-agree}
+use Rattle.formulas.proofs.Curves.{numbers-held, numbers-agree}
 use Rattle.calculus.proofs.Same.{filled-same}
 use Rattle.calculus.specs.Array.{curveArray}
-use Rattle.calculus.proofs.Cut.{uncut}
+use Rattle.calculus.proofs.LoopCut.{uncut}
 use Rattle.partials.proofs.Turning.{turns-upto, angles-upto}
 use borrow.Author.Needs.{needs}
 use denote.Ref.{now}

@@ -1,7 +1,7 @@
 -- `arm` meets its contract. Assumes nothing.
 use Rattle.vector_formulas.specs.Vector.{vectorArray}
 use Rattle.partials.specs.AxisAngle.{arm}
-use Rattle.calculus.proofs.Cut.{uncut}
+use Rattle.calculus.proofs.LoopCut.{uncut}
 use borrow.Author.Needs.{needs}
 use denote.Ref.{now}
 use mathlib.Core.Path.{_∙_}

@@ -6,7 +6,7 @@ use Rattle.ieee_vectors.specs.Vectors.{minus, over}
 use Rattle.calculus.specs.Curve.{product}
 use Rattle.partials.specs.AxisAngle.{rateEntry}
 use Rattle.partials.proofs.Turning.{rate-later}
-use Rattle.calculus.proofs.Cut.{uncut}
+use Rattle.calculus.proofs.LoopCut.{uncut}
 use borrow.Author.Needs.{needs}
 use denote.Ref.{now}
 use native.Mathlib.Omega.{arith}

@@ -3,7 +3,7 @@ use Rattle.formulas.specs.Numbers.{curveNumbers}
 use Rattle.formulas.specs.Real.{real}
 use Rattle.calculus.specs.Curve.{product}
 use Rattle.partials.proofs.Turning.{turn-is}
-use Rattle.calculus.proofs.Cut.{uncut}
+use Rattle.calculus.proofs.LoopCut.{uncut}
 use borrow.Author.Needs.{needs}
 use denote.Ref.{now}
 use native.Mathlib.Omega.{arith}

@@ -1,7 +1,7 @@
 -- `one_terms` meets its contract. Assumes nothing.
 use Rattle.ieee_vectors.specs.Matrices.{sum3}
 use Rattle.calculus.specs.InTurn.{inTurn}
-use Rattle.calculus.proofs.Terms.{one-more}
+use Rattle.calculus.proofs.LoopTerms.{one-more}
 use native.Mathlib.Numerals.{add-one}
 use Rattle.rodrigues.specs.Rotation.{zeros}
 use Rattle.partials.specs.Partials.{oneTerm}

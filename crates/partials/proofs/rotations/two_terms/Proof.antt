@@ -1,7 +1,7 @@
 -- `two_terms` meets its contract. Assumes nothing.
 use Rattle.ieee_vectors.specs.Matrices.{sum3}
 use Rattle.calculus.specs.InTurn.{inRows}
-use Rattle.calculus.proofs.Terms.{one-row-more}
+use Rattle.calculus.proofs.LoopTerms.{one-row-more}
 use native.Mathlib.Numerals.{add-one}
 use Rattle.rodrigues.specs.Rotation.{zeros}
 use Rattle.partials.specs.Partials.{twoTerm}

@@ -1,15 +1,12 @@
 -- `vector_formulas::entries::numbers` meets its contract. Assumes nothing.
-use Rattle.formulas.proofs.Curves.{CurveFilled}
+use Rattle.formulas.proofs.Curves.{CurveFilled, numbers-none, numbers-more, numbers-all}
 use Rattle.vector_formulas.proofs.VectorCurves.{numbersOf, numbers-formed}
 use Rattle.vector_formulas.specs.Vector.{vectorNumbers}
-use Rattle.ieee_vectors.specs.Vectors.{positiveZero}
-use Rattle.calculus.proofs.Filling.{curve-none, curve-more, curve-all}
-use lib.Ieee.{nan}
 use denote.Ref.{now}
 use borrow.Author.Needs.{needs}
 use Prim.Native.Nat.{suc, _-_, _≤_}
 use native.Mathlib.Omega.{arith}
-use mathlib.Core.Path.{_≡_, sym, _∙_}
+use mathlib.Core.Path.{sym, _∙_}
 use Rattle.vector_formulas.proofs.entries.numbers.Statement.{statement}
 use Rattle.vector_formulas.proofs.entries.numbers.Tie as tie
 
@@ -23,7 +20,8 @@ binomials-requires : tie.Need-binomials-requires Inv-loop μ-loop
 binomials-requires c κs = search needs
 
 loop-holds : tie.Need-loop-holds Inv-loop μ-loop
-loop-holds c = (curve-none 21 nan positiveZero (λ k v. numbersOf (c .before .args .f) (vectorNumbers (now (c .before .args .a))) (vectorNumbers (now (c .before .args .b))) k ≡ v), omega arith)
+loop-holds c = let s = c .before .args in
+    (numbers-none (numbersOf (s .f) (vectorNumbers (now (s .a))) (vectorNumbers (now (s .b)))), omega arith)
 
 number-requires : tie.Need-number-requires Inv-loop μ-loop
 number-requires c κs = search needs
@@ -41,19 +39,19 @@ loop-less : tie.Need-loop-less Inv-loop μ-loop
 loop-less c = search needs
 
 loop-again : tie.Need-loop-again Inv-loop μ-loop
-loop-again c = let l = c .before .before .before .before .loop in
-    let s = c .before .before .before .before .before .before .args in
+loop-again c = let k = c .before .before .before .before in
+    let l = k .loop in
+    let s = k .before .before .args in
     let x = vectorNumbers (now (s .a)) in
     let y = vectorNumbers (now (s .b)) in (
-      curve-more 21 nan positiveZero (λ k v. numbersOf (s .f) x y k ≡ v) (c .number .result) (l .inv .0) (omega arith)
+      numbers-more (numbersOf (s .f) x y) (c .number .result) (l .inv .0) (omega arith)
           (numbers-formed (s .f) x y (l .inv .0) (omega arith) ∙ sym (c .number .ensures)),
       omega arith,
     )
 
 returns : tie.Need-returns Inv-loop μ-loop
 returns c = let s = c .before .before .before .args in
-    let g = numbersOf (s .f) (vectorNumbers (now (s .a))) (vectorNumbers (now (s .b))) in
-    curve-all 21 nan positiveZero (λ k v. g k ≡ v) g (λ k v e. sym e) (suc (s .n)) (c .before .loop .inv .0) (omega arith)
+    numbers-all (numbersOf (s .f) (vectorNumbers (now (s .a))) (vectorNumbers (now (s .b)))) (suc (s .n)) (c .before .loop .inv .0) (omega arith)
 
 pub numbers-spec : {M : Type 1} → statement M
 numbers-spec =

@@ -1,5 +1,5 @@
 -- `vector_formulas::entries::rational_entry` meets its contract. Assumes nothing.
-use Rattle.calculus.proofs.Terms.{one-more}
+use Rattle.calculus.proofs.LoopTerms.{one-more}
 use Rattle.calculus.specs.InTurn.{inTurn}
 use denote.Ref.{now}
 use Rattle.formulas.specs.Numbers.{curveNumbers}

@@ -1,7 +1,7 @@
 -- `vector_formulas::terms::index` meets its contract. Assumes nothing.
 use mathlib.Core.Path.{_∙_}
 use Rattle.calculus.specs.Graded.{index}
-use Rattle.calculus.proofs.Cut.{uncut-entry}
+use Rattle.calculus.proofs.LoopCut.{uncut-entry}
 use borrow.Author.Needs.{needs}
 use Rattle.vector_formulas.proofs.terms.index.Statement.{statement}
 use Rattle.vector_formulas.proofs.terms.index.Tie as tie

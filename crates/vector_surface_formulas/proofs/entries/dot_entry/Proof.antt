@@ -1,5 +1,5 @@
 -- `vector_surface_formulas::entries::dot_entry` meets its contract. Assumes nothing.
-use Rattle.calculus.proofs.Terms.{one-row-more}
+use Rattle.calculus.proofs.LoopTerms.{one-row-more}
 use Rattle.calculus.specs.InTurn.{inRows}
 use Rattle.calculus.specs.Surface.{leibniz}
 use Rattle.vector_formulas.specs.Vector.{vectorSurfaceNumbers}

@@ -1,5 +1,5 @@
 -- `vector_surface_formulas::entries::dot_row` meets its contract. Assumes nothing.
-use Rattle.calculus.proofs.Terms.{one-more}
+use Rattle.calculus.proofs.LoopTerms.{one-more}
 use Rattle.calculus.specs.InTurn.{inTurn}
 use Rattle.calculus.specs.Surface.{leibniz}
 use Rattle.vector_formulas.specs.Vector.{vectorSurfaceNumbers}

@@ -36,14 +36,14 @@ sub-requires c κs = search needs
 enum-told-3 : tie.Need-enum-told-3
 enum-told-3 c = search needs
 
-cross-entry-requires : tie.Need-cross-entry-requires
-cross-entry-requires c κs = search needs
+sum-of-terms-requires : tie.Need-sum-of-terms-requires
+sum-of-terms-requires c κs = search needs
 
 enum-told-4 : tie.Need-enum-told-4
 enum-told-4 c = search needs
 
-scaled-entry-requires : tie.Need-scaled-entry-requires
-scaled-entry-requires c κs = search needs
+sum-of-terms-requires-2 : tie.Need-sum-of-terms-requires-2
+sum-of-terms-requires-2 c κs = search needs
 
 enum-told-5 : tie.Need-enum-told-5
 enum-told-5 c = search needs
@@ -61,15 +61,15 @@ returns-2 c = let s = c .before .before .before .before .before .args in
 
 returns-3 : tie.Need-returns-3
 returns-3 c = let s = c .before .before .before .args in
-    c .cross-entry .ensures ∙ sym (ap (λ f. vectorSurfaceFormula f (vectorSurfaceNumbers (now (s .a))) (vectorSurfaceNumbers (now (s .b))) (surfaceNumbers (now (s .w))) (vectorSurfaceNumbers (now (s .q))) (s .m) (s .n)) (c .before .enum-told3 .given .1))
+    c .sum-of-terms .ensures ∙ sym (ap (λ f. vectorSurfaceFormula f (vectorSurfaceNumbers (now (s .a))) (vectorSurfaceNumbers (now (s .b))) (surfaceNumbers (now (s .w))) (vectorSurfaceNumbers (now (s .q))) (s .m) (s .n)) (c .before .enum-told3 .given .1))
 
 returns-4 : tie.Need-returns-4
 returns-4 c = let s = c .before .before .before .args in
-    c .scaled-entry .ensures ∙ sym (ap (λ f. vectorSurfaceFormula f (vectorSurfaceNumbers (now (s .a))) (vectorSurfaceNumbers (now (s .b))) (surfaceNumbers (now (s .w))) (vectorSurfaceNumbers (now (s .q))) (s .m) (s .n)) (c .before .enum-told4 .given .1))
+    c .sum-of-terms2 .ensures ∙ sym (ap (λ f. vectorSurfaceFormula f (vectorSurfaceNumbers (now (s .a))) (vectorSurfaceNumbers (now (s .b))) (surfaceNumbers (now (s .w))) (vectorSurfaceNumbers (now (s .q))) (s .m) (s .n)) (c .before .enum-told4 .given .1))
 
 returns-5 : tie.Need-returns-5
 returns-5 c = let s = c .before .before .before .args in
     c .rational-entry .ensures ∙ sym (ap (λ f. vectorSurfaceFormula f (vectorSurfaceNumbers (now (s .a))) (vectorSurfaceNumbers (now (s .b))) (surfaceNumbers (now (s .w))) (vectorSurfaceNumbers (now (s .q))) (s .m) (s .n)) (c .before .enum-told5 .given .1))
 
 pub entry-spec : {M : Type 1} → statement M
-entry-spec = tie.close (tie.spec enum-told surface-at-requires surface-at-requires-2 add-requires enum-told-2 surface-at-requires-3 surface-at-requires-4 sub-requires enum-told-3 cross-entry-requires enum-told-4 scaled-entry-requires enum-told-5 rational-entry-requires returns returns-2 returns-3 returns-4 returns-5)
+entry-spec = tie.close (tie.spec enum-told surface-at-requires surface-at-requires-2 add-requires enum-told-2 surface-at-requires-3 surface-at-requires-4 sub-requires enum-told-3 sum-of-terms-requires enum-told-4 sum-of-terms-requires-2 enum-told-5 rational-entry-requires returns returns-2 returns-3 returns-4 returns-5)

@@ -3,7 +3,7 @@ use Rattle.ieee_vectors.specs.Vectors.{positiveZero}
 use Rattle.formulas.specs.Numbers.{surfaceNumbers}
 use Rattle.vector_surface_formulas.specs.Inner.{withOther}
 use Rattle.calculus.specs.InTurn.{inRows}
-use Rattle.calculus.proofs.Terms.{one-row-more}
+use Rattle.calculus.proofs.LoopTerms.{one-row-more}
 use borrow.Author.Needs.{needs}
 use denote.Ref.{now}
 use native.Mathlib.Numerals.{add-one}

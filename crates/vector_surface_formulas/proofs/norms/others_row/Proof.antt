@@ -2,7 +2,7 @@
 use Rattle.formulas.specs.Numbers.{surfaceNumbers}
 use Rattle.vector_surface_formulas.specs.Inner.{withOther}
 use Rattle.calculus.specs.InTurn.{inTurn}
-use Rattle.calculus.proofs.Terms.{one-more}
+use Rattle.calculus.proofs.LoopTerms.{one-more}
 use borrow.Author.Needs.{needs}
 use denote.Ref.{now}
 use native.Mathlib.Numerals.{add-one}

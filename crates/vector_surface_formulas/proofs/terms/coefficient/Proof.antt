@@ -1,5 +1,5 @@
 -- `vector_surface_formulas::terms::coefficient` meets its contract. Assumes nothing.
-use Rattle.calculus.proofs.Terms.{small-product}
+use Rattle.calculus.proofs.LoopTerms.{small-product}
 use Rattle.formulas.specs.Real.{real}
 use borrow.Author.Needs.{needs}
 use mathlib.Core.Path.{ap, ap₂, _∙_}

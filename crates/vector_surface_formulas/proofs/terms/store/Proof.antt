@@ -1,11 +1,7 @@
 -- `vector_surface_formulas::terms::store` meets its contract. Assumes nothing.
 use mathlib.Core.Path.{_∙_}
-use Prim.Native.Nat.{_+_, _*_}
 use denote.Ref.{now}
-use lib.ListN.{length}
-use borrow.Author.Tests.{lt-ltb}
-use Rattle.booleans.proofs.Tests.{first}
-use Rattle.vector_formulas.specs.Vector.{put}
+use Rattle.vector_formulas.proofs.Vectors.{stored-put}
 use borrow.Author.Needs.{needs}
 use Rattle.vector_surface_formulas.proofs.terms.store.Statement.{statement}
 use Rattle.vector_surface_formulas.proofs.terms.store.Tie as tie
@@ -17,9 +13,10 @@ same-length : tie.Need-same-length
 same-length c = search needs
 
 returns : tie.Need-returns
-returns c = let s = c .before .before .before .before .before in
-    let l = now (s .args .a) in
-    c .before .before .store .ensures ∙ first (put l (3 * s .args .k) (s .args .v)) l (lt-ltb (3 * s .args .k + 2) (length l) (s .pre))
+returns c =
+    let k = c .before .before in
+    let p = k .before .before .before in
+    k .store .ensures ∙ stored-put (now (p .args .a)) (p .args .k) (p .args .v) (p .pre)
 
 pub store-spec : {M : Type 1} → statement M
 store-spec = tie.close (tie.spec store-requires same-length returns)
