@@ -1,5 +1,5 @@
 -- The answers on jets of floats: arrays that have been computed, and jets that go whole into a list. Assumes nothing.
-use Rattle.calculus.proofs.Cut.{uncut}
+use Rattle.calculus.proofs.LoopCut.{uncut}
 use mathlib.Core.Path.{_≡_, refl, sym, ap, _∙_}
 use mathlib.Core.Bool.{true, cond, not}
 use mathlib.Core.List.{List}
@@ -9,20 +9,23 @@ use native.Mathlib.Omega.{arith}
 use lib.ListN.{length}
 use lib.Ieee.{Float, nan}
 use lib.Ieee.Scale.{finite}
-use borrow.Author.Tests.{lt-ltb}
-use Rattle.booleans.proofs.Tests.{first}
+use lib.Dec.{ltb}
+use borrow.Author.Tests.{lt-ltb, le-ltb}
+use Rattle.booleans.proofs.Tests.{first, second}
 use Rattle.calculus.specs.Graded.{triangle, graded}
 use Rattle.calculus.specs.Array.{filled, curveArray, surfaceArray}
 use Rattle.calculus.specs.Order.{curveEntries, surfaceEntries}
-use Rattle.calculus.proofs.Filling.{filled-at}
+use Rattle.calculus.proofs.LoopFilling.{filled-at}
 use Rattle.calculus.proofs.Graded.{room-231}
 use Rattle.derivatives.specs.declared.CurveDerivatives.{CurveDerivatives}
 use Rattle.derivatives.specs.declared.SurfaceDerivatives.{SurfaceDerivatives}
 use Rattle.ieee_vectors.specs.Vectors.{positiveZero}
 use Rattle.formulas.specs.Numbers.{curveNumbers, surfaceNumbers, allFinite, finiteCurve, finiteSurface}
-use Rattle.derivatives.specs.Answer.{refusedCurve, refusedSurface, madeCurve, madeSurface, returnedCurve, returnedSurface, curves, surfaces, curveIntoList, surfaceIntoList}
+use Rattle.derivatives.specs.Names.{refusedCurve, refusedSurface, madeCurve, madeSurface, returnedCurve, returnedSurface}
+use Rattle.derivatives.specs.Answer.{curves, surfaces}
 use Rattle.formulas.proofs.Finite.{same, surface-finite}
-use Rattle.derivatives.proofs.Tested.{returned-as, pair, into-worked}
+use Rattle.calculus.proofs.Tested.{returned-as, pair, into-worked}
+use Rattle.calculus.specs.JetKind.{intoList}
 
 -- ---- the array is finite as far as it is filled where its entries are
 module _ (w : ℕ) (f : ℕ → Float) (n : ℕ) where
@@ -40,13 +43,16 @@ array-finite f n l =
 -- ---- what has been computed
 module _ (n : ℕ) (l : n ≤ 20) {r : List Float} where
   pub curve-returned : (f : ℕ → Float) → r ≡ curveArray positiveZero f (min n 20) →
-      cond (finiteCurve (curveNumbers r) n) (madeCurve n r) (refusedCurve 10) ≡ returnedCurve n f
+      cond (ltb 20 n) (refusedCurve 1) (cond (finiteCurve (curveNumbers r) n) (madeCurve n r) (refusedCurve 10)) ≡ returnedCurve n f
   curve-returned f e =
-      returned-as (λ x. finiteCurve (curveNumbers x) n) (madeCurve n) (refusedCurve 10) (e ∙ uncut (curveArray positiveZero f) l) (filled-finite 21 f (suc n) (omega arith))
+      second (refusedCurve 1) (cond (finiteCurve (curveNumbers r) n) (madeCurve n r) (refusedCurve 10)) (le-ltb 20 n l)
+      ∙ returned-as (λ x. finiteCurve (curveNumbers x) n) (madeCurve n) (refusedCurve 10) (e ∙ uncut (curveArray positiveZero f) l) (filled-finite 21 f (suc n) (omega arith))
 
   pub surface-returned : (s : ℕ → ℕ → Float) → r ≡ surfaceArray positiveZero s (min n 20) →
-      cond (finiteSurface (surfaceNumbers r) n) (madeSurface n r) (refusedSurface 10) ≡ returnedSurface n s
-  surface-returned s e = returned-as (λ x. finiteSurface (surfaceNumbers x) n) (madeSurface n) (refusedSurface 10) (e ∙ uncut (surfaceArray positiveZero s) l) (array-finite s n l)
+      cond (ltb 20 n) (refusedSurface 1) (cond (finiteSurface (surfaceNumbers r) n) (madeSurface n r) (refusedSurface 10)) ≡ returnedSurface n s
+  surface-returned s e =
+      second (refusedSurface 1) (cond (finiteSurface (surfaceNumbers r) n) (madeSurface n r) (refusedSurface 10)) (le-ltb 20 n l)
+      ∙ returned-as (λ x. finiteSurface (surfaceNumbers x) n) (madeSurface n) (refusedSurface 10) (e ∙ uncut (surfaceArray positiveZero s) l) (array-finite s n l)
 
 -- ---- the order of a derivative is not cut
 pub less-uncut : {A : Type 0} (f : ℕ → A) (n : ℕ) → n ≤ 20 → f (min (n - 1) 19) ≡ f (n - 1)
@@ -56,9 +62,9 @@ less-uncut f n l =
 
 -- ---- a jet goes whole into a list of its length
 pub into-is : (a : CurveDerivatives) (out : List Float) → a .order ≤ 20 → length out ≡ a .order + 1 →
-    finiteCurve (curveNumbers (a .entries)) (a .order) ≡ true → pair 0 (curveEntries (curveNumbers (a .entries)) (a .order)) ≡ curveIntoList a out
-into-is a out h e p = into-worked curves suc curveEntries a out h (add-one (a .order)) e refl (ap not p)
+    finiteCurve (curveNumbers (a .entries)) (a .order) ≡ true → pair 0 (curveEntries (curveNumbers (a .entries)) (a .order)) ≡ intoList curves a out
+into-is a out h e p = into-worked curves a out h (add-one (a .order)) e refl (ap not p)
 
 pub surface-into-is : (a : SurfaceDerivatives) (out : List Float) → a .order ≤ 20 → length out ≡ triangle (suc (a .order)) →
-    finiteSurface (surfaceNumbers (a .entries)) (a .order) ≡ true → pair 0 (surfaceEntries (surfaceNumbers (a .entries)) (a .order)) ≡ surfaceIntoList a out
-surface-into-is a out h e p = into-worked surfaces (λ n. triangle (suc n)) surfaceEntries a out h refl e refl (ap not p)
+    finiteSurface (surfaceNumbers (a .entries)) (a .order) ≡ true → pair 0 (surfaceEntries (surfaceNumbers (a .entries)) (a .order)) ≡ intoList surfaces a out
+surface-into-is a out h e p = into-worked surfaces a out h refl e refl (ap not p)

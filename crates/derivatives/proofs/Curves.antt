@@ -9,7 +9,7 @@ use lib.Seq.{getD-set-same, getD-set-other, ext-getD}
 use borrow.Author.Count.{below-more}
 use lib.Ieee.{Float, nan}
 use Rattle.calculus.specs.Array.{listed}
-use Rattle.calculus.proofs.Filling.{listed-length, listed-at}
+use Rattle.calculus.proofs.LoopFilling.{listed-length, listed-at}
 
 -- ---- a list of n entries, of which the first m are written
 pub record Written (f : ℕ → Float) (n m : ℕ) (out : List Float) : Type 0 where

@@ -1,62 +1,36 @@
 -- The list of a parameter curve: u and v side by side. Assumes nothing.
-use mathlib.Core.Path.{_≡_, refl, sym, ap, ap₂, _∙_, subst, fun-ext}
+use mathlib.Core.Path.{_≡_, refl, ap, ap₂, _∙_, subst, fun-ext}
 use mathlib.Core.Bool.{Bool, true, not, _&&_}
-use mathlib.Core.List.{List, [], _∷_}
-use Prim.Native.Nat.{ℕ, zero, suc, _+_, _-_, _*_, _≤_, _<_}
+use mathlib.Core.List.{List}
+use Prim.Native.Nat.{ℕ, suc, _+_, _-_, _*_, _≤_}
 use native.Mathlib.Nat.{add-zero}
 use native.Mathlib.Numerals.{add-one}
 use native.Mathlib.Omega.{arith}
 use lib.ListN.{length, getD, set}
 use lib.Ieee.{Float, nan}
 use Rattle.calculus.specs.Array.{curveArray}
-use Rattle.calculus.proofs.Writing.{Writing, writing-goes-on}
+use Rattle.calculus.proofs.LoopPairs.{pairsLeft, pairs-next}
+use Rattle.calculus.proofs.LoopWriting.{Writing, writing-goes-on}
 use Rattle.derivatives.specs.declared.ParameterCurve.{ParameterCurve}
 use Rattle.ieee_vectors.specs.Vectors.{positiveZero}
 use Rattle.formulas.specs.Numbers.{curveNumbers, finiteCurve}
-use Rattle.derivatives.specs.Answer.{madeParameter, answeredParameter, parameters, pairs, parameterIntoList}
-use Rattle.derivatives.proofs.Tested.{pair, into-worked}
+use Rattle.derivatives.specs.Names.{madeParameter, answeredParameter}
+use Rattle.derivatives.specs.Answer.{parameters}
+use Rattle.calculus.specs.Order.{pairs}
+use Rattle.calculus.proofs.Tested.{pair, into-worked}
+use Rattle.calculus.specs.JetKind.{intoList}
 
 -- every other number of a list
 abbrev pub every : List Float → ℕ → ℕ → Float
 every l from m = getD l (2 * m + from) nan
 
-module _ (u v : ℕ → Float) (n : ℕ) where
-  -- the pairs from m on
-  abbrev pub left : ℕ → List Float
-  left m = pairs u v m (suc n - m)
-
-  pub begin : pairs u v 0 (suc n) ≡ left 0
-  begin =
-      let e : suc n ≡ suc n - 0 = omega arith in
-      ap (pairs u v 0) e
-
-  pub next : (m : ℕ) → m ≤ n → left m ≡ u m ∷ v m ∷ left (m + 1)
-  unfolding pairs
-  next m h =
-      let e : suc n - m ≡ suc (suc n - (m + 1)) = omega arith in
-      ap (pairs u v m) e ∙ ap (λ (k : ℕ). u m ∷ v m ∷ pairs u v k (suc n - (m + 1))) (sym (add-one m))
-
-  pub end : (m : ℕ) → n < m → left m ≡ []
-  unfolding pairs
-  end m h =
-      let e : suc n - m ≡ 0 = omega arith in
-      ap (pairs u v m) e
-
-pub pairs-length : (u v : ℕ → Float) (i k : ℕ) → length (pairs u v i k) ≡ 2 * k
-unfolding pairs
-pairs-length u v i zero = refl
-pairs-length u v i (suc k) = ap (λ (x : ℕ). suc (suc x)) (pairs-length u v (suc i) k) ∙ two k
-  where
-    two : (k : ℕ) → suc (suc (2 * k)) ≡ 2 * suc k
-    two k = omega arith
-
 -- a pair is written
-pub two-more : (u v : ℕ → Float) {n m : ℕ} {all out : List Float} → Writing all out (left u v n m) (2 * m) → m ≤ n →
-    Writing all (set (set out (2 * m) (u m)) (2 * m + 1) (v m)) (left u v n (m + 1)) (2 * (m + 1))
+pub two-more : (u v : ℕ → Float) {n m : ℕ} {all out : List Float} → Writing all out (pairsLeft u v n m) (2 * m) → m ≤ n →
+    Writing all (set (set out (2 * m) (u m)) (2 * m + 1) (v m)) (pairsLeft u v n (m + 1)) (2 * (m + 1))
 two-more u v {n} {m} {all} {out} w h =
     let k : 2 * m + 1 + 1 ≡ 2 * (m + 1) = omega arith in
-    subst (λ (x : ℕ). Writing all (set (set out (2 * m) (u m)) (2 * m + 1) (v m)) (left u v n (m + 1)) x) k
-    (writing-goes-on all (writing-goes-on all w (next u v n m h)) refl)
+    subst (λ (x : ℕ). Writing all (set (set out (2 * m) (u m)) (2 * m + 1) (v m)) (pairsLeft u v n (m + 1)) x) k
+    (writing-goes-on all (writing-goes-on all w (pairs-next u v n m h)) refl)
 
 -- ---- from a list and into one
 pub twice : (n : ℕ) → 2 * (n + 1) ≡ 2 * suc n
@@ -69,7 +43,7 @@ parameter-made n l a b =
 
 pub into-is : (a : ParameterCurve) (out : List Float) → a .order ≤ 20 → length out ≡ 2 * (a .order + 1) →
     finiteCurve (curveNumbers (a .u)) (a .order) ≡ true → finiteCurve (curveNumbers (a .v)) (a .order) ≡ true →
-    pair 0 (pairs (curveNumbers (a .u)) (curveNumbers (a .v)) 0 (suc (a .order))) ≡ parameterIntoList a out
+    pair 0 (pairs (curveNumbers (a .u)) (curveNumbers (a .v)) 0 (suc (a .order))) ≡ intoList parameters a out
 into-is a out h e p q =
-    into-worked parameters (λ n. 2 * suc n) (λ w n. pairs (w .0) (w .1) 0 (suc n)) a out h (twice (a .order)) e refl
+    into-worked parameters a out h (twice (a .order)) e refl
     (ap₂ (λ (s t : Bool). not (s && t)) p q)

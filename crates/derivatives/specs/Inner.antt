@@ -8,21 +8,8 @@ use Rattle.formulas.specs.Real.{isZero}
 use Rattle.formulas.specs.Operations.{curveBy, surfaceBy}
 use Rattle.derivatives.specs.declared.CurveAnswer.{CurveAnswer}
 use Rattle.derivatives.specs.declared.SurfaceAnswer.{SurfaceAnswer}
-use Rattle.derivatives.specs.Answer.{refusedCurve, refusedSurface, returnedCurve, returnedSurface}
-use lib.ListN.{replicate}
-use Rattle.ieee_vectors.specs.declared.Vector3.{Vector3}
-use Rattle.ieee_vectors.specs.Vectors.{positiveZero}
-use Rattle.formulas.specs.Numbers.{curveNumbers, surfaceNumbers}
-use Rattle.vector_formulas.specs.declared.VectorFormula.{VectorFormula}
-use Rattle.vector_formulas.specs.declared.VectorFormula.the-variants as vector
-use Rattle.vector_formulas.specs.Formulas.{vectorsBy}
-use Rattle.derivatives.specs.declared.VectorCurveAnswer.{VectorCurveAnswer}
-use Rattle.derivatives.specs.VectorAnswer.{refusedVectorCurve, returnedVectorCurve}
-use Rattle.vector_surface_formulas.specs.Formulas.{vectorSurfaceBy}
-use Rattle.derivatives.specs.declared.VectorSurfaceAnswer.{VectorSurfaceAnswer}
-use Rattle.derivatives.specs.VectorSurfaceAnswer.{refusedVectorSurface, returnedVectorSurface}
+use Rattle.derivatives.specs.Names.{refusedCurve, refusedSurface, returnedCurve, returnedSurface}
 
--- ---- floats
 -- it divides by y, which is zero
 abbrev pub divisionByZero : Operation → Float → Bool
 divisionByZero Sum y = false
@@ -35,27 +22,3 @@ byCurveEntries f x y n = cond (divisionByZero f (y 0)) (refusedCurve 7) (returne
 
 abbrev pub bySurfaceEntries : Operation → (ℕ → ℕ → Float) → (ℕ → ℕ → Float) → ℕ → SurfaceAnswer
 bySurfaceEntries f x y n = cond (divisionByZero f (y 0 0)) (refusedSurface 7) (returnedSurface n (surfaceBy f x y))
-
--- ---- vectors
--- it divides by y, which is zero
-abbrev pub vectorDivisionByZero : VectorFormula → Float → Bool
-vectorDivisionByZero vector.Sum y = false
-vectorDivisionByZero vector.Difference y = false
-vectorDivisionByZero vector.Cross y = false
-vectorDivisionByZero vector.Scaled y = false
-vectorDivisionByZero vector.Rational y = isZero y
-
--- the answers by these formulas: no floats beside two jets of vectors, and no second jet of vectors beside floats
-abbrev pub byVectorEntries : VectorFormula → (ℕ → Vector3) → (ℕ → Vector3) → ℕ → VectorCurveAnswer
-byVectorEntries f x y n = returnedVectorCurve n (vectorsBy f x y (curveNumbers (replicate 21 positiveZero)))
-
-abbrev pub byWeightedEntries : VectorFormula → (ℕ → Vector3) → (ℕ → Float) → ℕ → VectorCurveAnswer
-byWeightedEntries f x w n =
-    cond (vectorDivisionByZero f (w 0)) (refusedVectorCurve 7) (returnedVectorCurve n (vectorsBy f x x w))
-
-abbrev pub byVectorSurfaceEntries : VectorFormula → (ℕ → ℕ → Vector3) → (ℕ → ℕ → Vector3) → ℕ → VectorSurfaceAnswer
-byVectorSurfaceEntries f x y n = returnedVectorSurface n (vectorSurfaceBy f x y (surfaceNumbers (replicate 231 positiveZero)))
-
-abbrev pub bySurfaceWeightedEntries : VectorFormula → (ℕ → ℕ → Vector3) → (ℕ → ℕ → Float) → ℕ → VectorSurfaceAnswer
-bySurfaceWeightedEntries f x w n =
-    cond (vectorDivisionByZero f (w 0 0)) (refusedVectorSurface 7) (returnedVectorSurface n (vectorSurfaceBy f x x w))

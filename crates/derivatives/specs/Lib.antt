@@ -1,8 +1,4 @@
 pub mod Answer
+pub mod Names
 pub mod Composite
-pub mod VectorAnswer
-pub mod VectorSurfaceAnswer
-pub mod VectorComposite
-pub mod VectorSurfaceNorm
-pub mod Lists
 pub mod Inner

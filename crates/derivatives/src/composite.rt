@@ -7,7 +7,6 @@ ghost use Rattle.derivatives.specs.Composite.{alongCurveAt, alongCurve};
 use crate::CurveAnswer;
 use crate::ParameterCurve;
 use crate::SurfaceDerivatives;
-use crate::orders;
 use vectors::Real;
 
 // Whether the entries up to the order n of the surface, of u and of v are finite.
@@ -40,7 +39,7 @@ impl SurfaceDerivatives {
         if !all_finite(&entries, &u, &v, order) {
             return Real::Refused(5);
         }
-        vectors::returned(formulas::composite(&entries, &u, &v, order))
+        vectors::returned(float_carry::floats::derivative(&entries, &u, &v, order))
     }
 
     // The derivatives of all orders up to `order`, with the entry [0][0] at order 0.
@@ -61,7 +60,7 @@ impl SurfaceDerivatives {
         if !all_finite(&entries, &u, &v, order) {
             return crate::refused_curve(5);
         }
-        let r = formulas::composites(&entries, &u, &v, order);
+        let r = float_carry::floats::derivatives(&entries, &u, &v, order);
         crate::returned_curve(r, order)
     }
 }

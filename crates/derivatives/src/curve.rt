@@ -5,22 +5,23 @@ ghost use Prim.Native.Nat.{ℕ, suc, _≤_};
 ghost use lib.Ieee.{Float};
 ghost use lib.ListN.{length};
 ghost use Rattle.calculus.specs.Kind.{regular};
-ghost use Rattle.calculus.specs.Curve.{sum as sums, difference as differences, product};
+ghost use Rattle.calculus.specs.Curve.{derivative, sum as sums, difference as differences, product};
 ghost use Rattle.calculus.specs.Rational.{rational};
 ghost use Rattle.calculus.specs.Order.{curveEntries};
 ghost use Rattle.formulas.specs.Real.{real};
 ghost use Rattle.formulas.specs.Numbers.{curveNumbers};
-ghost use Rattle.derivatives.specs.Answer.{answeredCurve, onCurves, byFormula, byDivision, onCurvesAt, curveDerivative, curveFromList, curveIntoList};
+ghost use Rattle.derivatives.specs.Names.{answeredCurve, refusedCurve};
+ghost use Rattle.derivatives.specs.Answer.{entryAt, curves, byDivision};
+ghost use Rattle.calculus.specs.JetKind.{byFormula, differentiated, fromList, intoList, onTwo};
 ghost use Rattle.derivatives.specs.Inner.{byCurveEntries};
 use crate::CurveAnswer;
 use crate::CurveDerivatives;
 use crate::formula;
-use crate::orders;
 use calculus::Operation;
 use vectors::Real;
 
 fn on_two(f: Operation, a: CurveDerivatives, b: CurveDerivatives) -> CurveAnswer
-    ensures { λ r. ⌜ r ≡ onCurves (byCurveEntries f) a b ⌝ }
+    ensures { λ r. ⌜ r ≡ onTwo curves curves refusedCurve (byCurveEntries f) a b ⌝ }
 {
     let m = a.order;
     let n = b.order;
@@ -74,7 +75,7 @@ fn write(a: &[f64; 21], n: usize, out: &mut [f64])
 
 impl CurveDerivatives {
     pub fn from_list(order: usize, list: &[f64]) -> CurveAnswer
-        ensures { λ r. ⌜ r ≡ curveFromList order (now (list .entry)) ⌝ }
+        ensures { λ r. ⌜ r ≡ fromList curves order (now (list .entry)) ⌝ }
     {
         if 20 < order {
             return crate::refused_curve(1);
@@ -89,7 +90,7 @@ impl CurveDerivatives {
     }
 
     pub fn into_list(self, out: &mut [f64]) -> u8
-        ensures { λ r. ⌜ _≡_ {A = ℕ × List Float} (r, now (out .exit)) (curveIntoList self (now (out .entry))) ⌝ }
+        ensures { λ r. ⌜ _≡_ {A = ℕ × List Float} (r, now (out .exit)) (intoList curves self (now (out .entry))) ⌝ }
     {
         let n = self.order;
         if 20 < n {
@@ -107,19 +108,19 @@ impl CurveDerivatives {
     }
 
     pub fn sum(self, other: CurveDerivatives) -> CurveAnswer
-        ensures { λ r. ⌜ r ≡ onCurves (byFormula (sums (regular real))) self other ⌝ }
+        ensures { λ r. ⌜ r ≡ byFormula curves curves curves (sums (regular real)) self other ⌝ }
     {
         on_two(Operation::Sum, self, other)
     }
 
     pub fn difference(self, other: CurveDerivatives) -> CurveAnswer
-        ensures { λ r. ⌜ r ≡ onCurves (byFormula (differences (regular real))) self other ⌝ }
+        ensures { λ r. ⌜ r ≡ byFormula curves curves curves (differences (regular real)) self other ⌝ }
     {
         on_two(Operation::Difference, self, other)
     }
 
     pub fn derivative(self) -> CurveAnswer
-        ensures { λ r. ⌜ r ≡ curveDerivative self ⌝ }
+        ensures { λ r. ⌜ r ≡ differentiated curves derivative self ⌝ }
     {
         let n = self.order;
         if 20 < n {
@@ -145,7 +146,7 @@ impl CurveDerivatives {
 
     // One entry of the product.
     pub fn combinatorial_derivative(self, other: CurveDerivatives, order: usize) -> Real
-        ensures { λ r. ⌜ r ≡ onCurvesAt (product real) self other order ⌝ }
+        ensures { λ r. ⌜ r ≡ entryAt curves curves (λ p q. product real p q order) self other order ⌝ }
     {
         let m = self.order;
         let n = other.order;
@@ -164,14 +165,14 @@ impl CurveDerivatives {
     }
 
     pub fn combinatorial_derivatives(self, other: CurveDerivatives) -> CurveAnswer
-        ensures { λ r. ⌜ r ≡ onCurves (byFormula (product real)) self other ⌝ }
+        ensures { λ r. ⌜ r ≡ byFormula curves curves curves (product real) self other ⌝ }
     {
         on_two(Operation::Product, self, other)
     }
 
     // The quotient of this curve by the weights.
     pub fn rational_derivatives(self, weights: CurveDerivatives) -> CurveAnswer
-        ensures { λ r. ⌜ r ≡ onCurves (byDivision (rational (regular real) (real .over))) self weights ⌝ }
+        ensures { λ r. ⌜ r ≡ byDivision curves curves curves (λ y. y 0) (rational (regular real) (real .over)) self weights ⌝ }
     {
         on_two(Operation::Quotient, self, weights)
     }

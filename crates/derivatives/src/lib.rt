@@ -1,25 +1,19 @@
-// Jets of floats and of vectors: the derivatives of a curve or of a surface, each rounded as the source rounds it. A function answers in full, or refuses
+// Jets of floats: the derivatives of a curve or of a surface, each rounded as the source rounds it. A function answers in full, or refuses
 // with a number of document 01's table. Anybody may write the fields: every function tests the orders, and that what it reads is finite.
 ghost use mathlib.Core.Path.{_≡_};
-ghost use mathlib.Core.Bool.{cond, _&&_};
+ghost use mathlib.Core.Bool.{_&&_};
 ghost use Prim.Native.Nat.{_+_, _≤_};
 ghost use Rattle.calculus.specs.Graded.{index as indexOf};
 ghost use Rattle.formulas.specs.Numbers.{curveNumbers, surfaceNumbers, finiteCurve, finiteSurface};
-ghost use Rattle.derivatives.specs.Answer.{refusedCurve, refusedSurface, refusedParameter, madeCurve, madeSurface};
+ghost use Rattle.calculus.specs.JetKind.{refused, returnedJet};
+ghost use Rattle.derivatives.specs.Answer.{curves, surfaces, parameters};
 
 mod composite;
 mod curve;
 mod formula;
 pub mod lists;
-mod orders;
 mod parameter;
 mod surface;
-mod vector_array;
-mod vector_composite;
-mod vector_curve;
-mod vector_lists;
-mod vector_surface;
-mod vector_surface_lists;
 
 // The derivatives of a curve, of the orders 0 to `order`.
 pub struct CurveDerivatives {
@@ -40,18 +34,6 @@ pub struct ParameterCurve {
     pub v: [f64; 21],
 }
 
-// The derivatives of a curve of vectors: x, y and z of each order, side by side.
-pub struct VectorCurveDerivatives {
-    pub order: usize,
-    pub entries: [f64; 63],
-}
-
-// The derivatives of a surface of vectors, in the order of a surface's: x, y and z of each, side by side.
-pub struct VectorSurfaceDerivatives {
-    pub order: usize,
-    pub entries: [f64; 693],
-}
-
 // A jet beside its refusal number: 0, and zeros past the order; or the number, and the zero jet of order 0.
 pub struct CurveAnswer {
     pub refusal: u8,
@@ -68,18 +50,9 @@ pub struct ParameterAnswer {
     pub jet: ParameterCurve,
 }
 
-pub struct VectorCurveAnswer {
-    pub refusal: u8,
-    pub jet: VectorCurveDerivatives,
-}
-
-pub struct VectorSurfaceAnswer {
-    pub refusal: u8,
-    pub jet: VectorSurfaceDerivatives,
-}
-
-fn refused_curve(c: u8) -> CurveAnswer
-    ensures { λ r. ⌜ r ≡ refusedCurve c ⌝ }
+// A refusal's number, beside the zero jet of order 0.
+pub fn refused_curve(c: u8) -> CurveAnswer
+    ensures { λ r. ⌜ r ≡ refused curves c ⌝ }
 {
     let z = [0.0f64; 21];
     CurveAnswer {
@@ -91,8 +64,8 @@ fn refused_curve(c: u8) -> CurveAnswer
     }
 }
 
-fn refused_surface(c: u8) -> SurfaceAnswer
-    ensures { λ r. ⌜ r ≡ refusedSurface c ⌝ }
+pub fn refused_surface(c: u8) -> SurfaceAnswer
+    ensures { λ r. ⌜ r ≡ refused surfaces c ⌝ }
 {
     let z = [0.0f64; 231];
     SurfaceAnswer {
@@ -105,7 +78,7 @@ fn refused_surface(c: u8) -> SurfaceAnswer
 }
 
 fn refused_parameter(c: u8) -> ParameterAnswer
-    ensures { λ r. ⌜ r ≡ refusedParameter c ⌝ }
+    ensures { λ r. ⌜ r ≡ refused parameters c ⌝ }
 {
     let y = [0.0f64; 21];
     let z = [0.0f64; 21];
@@ -157,11 +130,13 @@ fn surfaces_finite(a: &[f64; 231], b: &[f64; 231], n: usize) -> bool
     booleans::both(finite_surface(a, n), finite_surface(b, n))
 }
 
-// A jet that has been computed: 10 where it is not finite.
-fn returned_curve(a: [f64; 21], n: usize) -> CurveAnswer
-    requires { ⌜ n ≤ 20 ⌝ }
-    ensures { λ r. ⌜ r ≡ cond (finiteCurve (curveNumbers a) n) (madeCurve n a) (refusedCurve 10) ⌝ }
+// A jet that has been computed: 1 where its order is above 20, and 10 where it is not finite.
+pub fn returned_curve(a: [f64; 21], n: usize) -> CurveAnswer
+    ensures { λ r. ⌜ r ≡ returnedJet curves (record { order = n; entries = a }) ⌝ }
 {
+    if 20 < n {
+        return refused_curve(1);
+    }
     if !finite_curve(&a, n) {
         return refused_curve(10);
     }
@@ -174,10 +149,12 @@ fn returned_curve(a: [f64; 21], n: usize) -> CurveAnswer
     }
 }
 
-fn returned_surface(a: [f64; 231], n: usize) -> SurfaceAnswer
-    requires { ⌜ n ≤ 20 ⌝ }
-    ensures { λ r. ⌜ r ≡ cond (finiteSurface (surfaceNumbers a) n) (madeSurface n a) (refusedSurface 10) ⌝ }
+pub fn returned_surface(a: [f64; 231], n: usize) -> SurfaceAnswer
+    ensures { λ r. ⌜ r ≡ returnedJet surfaces (record { order = n; entries = a }) ⌝ }
 {
+    if 20 < n {
+        return refused_surface(1);
+    }
     if !finite_surface(&a, n) {
         return refused_surface(10);
     }

@@ -1,18 +1,15 @@
 // Jets of lists whose floats are not tested: each function on jets tests those that it reads. 1 where the order is above 20, and 2 where the count of
+ghost use Rattle.derivatives.specs.Answer.{curves, parameters, surfaces};
+ghost use Rattle.calculus.specs.JetKind.{ofList};
 // floats is not that of the order.
 ghost use mathlib.Core.Path.{_≡_};
-ghost use Rattle.derivatives.specs.Lists.{listedCurve, listedSurface, listedParameter, listedVectorCurve, listedVectorSurface};
 use crate::CurveAnswer;
 use crate::ParameterAnswer;
 use crate::ParameterCurve;
 use crate::SurfaceAnswer;
-use crate::VectorCurveAnswer;
-use crate::VectorCurveDerivatives;
-use crate::VectorSurfaceAnswer;
-use crate::VectorSurfaceDerivatives;
 
 pub fn curve(order: usize, list: &[f64]) -> CurveAnswer
-    ensures { λ r. ⌜ r ≡ listedCurve order (now (list .entry)) ⌝ }
+    ensures { λ r. ⌜ r ≡ ofList curves order (now (list .entry)) ⌝ }
 {
     if 20 < order {
         return crate::refused_curve(1);
@@ -24,7 +21,7 @@ pub fn curve(order: usize, list: &[f64]) -> CurveAnswer
 }
 
 pub fn surface(order: usize, list: &[f64]) -> SurfaceAnswer
-    ensures { λ r. ⌜ r ≡ listedSurface order (now (list .entry)) ⌝ }
+    ensures { λ r. ⌜ r ≡ ofList surfaces order (now (list .entry)) ⌝ }
 {
     if 20 < order {
         return crate::refused_surface(1);
@@ -37,7 +34,7 @@ pub fn surface(order: usize, list: &[f64]) -> SurfaceAnswer
 }
 
 pub fn parameter(order: usize, list: &[f64]) -> ParameterAnswer
-    ensures { λ r. ⌜ r ≡ listedParameter order (now (list .entry)) ⌝ }
+    ensures { λ r. ⌜ r ≡ ofList parameters order (now (list .entry)) ⌝ }
 {
     if 20 < order {
         return crate::refused_parameter(1);
@@ -50,38 +47,5 @@ pub fn parameter(order: usize, list: &[f64]) -> ParameterAnswer
     ParameterAnswer {
         refusal: 0,
         jet: ParameterCurve { order, u, v },
-    }
-}
-
-pub fn vector_curve(order: usize, list: &[f64]) -> VectorCurveAnswer
-    ensures { λ r. ⌜ r ≡ listedVectorCurve order (now (list .entry)) ⌝ }
-{
-    if 20 < order {
-        return crate::vector_array::refused(1);
-    }
-    if list.len() != 3 * (order + 1) {
-        return crate::vector_array::refused(2);
-    }
-    let r = vector_formulas::read(list, order);
-    VectorCurveAnswer {
-        refusal: 0,
-        jet: VectorCurveDerivatives { order, entries: r },
-    }
-}
-
-pub fn vector_surface(order: usize, list: &[f64]) -> VectorSurfaceAnswer
-    ensures { λ r. ⌜ r ≡ listedVectorSurface order (now (list .entry)) ⌝ }
-{
-    if 20 < order {
-        return crate::vector_surface::refused(1);
-    }
-    let k = calculus::surface_count(order);
-    if list.len() != 3 * k {
-        return crate::vector_surface::refused(2);
-    }
-    let r = crate::vector_surface_lists::read(list, order);
-    VectorSurfaceAnswer {
-        refusal: 0,
-        jet: VectorSurfaceDerivatives { order, entries: r },
     }
 }

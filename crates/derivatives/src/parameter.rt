@@ -7,7 +7,9 @@ ghost use lib.ListN.{length, getD};
 ghost use Rattle.calculus.specs.Array.{curveArray};
 ghost use Rattle.ieee_vectors.specs.Vectors.{positiveZero};
 ghost use Rattle.formulas.specs.Numbers.{curveNumbers};
-ghost use Rattle.derivatives.specs.Answer.{pairs, parameterFromList, parameterIntoList};
+ghost use Rattle.calculus.specs.Order.{pairs};
+ghost use Rattle.calculus.specs.JetKind.{fromList, intoList};
+ghost use Rattle.derivatives.specs.Answer.{parameters};
 use crate::ParameterAnswer;
 use crate::ParameterCurve;
 
@@ -42,7 +44,7 @@ fn write(u: &[f64; 21], v: &[f64; 21], n: usize, out: &mut [f64])
 
 impl ParameterCurve {
     pub fn from_list(order: usize, list: &[f64]) -> ParameterAnswer
-        ensures { λ r. ⌜ r ≡ parameterFromList order (now (list .entry)) ⌝ }
+        ensures { λ r. ⌜ r ≡ fromList parameters order (now (list .entry)) ⌝ }
     {
         if 20 < order {
             return crate::refused_parameter(1);
@@ -62,7 +64,7 @@ impl ParameterCurve {
     }
 
     pub fn into_list(self, out: &mut [f64]) -> u8
-        ensures { λ r. ⌜ _≡_ {A = ℕ × List Float} (r, now (out .exit)) (parameterIntoList self (now (out .entry))) ⌝ }
+        ensures { λ r. ⌜ _≡_ {A = ℕ × List Float} (r, now (out .exit)) (intoList parameters self (now (out .entry))) ⌝ }
     {
         let n = self.order;
         if 20 < n {

@@ -1,7 +1,7 @@
 // Jets of surfaces.
 ghost use mathlib.Core.Path.{_≡_};
 ghost use mathlib.Core.List.{List};
-ghost use Prim.Native.Nat.{ℕ, suc, _≤_, _<_};
+ghost use Prim.Native.Nat.{_+_, ℕ, suc, _≤_, _<_};
 ghost use lib.Ieee.{Float, nan};
 ghost use lib.ListN.{length, getD};
 ghost use Rattle.calculus.specs.Kind.{regular};
@@ -13,18 +13,19 @@ ghost use Rattle.calculus.specs.Rational.{surfaceRational};
 ghost use Rattle.ieee_vectors.specs.Vectors.{positiveZero};
 ghost use Rattle.formulas.specs.Real.{real};
 ghost use Rattle.formulas.specs.Numbers.{surfaceNumbers};
-ghost use Rattle.derivatives.specs.Answer.{answeredSurface, onSurfaces, bySurfaceFormula, bySurfaceDivision, onSurfacesAt, surfaceDerivative, surfaceFromList, surfaceIntoList};
+ghost use Rattle.derivatives.specs.Names.{answeredSurface, refusedSurface};
+ghost use Rattle.derivatives.specs.Answer.{surfaces, entryAt, byDivision};
 ghost use Rattle.derivatives.specs.Inner.{bySurfaceEntries};
+ghost use Rattle.calculus.specs.JetKind.{byFormula, differentiated, fromList, intoList, onTwo};
 use crate::SurfaceAnswer;
 use crate::SurfaceDerivatives;
 use crate::formula;
-use crate::orders;
 use calculus::By;
 use calculus::Operation;
 use vectors::Real;
 
 fn on_two(f: Operation, a: SurfaceDerivatives, b: SurfaceDerivatives) -> SurfaceAnswer
-    ensures { λ r. ⌜ r ≡ onSurfaces (bySurfaceEntries f) a b ⌝ }
+    ensures { λ r. ⌜ r ≡ onTwo surfaces surfaces refusedSurface (bySurfaceEntries f) a b ⌝ }
 {
     let m = a.order;
     let n = b.order;
@@ -104,7 +105,7 @@ fn shifted(by: By, a: &[f64; 231], n: usize) -> [f64; 231]
 }
 
 fn derivative(by: By, a: SurfaceDerivatives) -> SurfaceAnswer
-    ensures { λ r. ⌜ r ≡ surfaceDerivative (derivativeBy by) a ⌝ }
+    ensures { λ r. ⌜ r ≡ differentiated surfaces (derivativeBy by) a ⌝ }
 {
     let n = a.order;
     if 20 < n {
@@ -130,7 +131,7 @@ fn derivative(by: By, a: SurfaceDerivatives) -> SurfaceAnswer
 
 impl SurfaceDerivatives {
     pub fn from_list(order: usize, list: &[f64]) -> SurfaceAnswer
-        ensures { λ r. ⌜ r ≡ surfaceFromList order (now (list .entry)) ⌝ }
+        ensures { λ r. ⌜ r ≡ fromList surfaces order (now (list .entry)) ⌝ }
     {
         if 20 < order {
             return crate::refused_surface(1);
@@ -145,7 +146,7 @@ impl SurfaceDerivatives {
     }
 
     pub fn into_list(self, out: &mut [f64]) -> u8
-        ensures { λ r. ⌜ _≡_ {A = ℕ × List Float} (r, now (out .exit)) (surfaceIntoList self (now (out .entry))) ⌝ }
+        ensures { λ r. ⌜ _≡_ {A = ℕ × List Float} (r, now (out .exit)) (intoList surfaces self (now (out .entry))) ⌝ }
     {
         let n = self.order;
         if 20 < n {
@@ -163,32 +164,32 @@ impl SurfaceDerivatives {
     }
 
     pub fn sum(self, other: SurfaceDerivatives) -> SurfaceAnswer
-        ensures { λ r. ⌜ r ≡ onSurfaces (bySurfaceFormula (sums (regular real))) self other ⌝ }
+        ensures { λ r. ⌜ r ≡ byFormula surfaces surfaces surfaces (sums (regular real)) self other ⌝ }
     {
         on_two(Operation::Sum, self, other)
     }
 
     pub fn difference(self, other: SurfaceDerivatives) -> SurfaceAnswer
-        ensures { λ r. ⌜ r ≡ onSurfaces (bySurfaceFormula (differences (regular real))) self other ⌝ }
+        ensures { λ r. ⌜ r ≡ byFormula surfaces surfaces surfaces (differences (regular real)) self other ⌝ }
     {
         on_two(Operation::Difference, self, other)
     }
 
     pub fn derivative_u(self) -> SurfaceAnswer
-        ensures { λ r. ⌜ r ≡ surfaceDerivative derivativeU self ⌝ }
+        ensures { λ r. ⌜ r ≡ differentiated surfaces derivativeU self ⌝ }
     {
         derivative(By::U, self)
     }
 
     pub fn derivative_v(self) -> SurfaceAnswer
-        ensures { λ r. ⌜ r ≡ surfaceDerivative derivativeV self ⌝ }
+        ensures { λ r. ⌜ r ≡ differentiated surfaces derivativeV self ⌝ }
     {
         derivative(By::V, self)
     }
 
     // One entry of the product: [m][n].
     pub fn combinatorial_derivative(self, other: SurfaceDerivatives, m: usize, n: usize) -> Real
-        ensures { λ r. ⌜ r ≡ onSurfacesAt (product real) self other m n ⌝ }
+        ensures { λ r. ⌜ r ≡ entryAt surfaces surfaces (λ p q. product real p q m n) self other (m + n) ⌝ }
     {
         let k = self.order;
         let l = other.order;
@@ -208,14 +209,14 @@ impl SurfaceDerivatives {
     }
 
     pub fn combinatorial_derivatives(self, other: SurfaceDerivatives) -> SurfaceAnswer
-        ensures { λ r. ⌜ r ≡ onSurfaces (bySurfaceFormula (product real)) self other ⌝ }
+        ensures { λ r. ⌜ r ≡ byFormula surfaces surfaces surfaces (product real) self other ⌝ }
     {
         on_two(Operation::Product, self, other)
     }
 
     // The quotient of this surface by the weights.
     pub fn rational_derivatives(self, weights: SurfaceDerivatives) -> SurfaceAnswer
-        ensures { λ r. ⌜ r ≡ onSurfaces (bySurfaceDivision (surfaceRational (regular real) (real .over))) self weights ⌝ }
+        ensures { λ r. ⌜ r ≡ byDivision surfaces surfaces surfaces (λ y. y 0 0) (surfaceRational (regular real) (real .over)) self weights ⌝ }
     {
         on_two(Operation::Quotient, self, weights)
     }

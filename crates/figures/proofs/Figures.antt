@@ -25,7 +25,8 @@ use Rattle.exact.specs.declared.SurfaceDerivatives.{SurfaceDerivatives}
 use Rattle.exact.specs.declared.ParameterCurve.{ParameterCurve}
 use Rattle.exact.specs.declared.CurveAnswer.{CurveAnswer}
 use Rattle.exact_formulas.specs.Kinds.{checked}
-use Rattle.exact.specs.Answer.{refusedCurve, onCurves, onSurfaces}
+use Rattle.exact.specs.Names.{refusedCurve}
+use Rattle.exact.specs.Answer.{onCurves, onSurfaces}
 use Rattle.exact_formulas.specs.Entries.{unlessRefused}
 use Rattle.exact.specs.Composite.{alongCurveAt, alongCurve}
 use Rattle.ieee.specs.SquareRoot.{squareRoot}
@@ -33,8 +34,10 @@ use Rattle.ieee_vectors.specs.Vectors.{vector, positiveZero}
 use Rattle.ieee_vectors.specs.Matrices.{columns}
 use Rattle.ieee_vectors.proofs.Floats.{minusOne, one, three, four, five, seven}
 use Rattle.formulas.specs.Numbers.{allPass}
-use Rattle.derivatives.specs.VectorAnswer.{vectorCurveAbsolute}
 use Rattle.rolling_ball_fillet.specs.Answers.{rotationAnswer}
+use Rattle.vector_formulas.specs.Vector.{vectorNorm}
+use Rattle.vector_derivatives.specs.Answer.{byNorm, vectorCurves}
+use Rattle.derivatives.specs.Answer.{curves}
 
 -- ---- part lists: `CompositionIter`, `multiplicity`
 
@@ -131,7 +134,7 @@ carried-608 = refl
 -- ---- floats: `absolute_derivatives`, `from_axis_angle`
 
 -- the vectors (3,4,0), (5,5,0) have the norm jet (5, 7)
-pub norm-5-7 : vectorCurveAbsolute (record { order = 1; entries = three ∷ four ∷ positiveZero ∷ five ∷ five ∷ positiveZero ∷ replicate 57 positiveZero })
+pub norm-5-7 : byNorm vectorCurves curves (λ q. q 0) vectorNorm (record { order = 1; entries = three ∷ four ∷ positiveZero ∷ five ∷ five ∷ positiveZero ∷ replicate 57 positiveZero })
     ≡ record { refusal = 0; jet = record { order = 1; entries = five ∷ seven ∷ replicate 19 positiveZero } }
 unfolding squareRoot add sub mul div ofBits ofInt before inTurn choose allPass eq listed
 norm-5-7 = refl

@@ -13,7 +13,8 @@ use Rattle.calculus.specs.Choose.{choose}
 use Rattle.calculus.specs.Array.{listed}
 use Rattle.calculus.specs.Curve.{product, quotient}
 use Rattle.exact_formulas.specs.Kinds.{checked}
-use Rattle.exact.specs.Answer.{refusedCurve, refusedSurface, onCurves}
+use Rattle.exact.specs.Names.{refusedCurve, refusedSurface}
+use Rattle.exact.specs.Answer.{onCurves}
 use Rattle.exact_formulas.specs.Entries.{unlessRefused}
 use Rattle.exact.specs.Composite.{alongCurve}
 use Rattle.roads.specs.declared.Step.{Step}
@@ -26,7 +27,8 @@ use Rattle.derivatives.specs.declared.CurveDerivatives.{CurveDerivatives}
 use Rattle.ieee_vectors.specs.Vectors.{positiveZero}
 use Rattle.formulas.specs.Real.{real}
 use Rattle.formulas.specs.Numbers.{allPass}
-use Rattle.derivatives.specs.Answer as floats
+use Rattle.calculus.specs.JetKind.{refused, byFormula}
+use Rattle.derivatives.specs.Answer.{curves}
 use Rattle.figures.proofs.Figures.{jet, given, curve}
 
 -- 1: a jet of order 21
@@ -68,7 +70,7 @@ with-remainder = refl
 abbrev single : Float → CurveDerivatives
 single x = record { order = 0; entries = x ∷ replicate 20 positiveZero }
 
-pub overflow : floats.onCurves (floats.byFormula (product real)) (single huge) (single huge) ≡ floats.refusedCurve 10
+pub overflow : byFormula curves curves curves (product real) (single huge) (single huge) ≡ refused curves 10
 unfolding choose inTurn add mul ofBits ofInt allPass
 overflow = refl
 

@@ -15,11 +15,12 @@ use Rattle.formulas.proofs.Finite.{stop}
 use Rattle.rodrigues.specs.Rotation.{one}
 use Rattle.contacts.specs.Center.{noContacts, centerContacts as contactsAt}
 use Rattle.contacts.proofs.Solved.{planes-zero, solved}
-use Rattle.rolling_ball_fillet.specs.Center.{edge, radii, placed, refusedContacts, answeredContacts, centerContacts, beyond, short, finiteGiven, returnedContacts, centerContactAnswer}
+use Rattle.rolling_ball_fillet.specs.Center.{radii, placed, refusedContacts, answeredContacts, centerContacts, beyond, short, finiteGiven, returnedContacts, centerContactAnswer}
 use Rattle.rolling_ball_fillet.specs.declared.ContactCircle.{ContactCircle}
 use Rattle.rolling_ball_fillet.specs.declared.RollingBallFilletSurface.{RollingBallFilletSurface}
 use Rattle.rolling_ball_fillet.specs.declared.CenterContactAnswer.{CenterContactAnswer}
 use Rattle.rolling_ball_fillet.proofs.Tested.{asked, within, refused-stays}
+use Rattle.vector_derivatives.specs.Answer.{vectorCurves}
 
 -- ---- 5: a radius that is NaN, of any order up to n + 1
 pub radius-nan : (f : RollingBallFilletSurface) (cc : ContactCircle) (n k : ℕ) → beyond f n ≡ false → short f (n + 1) ≡ false →
@@ -44,7 +45,7 @@ answered : (f : RollingBallFilletSurface) (cc : ContactCircle) (n : ℕ) → noC
 unfolding centerContacts
 answered f cc n e = ap (answeredContacts n) (sym e)
 
-pub normals-equal : (f : RollingBallFilletSurface) (cc : ContactCircle) (n : ℕ) → edge f 1 ≡ x-axis → f .normal0 ≡ z-axis → f .normal1 ≡ z-axis →
+pub normals-equal : (f : RollingBallFilletSurface) (cc : ContactCircle) (n : ℕ) → vectorCurves .numbers (f .«edge_curve») 1 ≡ x-axis → f .normal0 ≡ z-axis → f .normal1 ≡ z-axis →
     beyond f (suc n) ≡ false → short f (suc n + 1) ≡ false → finiteGiven f cc (suc n + 1) ≡ true → centerContactAnswer f cc (suc n) ≡ refusedContacts 6
 normals-equal f cc n e p q b s g =
     let o = placed f cc in

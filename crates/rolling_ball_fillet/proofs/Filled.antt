@@ -6,11 +6,11 @@ use lib.Ieee.{Float}
 use Rattle.ieee_vectors.specs.Vectors.{positiveZero}
 use Rattle.derivatives.specs.declared.CurveDerivatives.{CurveDerivatives}
 use Rattle.derivatives.specs.declared.ParameterCurve.{ParameterCurve}
-use Rattle.derivatives.specs.declared.VectorCurveDerivatives.{VectorCurveDerivatives}
+use Rattle.vector_derivatives.specs.declared.VectorCurveDerivatives.{VectorCurveDerivatives}
 use Rattle.partials.specs.declared.AxisAngle.{AxisAngle}
-use Rattle.rolling_ball_fillet.specs.Jets.{noNumbers}
 use Rattle.rolling_ball_fillet.specs.declared.CenterContactDers.{CenterContactDers}
 use Rattle.rolling_ball_fillet.specs.declared.VderInfoAnswer.{VderInfoAnswer}
+use Rattle.derivatives.specs.Answer.{curves}
 
 abbrev pub vectorJet : ℕ → List Float → VectorCurveDerivatives
 vectorJet n a = record { order = n; entries = a }
@@ -28,7 +28,7 @@ pub same-ders : {a a' b b' c c' : VectorCurveDerivatives} {u u' v v' : Parameter
 same-ders e f g h k = λ i. ders (e i) (f i) (g i) (h i) (k i)
 
 abbrev refusedWith : ℕ → CenterContactDers → VectorCurveDerivatives → VderInfoAnswer
-refusedWith n d a = record { refusal = n; info = record { «cc_ders» = d; «axis_ders» = a; «angle_ders» = noNumbers }; cosine = positiveZero }
+refusedWith n d a = record { refusal = n; info = record { «cc_ders» = d; «axis_ders» = a; «angle_ders» = curves .none }; cosine = positiveZero }
 
 pub same-refused : (n : ℕ) {d d' : CenterContactDers} {a a' : VectorCurveDerivatives} → d ≡ d' → a ≡ a' → refusedWith n d a ≡ refusedWith n d' a'
 same-refused n e f = λ i. refusedWith n (e i) (f i)

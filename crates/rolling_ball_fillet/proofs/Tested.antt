@@ -8,14 +8,14 @@ use lib.ListN.{replicate, getD-replicate}
 use lib.Ieee.{Float, nan, ofBits}
 use lib.Ieee.Scale.{finite}
 use borrow.Author.Tests.{ltb-false}
-use Rattle.booleans.proofs.Tests.{first as taken}
+use Rattle.booleans.proofs.Tests.{first as chosen}
 use Rattle.ieee_vectors.specs.Vectors.{positiveZero}
 use Rattle.ieee_vectors.specs.Finite.{finiteVector}
 use Rattle.vectors.specs.Answers.{returnedVector}
 use Rattle.vectors.specs.declared.VectorAnswer.the-variants.{Refused}
 use Rattle.formulas.specs.Numbers.{curveNumbers, allPass, allFinite, finiteCurve}
 use Rattle.vector_formulas.specs.Vector.{origin, vectorNumbers, allVectorsFinite, finiteVectorCurve}
-use Rattle.derivatives.specs.Answer.{tested, above20}
+use Rattle.calculus.specs.JetKind.{tested, above20}
 use Rattle.derivatives.specs.declared.CurveDerivatives.{CurveDerivatives}
 use Rattle.contacts.proofs.Untouched.{origins}
 use Rattle.rolling_ball_fillet.specs.Center.{radii, refusedContacts, centerContacts, jetsAbove20, beyond, short, finiteGiven, returnedContacts, centerContactAnswer}
@@ -94,4 +94,4 @@ refused-stays c n h =
     let v : finiteVectorCurve (vectorNumbers (replicate 63 positiveZero)) n ≡ true = origins-finite (suc n) (omega arith) in
     let w : finiteVectorCurve (vectorNumbers (replicate 63 positiveZero)) (n + 1) ≡ true = origins-finite (suc (n + 1)) (omega arith) in
     let u : finiteCurve (curveNumbers (replicate 21 positiveZero)) (n + 1) ≡ true = zeros-finite (suc (n + 1)) (omega arith) in
-    taken (refusedContacts c) (refusedContacts 10) (λ i. (v i && (w i && w i)) && ((u i && u i) && (u i && u i)))
+    chosen (refusedContacts c) (refusedContacts 10) (λ i. (v i && (w i && w i)) && ((u i && u i) && (u i && u i)))

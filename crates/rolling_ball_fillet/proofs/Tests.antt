@@ -4,7 +4,7 @@ use mathlib.Core.Bool.{Bool, true, false, _||_}
 use Prim.Native.Nat.{ℕ, _≤_}
 use borrow.Author.Tests.{ltb-false}
 use lib.Dec.{ltb}
-use Rattle.derivatives.specs.Answer.{tested, above20}
+use Rattle.calculus.specs.JetKind.{tested, above20}
 
 -- the tests before the work, each with what is known of it
 pub as-tested : {A : Type 0} (refused : ℕ → A) (r : A) (above20 unfit finite : Bool) {p q s : Bool} → above20 ≡ p → unfit ≡ q → finite ≡ s →

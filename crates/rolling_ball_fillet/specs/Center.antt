@@ -5,34 +5,24 @@ use Prim.Native.Nat.{ℕ, _+_}
 use lib.Dec.{ltb, eqb}
 use lib.Ieee.{Float}
 use Rattle.ieee_vectors.specs.Finite.{finiteVector}
-use Rattle.ieee_vectors.specs.declared.Vector3.{Vector3}
-use Rattle.formulas.specs.Numbers.{curveNumbers, finiteCurve}
-use Rattle.vector_formulas.specs.Vector.{vectorNumbers, vectorSurfaceNumbers, finiteVectorCurve, finiteVectorSurface}
-use Rattle.derivatives.specs.Answer.{tested, above20}
+use Rattle.calculus.specs.JetKind.{finiteUpTo, tested, above20}
 use Rattle.contacts.specs.Center.{centerContacts as contactsAt}
 use Rattle.contacts.specs.declared.Place.{Place}
 use Rattle.contacts.specs.declared.CenterContacts.{CenterContacts}
 use Rattle.rolling_ball_fillet.specs.Answers.{finiteCircle}
-use Rattle.rolling_ball_fillet.specs.Jets.{noDers, finiteJet, finiteParameter}
+use Rattle.rolling_ball_fillet.specs.Jets.{noDers}
 use Rattle.rolling_ball_fillet.specs.declared.ContactCircle.{ContactCircle}
 use Rattle.rolling_ball_fillet.specs.declared.RollingBallFilletSurface.{RollingBallFilletSurface}
 use Rattle.rolling_ball_fillet.specs.declared.CenterContactDers.{CenterContactDers}
 use Rattle.rolling_ball_fillet.specs.declared.CenterContactAnswer.{CenterContactAnswer}
+use Rattle.derivatives.specs.Answer.{curves, parameters}
+use Rattle.vector_derivatives.specs.Answer.{vectorCurves, vectorSurfaces}
 
--- ---- what is given, as jets
-abbrev pub edge : RollingBallFilletSurface → ℕ → Vector3
-edge f = vectorNumbers (f .«edge_curve» .entries)
-
+-- ---- the derivatives of the radius
 abbrev pub radii : RollingBallFilletSurface → ℕ → Float
-radii f = curveNumbers (f .radius .entries)
+radii f = curves .numbers (f .radius)
 
-abbrev pub jet0 : RollingBallFilletSurface → ℕ → ℕ → Vector3
-jet0 f = vectorSurfaceNumbers (f .surface0 .entries)
-
-abbrev pub jet1 : RollingBallFilletSurface → ℕ → ℕ → Vector3
-jet1 f = vectorSurfaceNumbers (f .surface1 .entries)
-
--- ---- and as arrays
+-- ---- what is given, as arrays
 abbrev pub placed : RollingBallFilletSurface → ContactCircle → Place
 placed f cc = record {
   edge = f .«edge_curve» .entries;
@@ -77,23 +67,23 @@ abbrev pub short : RollingBallFilletSurface → ℕ → Bool
 short f n = (ltb (f .«edge_curve» .order) n || ltb (f .radius .order) n) || (ltb (f .surface0 .order) n || ltb (f .surface1 .order) n)
 
 -- the edge up to the order e, the radius up to r, and the surfaces up to s and t
-abbrev pub finiteUpTo : RollingBallFilletSurface → ContactCircle → (e r s t : ℕ) → Bool
-finiteUpTo f cc e r s t =
+abbrev pub finiteParts : RollingBallFilletSurface → ContactCircle → (e r s t : ℕ) → Bool
+finiteParts f cc e r s t =
     (finiteCircle cc && (finiteVector (f .normal0) && finiteVector (f .normal1)))
-    && ((finiteVectorCurve (edge f) e && finiteCurve (radii f) r) && (finiteVectorSurface (jet0 f) s && finiteVectorSurface (jet1 f) t))
+    && ((finiteUpTo vectorCurves (f .«edge_curve») e && finiteUpTo curves (f .radius) r) && (finiteUpTo vectorSurfaces (f .surface0) s && finiteUpTo vectorSurfaces (f .surface1) t))
 
 abbrev pub finiteGiven : RollingBallFilletSurface → ContactCircle → ℕ → Bool
-finiteGiven f cc n = finiteUpTo f cc n n n n
+finiteGiven f cc n = finiteParts f cc n n n n
 
 -- all entries
 abbrev pub finiteWhole : RollingBallFilletSurface → ContactCircle → Bool
-finiteWhole f cc = finiteUpTo f cc (f .«edge_curve» .order) (f .radius .order) (f .surface0 .order) (f .surface1 .order)
+finiteWhole f cc = finiteParts f cc (f .«edge_curve» .order) (f .radius .order) (f .surface0 .order) (f .surface1 .order)
 
 -- ---- and after it: refused jets are finite, and stay what they are
 abbrev pub finiteContacts : CenterContactDers → ℕ → Bool
 finiteContacts d n =
-    (finiteJet (d .«center_ders») n && (finiteJet (d .«contact0_ders») (n + 1) && finiteJet (d .«contact1_ders») (n + 1)))
-    && (finiteParameter (d .«uv0_ders») (n + 1) && finiteParameter (d .«uv1_ders») (n + 1))
+    (finiteUpTo vectorCurves (d .«center_ders») n && (finiteUpTo vectorCurves (d .«contact0_ders») (n + 1) && finiteUpTo vectorCurves (d .«contact1_ders») (n + 1)))
+    && (finiteUpTo parameters (d .«uv0_ders») (n + 1) && finiteUpTo parameters (d .«uv1_ders») (n + 1))
 
 abbrev pub returnedContacts : CenterContactAnswer → ℕ → CenterContactAnswer
 returnedContacts a n = cond (finiteContacts (a .ders) n) a (refusedContacts 10)

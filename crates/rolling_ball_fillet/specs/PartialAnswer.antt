@@ -11,19 +11,21 @@ use Rattle.vectors.specs.declared.VectorAnswer.the-variants.{Refused}
 use Rattle.ieee_vectors.specs.Vectors.{positiveZero}
 use Rattle.vectors.specs.Answers.{returnedVector}
 use Rattle.formulas.specs.Numbers.{curveNumbers}
-use Rattle.derivatives.specs.Answer.{tested}
+use Rattle.calculus.specs.JetKind.{finiteUpTo, tested}
 use Rattle.derivatives.specs.declared.CurveDerivatives.{CurveDerivatives}
 use Rattle.partials.specs.AxisAngle.{axisAngle}
 use Rattle.partials.specs.declared.AxisAngle.{AxisAngle}
 use Rattle.rolling_ball_fillet.specs.Center.{finiteContacts}
-use Rattle.rolling_ball_fillet.specs.Jets.{noVectors, noNumbers, noDers, cutDers, contactsAbove20, shortContacts, finiteJet, finiteNumbers}
+use Rattle.rolling_ball_fillet.specs.Jets.{noDers, cutDers, contactsAbove20, shortContacts}
 use Rattle.rolling_ball_fillet.specs.declared.CenterContactDers.{CenterContactDers}
 use Rattle.rolling_ball_fillet.specs.declared.VderInfo.{VderInfo}
 use Rattle.rolling_ball_fillet.specs.declared.VderInfoAnswer.{VderInfoAnswer}
+use Rattle.derivatives.specs.Answer.{curves}
+use Rattle.vector_derivatives.specs.Answer.{vectorCurves}
 
 -- ---- axis and angle
 abbrev pub refusedInfo : ℕ → VderInfoAnswer
-refusedInfo c = record { refusal = c; info = record { «cc_ders» = noDers; «axis_ders» = noVectors; «angle_ders» = noNumbers }; cosine = positiveZero }
+refusedInfo c = record { refusal = c; info = record { «cc_ders» = noDers; «axis_ders» = vectorCurves .none; «angle_ders» = curves .none }; cosine = positiveZero }
 
 abbrev pub infoOf : CenterContactDers → ℕ → AxisAngle → VderInfo
 infoOf d n a = record {
@@ -41,7 +43,7 @@ vderInfo d r angle n = infoAnswer d n (axisAngle (d .«center_ders» .entries) (
 
 -- the entries up to the order n, those of the contacts and parameters up to n + 1
 abbrev pub finiteInfo : VderInfo → ℕ → Bool
-finiteInfo i n = finiteContacts (i .«cc_ders») n && finiteJet (i .«axis_ders») n && finiteNumbers (i .«angle_ders») n
+finiteInfo i n = finiteContacts (i .«cc_ders») n && finiteUpTo vectorCurves (i .«axis_ders») n && finiteUpTo curves (i .«angle_ders») n
 
 -- 10 where what is answered is not finite; a refusal stays as it is
 abbrev pub returnedInfo : VderInfoAnswer → ℕ → VderInfoAnswer
@@ -55,7 +57,7 @@ abbrev pub short : CenterContactDers → CurveDerivatives → ℕ → Bool
 short d r k = shortContacts d k || ltb (r .order) k
 
 abbrev pub finiteGiven : CenterContactDers → CurveDerivatives → Float → ℕ → Bool
-finiteGiven d r angle n = finiteContacts d n && finiteNumbers r (suc n) && finite angle
+finiteGiven d r angle n = finiteContacts d n && finiteUpTo curves r (suc n) && finite angle
 
 abbrev pub vderInfoAnswer : CenterContactDers → CurveDerivatives → Float → VderInfoAnswer
 vderInfoAnswer d r angle =

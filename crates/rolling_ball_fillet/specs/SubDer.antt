@@ -9,7 +9,7 @@ use Rattle.ieee_vectors.specs.declared.Vector3.{Vector3}
 use Rattle.vectors.specs.declared.VectorAnswer.{VectorAnswer}
 use Rattle.vectors.specs.declared.VectorAnswer.the-variants.{Refused}
 use Rattle.vectors.specs.Answers.{returnedVector, vectorFrom}
-use Rattle.derivatives.specs.Answer.{above20}
+use Rattle.calculus.specs.JetKind.{above20}
 use Rattle.partials.specs.Pairs.{decided, orderOf}
 use Rattle.rolling_ball_fillet.specs.Answers.{derivative}
 use Rattle.rolling_ball_fillet.specs.Center.{radii, centerContacts, jetsAbove20, short, finiteGiven, finiteWhole}

@@ -8,8 +8,8 @@ use crate::VderInfo;
 use crate::VderInfoAnswer;
 use crate::jets;
 use derivatives::CurveDerivatives;
-use derivatives::VectorCurveDerivatives;
 use partials::AxisAngle;
+use vector_derivatives::VectorCurveDerivatives;
 
 // A refusal's number beside zero jets.
 pub fn refused(c: u8) -> VderInfoAnswer

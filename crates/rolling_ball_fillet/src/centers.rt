@@ -10,7 +10,7 @@ use crate::jets;
 use contacts::CenterContacts;
 use contacts::Place;
 use derivatives::ParameterCurve;
-use derivatives::VectorCurveDerivatives;
+use vector_derivatives::VectorCurveDerivatives;
 
 // What is given, as arrays.
 fn placed(f: RollingBallFilletSurface, cc: ContactCircle) -> Place

@@ -2,8 +2,8 @@
 ghost use mathlib.Core.Path.{_≡_};
 ghost use mathlib.Core.Bool.{false};
 ghost use Prim.Native.Nat.{_≤_, _<_};
-ghost use Rattle.derivatives.specs.Answer.{above20 as above20Of};
-ghost use Rattle.rolling_ball_fillet.specs.Center.{jetsAbove20, beyond as beyondOf, short as shortOf, finiteUpTo, finiteGiven, finiteWhole, finiteContacts, returnedContacts};
+ghost use Rattle.calculus.specs.JetKind.{above20 as above20Of};
+ghost use Rattle.rolling_ball_fillet.specs.Center.{jetsAbove20, beyond as beyondOf, short as shortOf, finiteParts, finiteGiven, finiteWhole, finiteContacts, returnedContacts};
 use crate::CenterContactAnswer;
 use crate::CenterContactDers;
 use crate::ContactCircle;
@@ -55,7 +55,7 @@ fn finite_upto(
     t: usize,
 ) -> bool
     requires { ⌜ (e ≤ 20) × (r ≤ 20) × (s ≤ 20) × (t ≤ 20) ⌝ }
-    ensures { λ x. ⌜ x ≡ finiteUpTo f cc e r s t ⌝ }
+    ensures { λ x. ⌜ x ≡ finiteParts f cc e r s t ⌝ }
 {
     let p = f.normal0;
     let q = f.normal1;

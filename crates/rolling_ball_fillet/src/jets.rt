@@ -5,15 +5,18 @@ ghost use Rattle.calculus.specs.Array.{curveArray};
 ghost use Rattle.ieee_vectors.specs.Vectors.{positiveZero};
 ghost use Rattle.formulas.specs.Numbers.{curveNumbers};
 ghost use Rattle.vector_formulas.specs.Vector.{vectorNumbers, vectorSurfaceNumbers, finiteVectorSurface};
-ghost use Rattle.rolling_ball_fillet.specs.Jets.{noVectors, noParameter, noDers, cutVectors, cutParameter, cutDers, contactsAbove20, shortContacts, finiteJet, finiteNumbers, finiteParameter};
+ghost use Rattle.rolling_ball_fillet.specs.Jets.{noDers, cutDers, contactsAbove20, shortContacts};
+ghost use Rattle.derivatives.specs.Answer.{parameters, curves};
+ghost use Rattle.calculus.specs.JetKind.{finiteUpTo, cut};
+ghost use Rattle.vector_derivatives.specs.Answer.{vectorCurves};
 use crate::CenterContactDers;
 use booleans::both;
 use booleans::either;
 use derivatives::CurveDerivatives;
 use derivatives::ParameterCurve;
-use derivatives::VectorCurveDerivatives;
-use derivatives::VectorSurfaceDerivatives;
 use ieee_vectors::Vector3;
+use vector_derivatives::VectorCurveDerivatives;
+use vector_derivatives::VectorSurfaceDerivatives;
 
 // The entry of the order k.
 pub fn vector_of(a: VectorCurveDerivatives, k: usize) -> Vector3
@@ -33,7 +36,7 @@ pub fn number_of(a: CurveDerivatives, k: usize) -> f64
 
 // The zero jets of order 0, which stand beside a refusal.
 pub fn no_vectors() -> VectorCurveDerivatives
-    ensures { λ r. ⌜ r ≡ noVectors ⌝ }
+    ensures { λ r. ⌜ r ≡ vectorCurves .none ⌝ }
 {
     let z = [0.0f64; 63];
     VectorCurveDerivatives {
@@ -43,7 +46,7 @@ pub fn no_vectors() -> VectorCurveDerivatives
 }
 
 fn no_parameter() -> ParameterCurve
-    ensures { λ r. ⌜ r ≡ noParameter ⌝ }
+    ensures { λ r. ⌜ r ≡ parameters .none ⌝ }
 {
     let y = [0.0f64; 21];
     let z = [0.0f64; 21];
@@ -84,7 +87,7 @@ fn cut_numbers(a: &[f64; 21], n: usize) -> [f64; 21]
 
 pub fn cut_vectors(a: VectorCurveDerivatives, n: usize) -> VectorCurveDerivatives
     requires { ⌜ n ≤ 20 ⌝ }
-    ensures { λ r. ⌜ r ≡ cutVectors a n ⌝ }
+    ensures { λ r. ⌜ r ≡ cut vectorCurves a n ⌝ }
 {
     let x = a.entries;
     let y = vector_formulas::cut(&x, n);
@@ -96,7 +99,7 @@ pub fn cut_vectors(a: VectorCurveDerivatives, n: usize) -> VectorCurveDerivative
 
 pub fn cut_parameter(a: ParameterCurve, n: usize) -> ParameterCurve
     requires { ⌜ n ≤ 20 ⌝ }
-    ensures { λ r. ⌜ r ≡ cutParameter a n ⌝ }
+    ensures { λ r. ⌜ r ≡ cut parameters a n ⌝ }
 {
     let u = a.u;
     let v = a.v;
@@ -157,7 +160,7 @@ pub fn short_contacts(d: CenterContactDers, n: usize) -> bool
 // Whether the entries up to the order n are finite.
 pub fn finite_jet(a: VectorCurveDerivatives, n: usize) -> bool
     requires { ⌜ n ≤ 20 ⌝ }
-    ensures { λ r. ⌜ r ≡ finiteJet a n ⌝ }
+    ensures { λ r. ⌜ r ≡ finiteUpTo vectorCurves a n ⌝ }
 {
     let x = a.entries;
     vector_formulas::finite_vectors(&x, n)
@@ -165,7 +168,7 @@ pub fn finite_jet(a: VectorCurveDerivatives, n: usize) -> bool
 
 pub fn finite_numbers(a: CurveDerivatives, n: usize) -> bool
     requires { ⌜ n ≤ 20 ⌝ }
-    ensures { λ r. ⌜ r ≡ finiteNumbers a n ⌝ }
+    ensures { λ r. ⌜ r ≡ finiteUpTo curves a n ⌝ }
 {
     let x = a.entries;
     formulas::finite_curve(&x, n)
@@ -173,7 +176,7 @@ pub fn finite_numbers(a: CurveDerivatives, n: usize) -> bool
 
 pub fn finite_parameter(a: ParameterCurve, n: usize) -> bool
     requires { ⌜ n ≤ 20 ⌝ }
-    ensures { λ r. ⌜ r ≡ finiteParameter a n ⌝ }
+    ensures { λ r. ⌜ r ≡ finiteUpTo parameters a n ⌝ }
 {
     let u = a.u;
     let v = a.v;

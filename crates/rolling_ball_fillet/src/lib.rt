@@ -10,12 +10,12 @@ ghost use Rattle.rolling_ball_fillet.specs.SubDer.{subDerMn};
 use booleans::both;
 use derivatives::CurveDerivatives;
 use derivatives::ParameterCurve;
-use derivatives::VectorCurveDerivatives;
-use derivatives::VectorSurfaceDerivatives;
 use ieee_vectors::Vector2;
 use ieee_vectors::Vector3;
 use partials::EdgePartial;
 pub use rodrigues::Pair;
+use vector_derivatives::VectorCurveDerivatives;
+use vector_derivatives::VectorSurfaceDerivatives;
 use vectors::Matrix3Answer;
 use vectors::VectorAnswer;
 

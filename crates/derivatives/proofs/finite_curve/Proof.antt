@@ -1,7 +1,7 @@
 -- `derivatives::finite_curve` meets its contract. Assumes nothing.
 use mathlib.Core.Path.{_∙_}
 use denote.Ref.{now}
-use Rattle.calculus.proofs.Cut.{uncut}
+use Rattle.calculus.proofs.LoopCut.{uncut}
 use Rattle.formulas.specs.Numbers.{curveNumbers, finiteCurve}
 use borrow.Author.Needs.{needs}
 use Rattle.derivatives.proofs.finite_curve.Statement.{statement}

@@ -1,7 +1,7 @@
 -- `derivatives::index` meets its contract. Assumes nothing.
 use mathlib.Core.Path.{_∙_}
 use Rattle.calculus.specs.Graded.{index}
-use Rattle.calculus.proofs.Cut.{uncut-entry}
+use Rattle.calculus.proofs.LoopCut.{uncut-entry}
 use borrow.Author.Needs.{needs}
 use Rattle.derivatives.proofs.index.Statement.{statement}
 use Rattle.derivatives.proofs.index.Tie as tie

@@ -1,7 +1,7 @@
 -- `derivatives::CurveDerivatives::combinatorial_derivative` meets its contract. Assumes nothing.
 use Rattle.formulas.specs.Numbers.{curveNumbers}
-use Rattle.calculus.proofs.Cut.{uncut}
-use Rattle.derivatives.proofs.Tested.{near-at, at-above-20, at-beyond, at-infinite, at-worked}
+use Rattle.calculus.proofs.LoopCut.{uncut}
+use Rattle.calculus.proofs.Tested.{near-at, at-above-20, at-beyond, at-infinite, at-worked}
 use Rattle.vectors.specs.declared.Real.the-variants.{Refused}
 use Rattle.vectors.specs.Answers.{returned}
 use Rattle.calculus.specs.Curve.{product}
@@ -27,12 +27,22 @@ returns-2 c = let p = c .before in let s = p .before .before .before .args in
     at-beyond curves curves Refused (λ x y. returned (product real x y (s .order))) (s .self) (s .other) (s .order) (p .before .before .above-20-at .ensures) (p .before .if1 .left) (p .smaller .ensures) (c .if2 .taken)
 
 curves-finite-requires : tie.Need-curves-finite-requires
-curves-finite-requires c κs = let p = c .before .before .before .before .before in let s = p .before .before .before .args in
-    near-at (s .self .order) (s .other .order) (s .order) (p .before .before .above-20-at .ensures) (p .before .if1 .left)
+curves-finite-requires c κs =
+    let at-if1 = c .before .before .before .before .before .before in
+    let after-above-20-at = at-if1 .before in
+    let start = after-above-20-at .before in
+    let s = start .args in
+    near-at (s .self .order) (s .other .order) (s .order) (after-above-20-at .above-20-at .ensures) (at-if1 .if1 .left)
 
 returns-3 : tie.Need-returns-3
-returns-3 c = let p = c .before .before .before .before .before .before .before in let s = p .before .before .before .args in
-    at-infinite curves curves Refused (λ x y. returned (product real x y (s .order))) (s .self) (s .other) (s .order) (p .before .before .above-20-at .ensures) (p .before .if1 .left) (p .smaller .ensures) (c .before .before .before .before .before .before .if2 .left) (c .before .curves-finite .ensures) (c .if3 .taken)
+returns-3 c =
+    let at-if2 = c .before .before .before .before .before .before in
+    let after-smaller = at-if2 .before in
+    let at-if1 = after-smaller .before in
+    let after-above-20-at = at-if1 .before in
+    let start = after-above-20-at .before in
+    let s = start .args in
+    at-infinite curves curves Refused (λ x y. returned (product real x y (s .order))) (s .self) (s .other) (s .order) (after-above-20-at .above-20-at .ensures) (at-if1 .if1 .left) (after-smaller .smaller .ensures) (at-if2 .if2 .left) (c .before .curves-finite .ensures) (c .if3 .taken)
 
 product-requires : tie.Need-product-requires
 product-requires c κs = search needs
@@ -41,10 +51,17 @@ returned-requires : tie.Need-returned-requires
 returned-requires c κs = search needs
 
 returns-4 : tie.Need-returns-4
-returns-4 c = let q = c .before .before .before .before in
-    let p = q .before .before .before .before .before .before .before in let s = p .before .before .before .args in
-    c .returned .ensures ∙ ap returned (c .before .product .ensures ∙ uncut (product real (curveNumbers (s .self .entries)) (curveNumbers (s .other .entries))) (near-at (s .self .order) (s .other .order) (s .order) (p .before .before .above-20-at .ensures) (p .before .if1 .left)))
-    ∙ at-worked curves curves Refused (λ x y. returned (product real x y (s .order))) (s .self) (s .other) (s .order) (p .before .before .above-20-at .ensures) (p .before .if1 .left) (p .smaller .ensures) (q .before .before .before .before .before .before .if2 .left) (q .before .curves-finite .ensures) (q .if3 .left)
+returns-4 c =
+    let at-if3 = c .before .before .before .before in
+    let after-curves-finite = at-if3 .before in
+    let at-if2 = after-curves-finite .before .before .before .before .before in
+    let after-smaller = at-if2 .before in
+    let at-if1 = after-smaller .before in
+    let after-above-20-at = at-if1 .before in
+    let start = after-above-20-at .before in
+    let s = start .args in
+    c .returned .ensures ∙ ap returned (c .before .product .ensures ∙ uncut (product real (curveNumbers (s .self .entries)) (curveNumbers (s .other .entries))) (near-at (s .self .order) (s .other .order) (s .order) (after-above-20-at .above-20-at .ensures) (at-if1 .if1 .left)))
+    ∙ at-worked curves curves Refused (λ x y. returned (product real x y (s .order))) (s .self) (s .other) (s .order) (after-above-20-at .above-20-at .ensures) (at-if1 .if1 .left) (after-smaller .smaller .ensures) (at-if2 .if2 .left) (after-curves-finite .curves-finite .ensures) (at-if3 .if3 .left)
 
 pub combinatorial-derivative-spec : {M : Type 1} → statement M
 combinatorial-derivative-spec = tie.close (tie.spec above-20-at-requires returns smaller-requires returns-2 curves-finite-requires returns-3 product-requires returned-requires returns-4)

@@ -1,8 +1,6 @@
 -- `derivatives::CurveDerivatives::into_list` meets its contract. Assumes nothing.
-use Rattle.derivatives.proofs.Tested.{pair, into-above-20, into-length, into-infinite, into-worked}
-use Rattle.calculus.specs.Order.{curveEntries}
+use Rattle.calculus.proofs.Tested.{pair, into-above-20, into-length, into-infinite, into-worked}
 use Rattle.derivatives.specs.Answer.{curves}
-use Prim.Native.Nat.{suc}
 use native.Mathlib.Numerals.{add-one}
 use denote.Ref.{now}
 use mathlib.Core.Path.{ap, _∙_}
@@ -12,21 +10,25 @@ use Rattle.derivatives.proofs.CurveDerivatives.into_list.Tie as tie
 
 returns : tie.Need-returns
 returns c = let s = c .before .before .args in
-    into-above-20 curves (suc) (curveEntries) (s .self) (now (s .out)) (c .if1 .taken)
+    into-above-20 curves (s .self) (now (s .out)) (c .if1 .taken)
 
 add-if2 : tie.Need-add-if2
 add-if2 c = search needs
 
 returns-2 : tie.Need-returns-2
 returns-2 c = let q = c .before in let s = q .before .before .args in
-    into-length curves (suc) (curveEntries) (s .self) (now (s .out)) (q .if1 .left) (add-one (s .self .order)) (c .if2 .taken)
+    into-length curves (s .self) (now (s .out)) (q .if1 .left) (add-one (s .self .order)) (c .if2 .taken)
 
 finite-curve-requires : tie.Need-finite-curve-requires
 finite-curve-requires c κs = search needs
 
 returns-3 : tie.Need-returns-3
-returns-3 c = let q = c .before .before .before .before .before in let s = q .before .before .args in
-    into-infinite curves (suc) (curveEntries) (s .self) (now (s .out)) (q .if1 .left) (add-one (s .self .order)) (c .before .before .before .before .if2 .left) (c .before .finite-curve .ensures) (c .if3 .taken)
+returns-3 c =
+    let at-if2 = c .before .before .before .before in
+    let at-if1 = at-if2 .before in
+    let start = at-if1 .before .before in
+    let s = start .args in
+    into-infinite curves (s .self) (now (s .out)) (at-if1 .if1 .left) (add-one (s .self .order)) (at-if2 .if2 .left) (c .before .finite-curve .ensures) (c .if3 .taken)
 
 write-requires : tie.Need-write-requires
 write-requires c κs = search needs
@@ -35,9 +37,15 @@ same-length : tie.Need-same-length
 same-length c = search needs
 
 returns-4 : tie.Need-returns-4
-returns-4 c = let q = c .before .before .before .before .before .before .before .before .before .before in let s = q .before .before .args in
+returns-4 c =
+    let at-if3 = c .before .before .before .before .before in
+    let after-finite-curve = at-if3 .before in
+    let at-if2 = after-finite-curve .before .before .before in
+    let at-if1 = at-if2 .before in
+    let start = at-if1 .before .before in
+    let s = start .args in
     ap (pair 0) (c .before .before .write .ensures)
-    ∙ into-worked curves (suc) (curveEntries) (s .self) (now (s .out)) (q .if1 .left) (add-one (s .self .order)) (c .before .before .before .before .before .before .before .before .before .if2 .left) (c .before .before .before .before .before .before .finite-curve .ensures) (c .before .before .before .before .before .if3 .left)
+    ∙ into-worked curves (s .self) (now (s .out)) (at-if1 .if1 .left) (add-one (s .self .order)) (at-if2 .if2 .left) (after-finite-curve .finite-curve .ensures) (at-if3 .if3 .left)
 
 pub into-list-spec : {M : Type 1} → statement M
 into-list-spec = tie.close (tie.spec returns add-if2 returns-2 finite-curve-requires returns-3 write-requires same-length returns-4)

@@ -2,10 +2,10 @@
 use mathlib.Core.List.{List}
 use lib.Ieee.{Float}
 use Rattle.formulas.proofs.Curves.{CurveFilled}
-use Rattle.derivatives.specs.Answer.{madeCurve}
+use Rattle.derivatives.specs.Names.{madeCurve}
 use Rattle.formulas.specs.Numbers.{curveNumbers}
 use Rattle.ieee_vectors.specs.Vectors.{positiveZero}
-use Rattle.calculus.proofs.Filling.{curve-none, curve-more, curve-all}
+use Rattle.calculus.proofs.LoopFilling.{curve-none, curve-more, curve-all}
 use lib.Ieee.{nan}
 use denote.Ref.{now}
 use mathlib.Core.Path.{_≡_, refl, sym, ap}

@@ -37,9 +37,12 @@ read-requires-2 : tie.Need-read-requires-2
 read-requires-2 c κs = search needs
 
 returns-3 : tie.Need-returns-3
-returns-3 c = let s = c .before .before .before .before .before .args in
+returns-3 c =
+    let at-if1 = c .before .before .before in
+    let start = at-if1 .before .before in
+    let s = start .args in
     parameter-made (s .order) (now (s .list)) (c .before .read .ensures) (c .read2 .ensures)
-    ∙ rw (le-ltb 20 (s .order) (c .before .before .before .if1 .left), eq-eqb (length (now (s .list))) (2 * suc (s .order)) (c .before .before .if2 .left ∙ ap (_*_ 2) (add-one (s .order))))
+    ∙ rw (le-ltb 20 (s .order) (at-if1 .if1 .left), eq-eqb (length (now (s .list))) (2 * suc (s .order)) (c .before .before .if2 .left ∙ ap (_*_ 2) (add-one (s .order))))
 
 pub parameter-spec : {M : Type 1} → statement M
 parameter-spec =

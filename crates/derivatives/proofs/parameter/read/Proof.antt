@@ -2,7 +2,7 @@
 use Rattle.derivatives.proofs.Parameters.{every}
 use Rattle.formulas.proofs.Curves.{CurveFilled}
 use Rattle.ieee_vectors.specs.Vectors.{positiveZero}
-use Rattle.calculus.proofs.Filling.{curve-none, curve-more, curve-all}
+use Rattle.calculus.proofs.LoopFilling.{curve-none, curve-more, curve-all}
 use lib.Ieee.{nan}
 use denote.Ref.{now}
 use mathlib.Core.Path.{_≡_, refl, sym}

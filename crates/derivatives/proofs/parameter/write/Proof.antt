@@ -1,7 +1,8 @@
 -- `derivatives::parameter::write` meets its contract. The invariant: the first m pairs are written. Assumes nothing.
-use Rattle.derivatives.proofs.Parameters.{begin, left, end, pairs-length, two-more}
-use Rattle.calculus.proofs.Writing.{Writing, writing-begins, writing-ends}
-use Rattle.derivatives.specs.Answer.{pairs}
+use Rattle.derivatives.proofs.Parameters.{two-more}
+use Rattle.calculus.proofs.LoopPairs.{pairsLeft, pairs-start, pairs-end, pairs-length}
+use Rattle.calculus.proofs.LoopWriting.{Writing, writing-begins, writing-ends}
+use Rattle.calculus.specs.Order.{pairs}
 use Rattle.formulas.specs.Numbers.{curveNumbers}
 use lib.ListN.{length-set}
 use Prim.Native.Nat.{_*_}
@@ -14,13 +15,13 @@ use Rattle.derivatives.proofs.parameter.write.Statement.{statement}
 use Rattle.derivatives.proofs.parameter.write.Tie as tie
 
 abbrev Inv-loop : tie.InvT-loop
-Inv-loop u v n out₀ m₀ out m = Writing (pairs (curveNumbers u) (curveNumbers v) 0 (suc n)) out (left (curveNumbers u) (curveNumbers v) n m) (2 * m) × (m ≤ suc n)
+Inv-loop u v n out₀ m₀ out m = Writing (pairs (curveNumbers u) (curveNumbers v) 0 (suc n)) out (pairsLeft (curveNumbers u) (curveNumbers v) n m) (2 * m) × (m ≤ suc n)
 
 abbrev μ-loop : tie.MeasureT-loop
 μ-loop u v n out₀ m₀ out m = suc n - m
 
 loop-holds : tie.Need-loop-holds Inv-loop μ-loop
-loop-holds c = (writing-begins (pairs (curveNumbers (now (c .args .u))) (curveNumbers (now (c .args .v))) 0 (suc (c .args .n))) (now (c .args .out)) (begin (curveNumbers (now (c .args .u))) (curveNumbers (now (c .args .v))) (c .args .n)) (c .pre .1 ∙ sym (pairs-length (curveNumbers (now (c .args .u))) (curveNumbers (now (c .args .v))) 0 (suc (c .args .n)))), omega arith)
+loop-holds c = (writing-begins (pairs (curveNumbers (now (c .args .u))) (curveNumbers (now (c .args .v))) 0 (suc (c .args .n))) (now (c .args .out)) (pairs-start (curveNumbers (now (c .args .u))) (curveNumbers (now (c .args .v))) (c .args .n)) (c .pre .1 ∙ sym (pairs-length (curveNumbers (now (c .args .u))) (curveNumbers (now (c .args .v))) 0 (suc (c .args .n)))), omega arith)
 
 mul-k : tie.Need-mul-k Inv-loop μ-loop
 mul-k c = search needs
@@ -65,7 +66,7 @@ same-length : tie.Need-same-length Inv-loop μ-loop
 same-length c = c .before .loop .inv .0 .long ∙ pairs-length (curveNumbers (now (c .before .before .args .u))) (curveNumbers (now (c .before .before .args .v))) 0 (suc (c .before .before .args .n)) ∙ sym (c .before .before .pre .1)
 
 returns : tie.Need-returns Inv-loop μ-loop
-returns c = writing-ends (pairs (curveNumbers (now (c .before .before .args .u))) (curveNumbers (now (c .before .before .args .v))) 0 (suc (c .before .before .args .n))) (c .before .loop .inv .0) (end (curveNumbers (now (c .before .before .args .u))) (curveNumbers (now (c .before .before .args .v))) (c .before .before .args .n) (c .before .loop .m) (c .loop-test .left))
+returns c = writing-ends (pairs (curveNumbers (now (c .before .before .args .u))) (curveNumbers (now (c .before .before .args .v))) 0 (suc (c .before .before .args .n))) (c .before .loop .inv .0) (pairs-end (curveNumbers (now (c .before .before .args .u))) (curveNumbers (now (c .before .before .args .v))) (c .before .before .args .n) (c .loop-test .left))
 
 pub write-spec : {M : Type 1} → statement M
 write-spec =

@@ -1,7 +1,7 @@
 -- `derivatives::surface::read` meets its contract. The invariant: the entries passed stand in the array. Assumes nothing.
-use Rattle.derivatives.specs.Answer.{madeSurface}
+use Rattle.derivatives.specs.Names.{madeSurface}
 use Rattle.calculus.proofs.Graded.{room-231, index-231}
-use Rattle.calculus.proofs.Places.{row-turn, list-place}
+use Rattle.calculus.proofs.LoopPlaces.{row-turn, list-place}
 use Rattle.calculus.specs.Order.{rowStart, listPlace}
 use lib.ListN.{getD}
 use lib.Ieee.{nan}
@@ -32,7 +32,10 @@ mul-r : tie.Need-mul-r Inv-loop μ-loop
 mul-r c = omega (arith, list-place (c .before .before .before .before .args .n) (c .before .before .loop .i) (c .before .before .loop .j) (c .before .before .loop .inv .0 .1 .inside .1 (c .before .loop-test .taken)))
 
 shared-slice-read-r : tie.Need-shared-slice-read-r Inv-loop μ-loop
-shared-slice-read-r c = omega (arith, list-place (c .before .before .before .before .before .args .n) (c .before .before .before .loop .i) (c .before .before .before .loop .j) (c .before .before .before .loop .inv .0 .1 .inside .1 (c .before .before .loop-test .taken)))
+shared-slice-read-r c =
+    let round = c .before .before .before in
+    let start = round .before .before in
+    omega (arith, list-place (start .args .n) (round .loop .i) (round .loop .j) (round .loop .inv .0 .1 .inside .1 (c .before .before .loop-test .taken)))
 
 mul-r-2 : tie.Need-mul-r-2 Inv-loop μ-loop
 mul-r-2 c = omega (arith, c .before .index .ensures, index-231 (c .before .before .before .loop .i) (c .before .before .before .loop .j) (omega (arith, c .before .before .before .loop .inv .0 .1 .inside .1 (c .before .before .loop-test .taken))))
@@ -41,7 +44,10 @@ array-write-r : tie.Need-array-write-r Inv-loop μ-loop
 array-write-r c = omega (arith, c .before .index .ensures, index-231 (c .before .before .before .loop .i) (c .before .before .before .loop .j) (omega (arith, c .before .before .before .loop .inv .0 .1 .inside .1 (c .before .before .loop-test .taken))))
 
 add-l : tie.Need-add-l Inv-loop μ-loop
-add-l c = omega (arith, room-231 (c .before .before .before .before .before .args .n) (c .before .before .before .loop .inv .0 .0), list-place (c .before .before .before .before .before .args .n) (c .before .before .before .loop .i) (c .before .before .before .loop .j) (c .before .before .before .loop .inv .0 .1 .inside .1 (c .before .before .loop-test .taken)))
+add-l c =
+    let round = c .before .before .before in
+    let start = round .before .before in
+    omega (arith, room-231 (start .args .n) (round .loop .inv .0 .0), list-place (start .args .n) (round .loop .i) (round .loop .j) (round .loop .inv .0 .1 .inside .1 (c .before .before .loop-test .taken)))
 
 add-j : tie.Need-add-j Inv-loop μ-loop
 add-j c = omega (arith, c .before .before .before .loop .inv .0 .1 .inside .1 (c .before .before .loop-test .taken))
@@ -56,19 +62,25 @@ loop-less : tie.Need-loop-less Inv-loop μ-loop
 loop-less c = omega (arith, c .before .before .before .before .loop .inv .0 .1 .inside .1 (c .before .before .before .loop-test .taken))
 
 loop-again : tie.Need-loop-again Inv-loop μ-loop
-loop-again c = (
-  (c .before .before .before .before .loop .inv .0 .0, rw (c .before .before .index .ensures) (surface-turns (λ x y. getD (now (c .before .before .before .before .before .before .args .list)) (listPlace (c .before .before .before .before .before .before .args .n) x y) nan) (c .before .before .before .before .loop .inv .0 .0) (c .before .before .before .before .loop .inv .0 .1) (c .before .before .before .loop-test .taken) (ap (λ (k : ℕ). getD (now (c .before .before .before .before .before .before .args .list)) k nan) (sym (c .before .before .before .before .loop .inv .1))) (c .if1 .taken))),
-  omega (arith, row-turn (c .before .before .before .before .before .before .args .n) (c .before .before .before .before .loop .i), c .before .before .before .before .loop .inv .1, c .before .before .before .before .loop .inv .0 .1 .inside .1 (c .before .before .before .loop-test .taken)),
-)
+loop-again c =
+    let at-test = c .before .before .before in
+    let round = at-test .before in
+    let start = round .before .before in (
+      (round .loop .inv .0 .0, rw (c .before .before .index .ensures) (surface-turns (λ x y. getD (now (start .args .list)) (listPlace (start .args .n) x y) nan) (round .loop .inv .0 .0) (round .loop .inv .0 .1) (at-test .loop-test .taken) (ap (λ (k : ℕ). getD (now (start .args .list)) k nan) (sym (round .loop .inv .1))) (c .if1 .taken))),
+      omega (arith, row-turn (start .args .n) (round .loop .i), round .loop .inv .1, round .loop .inv .0 .1 .inside .1 (at-test .loop-test .taken)),
+    )
 
 loop-less-2 : tie.Need-loop-less-2 Inv-loop μ-loop
 loop-less-2 c = omega (arith, c .before .before .before .before .loop .inv .0 .1 .inside .1 (c .before .before .before .loop-test .taken))
 
 loop-again-2 : tie.Need-loop-again-2 Inv-loop μ-loop
-loop-again-2 c = (
-  (c .before .before .before .before .loop .inv .0 .0, rw (c .before .before .index .ensures) (surface-goes-on (λ x y. getD (now (c .before .before .before .before .before .before .args .list)) (listPlace (c .before .before .before .before .before .before .args .n) x y) nan) (c .before .before .before .before .loop .inv .0 .0) (c .before .before .before .before .loop .inv .0 .1) (c .before .before .before .loop-test .taken) (ap (λ (k : ℕ). getD (now (c .before .before .before .before .before .before .args .list)) k nan) (sym (c .before .before .before .before .loop .inv .1))) (c .if1 .left))),
-  omega (arith, c .before .before .before .before .loop .inv .1),
-)
+loop-again-2 c =
+    let at-test = c .before .before .before in
+    let round = at-test .before in
+    let start = round .before .before in (
+      (round .loop .inv .0 .0, rw (c .before .before .index .ensures) (surface-goes-on (λ x y. getD (now (start .args .list)) (listPlace (start .args .n) x y) nan) (round .loop .inv .0 .0) (round .loop .inv .0 .1) (at-test .loop-test .taken) (ap (λ (k : ℕ). getD (now (start .args .list)) k nan) (sym (round .loop .inv .1))) (c .if1 .left))),
+      omega (arith, round .loop .inv .1),
+    )
 
 returns : tie.Need-returns Inv-loop μ-loop
 returns c = ap (madeSurface (c .before .before .before .args .n)) (surface-ends (λ x y. getD (now (c .before .before .before .args .list)) (listPlace (c .before .before .before .args .n) x y) nan) (c .before .loop .inv .0 .0) (c .before .loop .inv .0 .1) (c .loop-test .left))

@@ -2,7 +2,7 @@
 use mathlib.Core.Path.{sym, ap, _∙_}
 use native.Mathlib.Omega.{arith}
 use denote.Ref.{now}
-use Rattle.calculus.proofs.Cut.{uncut}
+use Rattle.calculus.proofs.LoopCut.{uncut}
 use Rattle.calculus.specs.declared.By.{By}
 use Rattle.calculus.specs.Surface.{derivativeU, derivativeV, derivativeBy}
 use Rattle.calculus.specs.Array.{surfaceArray}

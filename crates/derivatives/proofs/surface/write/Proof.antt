@@ -1,6 +1,6 @@
 -- `derivatives::surface::write` meets its contract. The invariant: the entries passed are written. Assumes nothing.
-use Rattle.calculus.proofs.Writing.{Writing, writing-begins, in-list, writing-goes-on, writing-turns, writing-ends, rows-length}
-use Rattle.calculus.proofs.Left.{Inside, surfaceLeft, surface-start, surface-next, surface-row, surface-end}
+use Rattle.calculus.proofs.LoopWriting.{Writing, writing-begins, in-list, writing-goes-on, writing-turns, writing-ends, rows-length}
+use Rattle.calculus.proofs.LoopLeft.{Inside, surfaceLeft, surface-start, surface-next, surface-row, surface-end}
 use Rattle.calculus.proofs.Graded.{room-231, index-231}
 use Rattle.calculus.specs.Order.{surfaceEntries}
 use lib.ListN.{length}
@@ -33,15 +33,24 @@ element-copy-out-out : tie.Need-element-copy-out-out Inv-loop μ-loop
 element-copy-out-out c = omega (arith, c .index .ensures, index-231 (c .before .before .loop .i) (c .before .before .loop .j) (omega (arith, c .before .before .loop .inv .1 .1 (c .before .loop-test .taken))))
 
 mul-out-2 : tie.Need-mul-out-2 Inv-loop μ-loop
-mul-out-2 c = let h : c .before .before .before .loop .l < length (c .before .before .before .loop .out) = in-list (surfaceEntries (surfaceNumbers (now (c .before .before .before .before .before .args .a))) (c .before .before .before .before .before .args .n)) (c .before .before .before .loop .inv .0) (surface-next (surfaceNumbers (now (c .before .before .before .before .before .args .a))) (c .before .before .before .before .before .args .n) (c .before .before .before .loop .i) (c .before .before .before .loop .j) (c .before .before .before .loop .inv .1 .1 (c .before .before .loop-test .taken))) in
-    omega (arith, h, c .before .before .before .loop .inv .0 .long, rows-length (surfaceNumbers (now (c .before .before .before .before .before .args .a))) 0 (suc (c .before .before .before .before .before .args .n)), room-231 (c .before .before .before .before .before .args .n) (c .before .before .before .before .before .pre .0))
+mul-out-2 c =
+    let round = c .before .before .before in
+    let start = round .before .before in
+    let h : round .loop .l < length (round .loop .out) = in-list (surfaceEntries (surfaceNumbers (now (start .args .a))) (start .args .n)) (round .loop .inv .0) (surface-next (surfaceNumbers (now (start .args .a))) (start .args .n) (round .loop .i) (round .loop .j) (round .loop .inv .1 .1 (c .before .before .loop-test .taken))) in
+    omega (arith, h, round .loop .inv .0 .long, rows-length (surfaceNumbers (now (start .args .a))) 0 (suc (start .args .n)), room-231 (start .args .n) (start .pre .0))
 
 slice-write-out : tie.Need-slice-write-out Inv-loop μ-loop
-slice-write-out c = in-list (surfaceEntries (surfaceNumbers (now (c .before .before .before .before .before .args .a))) (c .before .before .before .before .before .args .n)) (c .before .before .before .loop .inv .0) (surface-next (surfaceNumbers (now (c .before .before .before .before .before .args .a))) (c .before .before .before .before .before .args .n) (c .before .before .before .loop .i) (c .before .before .before .loop .j) (c .before .before .before .loop .inv .1 .1 (c .before .before .loop-test .taken)))
+slice-write-out c =
+    let round = c .before .before .before in
+    let start = round .before .before in
+    in-list (surfaceEntries (surfaceNumbers (now (start .args .a))) (start .args .n)) (round .loop .inv .0) (surface-next (surfaceNumbers (now (start .args .a))) (start .args .n) (round .loop .i) (round .loop .j) (round .loop .inv .1 .1 (c .before .before .loop-test .taken)))
 
 add-l : tie.Need-add-l Inv-loop μ-loop
-add-l c = let h : c .before .before .before .loop .l < length (c .before .before .before .loop .out) = in-list (surfaceEntries (surfaceNumbers (now (c .before .before .before .before .before .args .a))) (c .before .before .before .before .before .args .n)) (c .before .before .before .loop .inv .0) (surface-next (surfaceNumbers (now (c .before .before .before .before .before .args .a))) (c .before .before .before .before .before .args .n) (c .before .before .before .loop .i) (c .before .before .before .loop .j) (c .before .before .before .loop .inv .1 .1 (c .before .before .loop-test .taken))) in
-    omega (arith, h, c .before .before .before .loop .inv .0 .long, rows-length (surfaceNumbers (now (c .before .before .before .before .before .args .a))) 0 (suc (c .before .before .before .before .before .args .n)), room-231 (c .before .before .before .before .before .args .n) (c .before .before .before .before .before .pre .0))
+add-l c =
+    let round = c .before .before .before in
+    let start = round .before .before in
+    let h : round .loop .l < length (round .loop .out) = in-list (surfaceEntries (surfaceNumbers (now (start .args .a))) (start .args .n)) (round .loop .inv .0) (surface-next (surfaceNumbers (now (start .args .a))) (start .args .n) (round .loop .i) (round .loop .j) (round .loop .inv .1 .1 (c .before .before .loop-test .taken))) in
+    omega (arith, h, round .loop .inv .0 .long, rows-length (surfaceNumbers (now (start .args .a))) 0 (suc (start .args .n)), room-231 (start .args .n) (start .pre .0))
 
 add-j : tie.Need-add-j Inv-loop μ-loop
 add-j c = omega (arith, c .before .before .before .loop .inv .1 .1 (c .before .before .loop-test .taken))
@@ -56,13 +65,21 @@ loop-less : tie.Need-loop-less Inv-loop μ-loop
 loop-less c = omega (arith, c .before .before .before .before .loop .inv .1 .1 (c .before .before .before .loop-test .taken))
 
 loop-again : tie.Need-loop-again Inv-loop μ-loop
-loop-again c = (writing-turns (surfaceEntries (surfaceNumbers (now (c .before .before .before .before .before .before .args .a))) (c .before .before .before .before .before .before .args .n)) (rw (c .before .before .index .ensures) (writing-goes-on (surfaceEntries (surfaceNumbers (now (c .before .before .before .before .before .before .args .a))) (c .before .before .before .before .before .before .args .n)) (c .before .before .before .before .loop .inv .0) (surface-next (surfaceNumbers (now (c .before .before .before .before .before .before .args .a))) (c .before .before .before .before .before .before .args .n) (c .before .before .before .before .loop .i) (c .before .before .before .before .loop .j) (c .before .before .before .before .loop .inv .1 .1 (c .before .before .before .loop-test .taken))))) (surface-row (surfaceNumbers (now (c .before .before .before .before .before .before .args .a))) (c .before .before .before .before .before .before .args .n) (c .before .before .before .before .loop .i) (c .before .before .before .before .loop .j + 1) (c .if1 .taken)), (omega arith, λ h. omega arith))
+loop-again c =
+    let at-test = c .before .before .before in
+    let round = at-test .before in
+    let start = round .before .before in
+    (writing-turns (surfaceEntries (surfaceNumbers (now (start .args .a))) (start .args .n)) (rw (c .before .before .index .ensures) (writing-goes-on (surfaceEntries (surfaceNumbers (now (start .args .a))) (start .args .n)) (round .loop .inv .0) (surface-next (surfaceNumbers (now (start .args .a))) (start .args .n) (round .loop .i) (round .loop .j) (round .loop .inv .1 .1 (at-test .loop-test .taken))))) (surface-row (surfaceNumbers (now (start .args .a))) (start .args .n) (round .loop .i) (round .loop .j + 1) (c .if1 .taken)), (omega arith, λ h. omega arith))
 
 loop-less-2 : tie.Need-loop-less-2 Inv-loop μ-loop
 loop-less-2 c = omega (arith, c .before .before .before .before .loop .inv .1 .1 (c .before .before .before .loop-test .taken))
 
 loop-again-2 : tie.Need-loop-again-2 Inv-loop μ-loop
-loop-again-2 c = (rw (c .before .before .index .ensures) (writing-goes-on (surfaceEntries (surfaceNumbers (now (c .before .before .before .before .before .before .args .a))) (c .before .before .before .before .before .before .args .n)) (c .before .before .before .before .loop .inv .0) (surface-next (surfaceNumbers (now (c .before .before .before .before .before .before .args .a))) (c .before .before .before .before .before .before .args .n) (c .before .before .before .before .loop .i) (c .before .before .before .before .loop .j) (c .before .before .before .before .loop .inv .1 .1 (c .before .before .before .loop-test .taken)))), (omega arith, λ h. c .if1 .left))
+loop-again-2 c =
+    let at-test = c .before .before .before in
+    let round = at-test .before in
+    let start = round .before .before in
+    (rw (c .before .before .index .ensures) (writing-goes-on (surfaceEntries (surfaceNumbers (now (start .args .a))) (start .args .n)) (round .loop .inv .0) (surface-next (surfaceNumbers (now (start .args .a))) (start .args .n) (round .loop .i) (round .loop .j) (round .loop .inv .1 .1 (at-test .loop-test .taken)))), (omega arith, λ h. c .if1 .left))
 
 same-length : tie.Need-same-length Inv-loop μ-loop
 same-length c = c .before .loop .inv .0 .long ∙ rows-length (surfaceNumbers (now (c .before .before .before .args .a))) 0 (suc (c .before .before .before .args .n)) ∙ sym (c .before .before .before .pre .1)

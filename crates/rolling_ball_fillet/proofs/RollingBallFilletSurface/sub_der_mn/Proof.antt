@@ -5,7 +5,7 @@ use Rattle.partials.specs.declared.Decision.{Decision}
 use Rattle.partials.specs.Pairs.{decided}
 use Rattle.rolling_ball_fillet.specs.SubDer.{byDecision}
 use Rattle.rolling_ball_fillet.specs.Center.{jetsAbove20}
-use Rattle.derivatives.specs.Answer.{above20}
+use Rattle.calculus.specs.JetKind.{above20}
 use Rattle.rolling_ball_fillet.proofs.Tests.{or-right}
 use borrow.Author.Needs.{needs}
 use mathlib.Core.Path.{sym, ap, _∙_}

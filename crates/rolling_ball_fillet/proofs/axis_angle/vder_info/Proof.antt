@@ -4,7 +4,7 @@ use denote.Ref.{now}
 use native.Mathlib.Omega.{arith}
 use mathlib.Core.Path.{ap, _∙_}
 use Prim.Native.Nat.{_≤_}
-use Rattle.calculus.proofs.Cut.{uncut}
+use Rattle.calculus.proofs.LoopCut.{uncut}
 use Rattle.formulas.specs.Numbers.{curveNumbers}
 use Rattle.partials.specs.AxisAngle.{axisAngle}
 use Rattle.rolling_ball_fillet.specs.PartialAnswer.{infoAnswer}

@@ -3,7 +3,7 @@ use borrow.Author.Needs.{needs}
 use native.Mathlib.Omega.{arith}
 use mathlib.Core.Path.{ap, _∙_}
 use Prim.Native.Nat.{_≤_, min}
-use Rattle.calculus.proofs.Cut.{uncut}
+use Rattle.calculus.proofs.LoopCut.{uncut}
 use Rattle.contacts.specs.Center.{centerContacts as contactsAt}
 use Rattle.contacts.specs.declared.Place.{Place}
 use Rattle.rolling_ball_fillet.specs.Center.{placed, answeredContacts, centerContacts}

@@ -1,9 +1,11 @@
 -- `cut_ders` meets its contract. Assumes nothing.
 use native.Mathlib.Numerals.{add-one}
-use Rattle.rolling_ball_fillet.specs.Jets.{cutVectors, cutParameter}
 use Rattle.rolling_ball_fillet.proofs.Filled.{same-ders}
 use borrow.Author.Needs.{needs}
 use mathlib.Core.Path.{ap, _∙_}
+use Rattle.calculus.specs.JetKind.{cut}
+use Rattle.derivatives.specs.Answer.{parameters}
+use Rattle.vector_derivatives.specs.Answer.{vectorCurves}
 use Rattle.rolling_ball_fillet.proofs.jets.cut_ders.Statement.{statement}
 use Rattle.rolling_ball_fillet.proofs.jets.cut_ders.Tie as tie
 
@@ -29,8 +31,8 @@ returns : tie.Need-returns
 returns c =
     let d = c .before .before .before .before .before .args .d in
     let k = add-one (c .before .before .before .before .before .args .n) in
-    same-ders (c .before .before .before .before .cut-vectors .ensures) (c .before .before .before .cut-vectors2 .ensures ∙ ap (cutVectors (d .«contact0_ders»)) k) (c .before .before .cut-vectors3 .ensures ∙ ap (cutVectors (d .«contact1_ders»)) k)
-    (c .before .cut-parameter .ensures ∙ ap (cutParameter (d .«uv0_ders»)) k) (c .cut-parameter2 .ensures ∙ ap (cutParameter (d .«uv1_ders»)) k)
+    same-ders (c .before .before .before .before .cut-vectors .ensures) (c .before .before .before .cut-vectors2 .ensures ∙ ap (cut vectorCurves (d .«contact0_ders»)) k) (c .before .before .cut-vectors3 .ensures ∙ ap (cut vectorCurves (d .«contact1_ders»)) k)
+    (c .before .cut-parameter .ensures ∙ ap (cut parameters (d .«uv0_ders»)) k) (c .cut-parameter2 .ensures ∙ ap (cut parameters (d .«uv1_ders»)) k)
 
 pub cut-ders-spec : {M : Type 1} → statement M
 cut-ders-spec =

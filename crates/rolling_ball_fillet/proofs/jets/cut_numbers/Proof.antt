@@ -1,6 +1,5 @@
 -- `cut_numbers` meets its contract. Assumes nothing.
-use Rattle.formulas.proofs.Curves.{CurveFilled}
-use Rattle.partials.proofs.Filled.{numbers-none, numbers-more, numbers-all}
+use Rattle.formulas.proofs.Curves.{CurveFilled, numbers-none, numbers-more, numbers-all}
 use Rattle.formulas.specs.Numbers.{curveNumbers}
 use borrow.Author.Needs.{needs}
 use denote.Ref.{now}

@@ -3,7 +3,7 @@ use Rattle.rolling_ball_fillet.proofs.Filled.{vectorJet}
 use borrow.Author.Needs.{needs}
 use mathlib.Core.Path.{ap, _∙_}
 use Rattle.vector_formulas.specs.Vector.{vectorNumbers, vectorArray}
-use Rattle.calculus.proofs.Cut.{uncut}
+use Rattle.calculus.proofs.LoopCut.{uncut}
 use Rattle.rolling_ball_fillet.proofs.jets.cut_vectors.Statement.{statement}
 use Rattle.rolling_ball_fillet.proofs.jets.cut_vectors.Tie as tie
 

@@ -3,7 +3,7 @@ use borrow.Author.Needs.{needs}
 use mathlib.Core.Path.{ap₂, _∙_}
 use mathlib.Core.Bool.{_&&_}
 use Rattle.formulas.specs.Numbers.{curveNumbers, finiteCurve}
-use Rattle.calculus.proofs.Cut.{uncut}
+use Rattle.calculus.proofs.LoopCut.{uncut}
 use Rattle.rolling_ball_fillet.proofs.jets.finite_parameter.Statement.{statement}
 use Rattle.rolling_ball_fillet.proofs.jets.finite_parameter.Tie as tie
 

@@ -2,7 +2,7 @@
 use borrow.Author.Needs.{needs}
 use mathlib.Core.Path.{_∙_}
 use Rattle.vector_formulas.specs.Vector.{vectorSurfaceNumbers, finiteVectorSurface}
-use Rattle.calculus.proofs.Cut.{uncut}
+use Rattle.calculus.proofs.LoopCut.{uncut}
 use Rattle.rolling_ball_fillet.proofs.jets.finite_surface.Statement.{statement}
 use Rattle.rolling_ball_fillet.proofs.jets.finite_surface.Tie as tie
 

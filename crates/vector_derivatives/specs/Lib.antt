@@ -1,0 +1,4 @@
+pub mod Answer
+pub mod Names
+pub mod Composite
+pub mod Inner
