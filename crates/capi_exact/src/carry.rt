@@ -4,8 +4,9 @@ ghost use mathlib.Core.List.{List};
 ghost use Prim.Native.Nat.{ℕ};
 ghost use lib.IntN.{ℤ};
 ghost use Rattle.exact.specs.Composite.{alongCurveAt, alongCurve};
-ghost use Rattle.given.specs.Lists.{onTwoAt};
-ghost use Rattle.exact_lists.specs.Lists.{surface as surfaces, parameter as parameters, toCurve, toWhole};
+ghost use Rattle.exact_lists.specs.Lists.{toWhole};
+ghost use Rattle.exact.specs.Answer.{surfaces, parameters, curves};
+ghost use Rattle.given.specs.Lists.{overTwoAt, output, input};
 use exact::ParameterCurve;
 use exact::SurfaceDerivatives;
 use exact_lists::deliver;
@@ -21,7 +22,7 @@ pub extern "C" fn sugamdely_exact_composite_derivative(
     n: usize,
     out: &mut [i64],
 ) -> u8
-    ensures { λ r. ⌜ _≡_ {A = ℕ × List ℤ} (r, now (out .exit)) (onTwoAt surfaces parameters toWhole n (λ x y. alongCurveAt x y n) «a_order» (now (a .entry)) «c_order» (now (c .entry)) (now (out .entry))) ⌝ }
+    ensures { λ r. ⌜ _≡_ {A = ℕ × List ℤ} (r, now (out .exit)) (overTwoAt (input surfaces) (input parameters) toWhole n (λ x y. alongCurveAt x y n) «a_order» (now (a .entry)) «c_order» (now (c .entry)) (now (out .entry))) ⌝ }
 {
     let asked = given::order(n);
     let t = given::two_at(
@@ -57,7 +58,7 @@ pub extern "C" fn sugamdely_exact_composite_derivatives(
     n: usize,
     out: &mut [i64],
 ) -> u8
-    ensures { λ r. ⌜ _≡_ {A = ℕ × List ℤ} (r, now (out .exit)) (onTwoAt surfaces parameters toCurve n (λ x y. alongCurve x y n) «a_order» (now (a .entry)) «c_order» (now (c .entry)) (now (out .entry))) ⌝ }
+    ensures { λ r. ⌜ _≡_ {A = ℕ × List ℤ} (r, now (out .exit)) (overTwoAt (input surfaces) (input parameters) (output curves) n (λ x y. alongCurve x y n) «a_order» (now (a .entry)) «c_order» (now (c .entry)) (now (out .entry))) ⌝ }
 {
     let asked = given::order(n);
     let t = given::two_at(

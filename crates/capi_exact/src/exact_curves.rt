@@ -4,12 +4,13 @@ ghost use mathlib.Core.List.{List};
 ghost use Prim.Native.Nat.{ℕ, _-_};
 ghost use lib.IntN.{ℤ};
 ghost use Rattle.calculus.specs.Kind.{regular};
-ghost use Rattle.calculus.specs.Curve.{sum as sums, difference as differences, product, quotient as quotients};
+ghost use Rattle.calculus.specs.Curve.{sum as sums, difference as differences, product, quotient as quotients, derivative};
 ghost use Rattle.exact_formulas.specs.Kinds.{checked};
-ghost use Rattle.exact.specs.Answer.{onCurves, onCurvesAt, curveDerivative};
-ghost use Rattle.roads.specs.Roads.{curves as kind};
-ghost use Rattle.given.specs.Lists.{onTwo, onTwoAt, onOne};
-ghost use Rattle.exact_lists.specs.Lists.{curve as curves, toCurve, toWhole};
+ghost use Rattle.exact.specs.Answer.{curves, onCurves, onCurvesAt};
+ghost use Rattle.roads.specs.Roads.{curveSteps as kind};
+ghost use Rattle.exact_lists.specs.Lists.{toWhole};
+ghost use Rattle.given.specs.Lists.{overTwoAt, overTwo, overOne, output, input};
+ghost use Rattle.calculus.specs.JetKind.{differentiated};
 use exact::CurveDerivatives;
 use exact_lists::deliver;
 use given::Shape;
@@ -23,7 +24,7 @@ fn on_two(
     b: &[i64],
     out: &mut [i64],
 ) -> u8
-    ensures { λ r. ⌜ _≡_ {A = ℕ × List ℤ} (r, now (out .exit)) (onTwo curves curves toCurve (kind .apply op) «a_order» (now (a .entry)) «b_order» (now (b .entry)) (now (out .entry))) ⌝ }
+    ensures { λ r. ⌜ _≡_ {A = ℕ × List ℤ} (r, now (out .exit)) (overTwo (input curves) (input curves) (output curves) (kind .apply op) «a_order» (now (a .entry)) «b_order» (now (b .entry)) (now (out .entry))) ⌝ }
 {
     let t = given::two(
         Shape::Curve,
@@ -54,7 +55,7 @@ pub extern "C" fn sugamdely_exact_curve_sum(
     b: &[i64],
     out: &mut [i64],
 ) -> u8
-    ensures { λ r. ⌜ _≡_ {A = ℕ × List ℤ} (r, now (out .exit)) (onTwo curves curves toCurve (onCurves (sums (regular checked))) «a_order» (now (a .entry)) «b_order» (now (b .entry)) (now (out .entry))) ⌝ }
+    ensures { λ r. ⌜ _≡_ {A = ℕ × List ℤ} (r, now (out .exit)) (overTwo (input curves) (input curves) (output curves) (onCurves (sums (regular checked))) «a_order» (now (a .entry)) «b_order» (now (b .entry)) (now (out .entry))) ⌝ }
 {
     on_two(Operation::Sum, a_order, a, b_order, b, out)
 }
@@ -67,14 +68,14 @@ pub extern "C" fn sugamdely_exact_curve_difference(
     b: &[i64],
     out: &mut [i64],
 ) -> u8
-    ensures { λ r. ⌜ _≡_ {A = ℕ × List ℤ} (r, now (out .exit)) (onTwo curves curves toCurve (onCurves (differences (regular checked))) «a_order» (now (a .entry)) «b_order» (now (b .entry)) (now (out .entry))) ⌝ }
+    ensures { λ r. ⌜ _≡_ {A = ℕ × List ℤ} (r, now (out .exit)) (overTwo (input curves) (input curves) (output curves) (onCurves (differences (regular checked))) «a_order» (now (a .entry)) «b_order» (now (b .entry)) (now (out .entry))) ⌝ }
 {
     on_two(Operation::Difference, a_order, a, b_order, b, out)
 }
 
 #[no_mangle]
 pub extern "C" fn sugamdely_exact_curve_derivative(a_order: usize, a: &[i64], out: &mut [i64]) -> u8
-    ensures { λ r. ⌜ _≡_ {A = ℕ × List ℤ} (r, now (out .exit)) (onOne curves toCurve («a_order» - 1) curveDerivative «a_order» (now (a .entry)) (now (out .entry))) ⌝ }
+    ensures { λ r. ⌜ _≡_ {A = ℕ × List ℤ} (r, now (out .exit)) (overOne (input curves) (output curves) («a_order» - 1) (differentiated curves derivative) «a_order» (now (a .entry)) (now (out .entry))) ⌝ }
 {
     let t = given::lowered(Shape::Curve, a_order, a.len(), out.len());
     if t != 0 {
@@ -96,7 +97,7 @@ pub extern "C" fn sugamdely_exact_curve_combinatorial_derivative(
     m: usize,
     out: &mut [i64],
 ) -> u8
-    ensures { λ r. ⌜ _≡_ {A = ℕ × List ℤ} (r, now (out .exit)) (onTwoAt curves curves toWhole m (λ x y. onCurvesAt (product checked) x y m) «a_order» (now (a .entry)) «b_order» (now (b .entry)) (now (out .entry))) ⌝ }
+    ensures { λ r. ⌜ _≡_ {A = ℕ × List ℤ} (r, now (out .exit)) (overTwoAt (input curves) (input curves) toWhole m (λ x y. onCurvesAt (product checked) x y m) «a_order» (now (a .entry)) «b_order» (now (b .entry)) (now (out .entry))) ⌝ }
 {
     let asked = given::order(m);
     let t = given::two_at(
@@ -130,7 +131,7 @@ pub extern "C" fn sugamdely_exact_curve_combinatorial_derivatives(
     b: &[i64],
     out: &mut [i64],
 ) -> u8
-    ensures { λ r. ⌜ _≡_ {A = ℕ × List ℤ} (r, now (out .exit)) (onTwo curves curves toCurve (onCurves (product checked)) «a_order» (now (a .entry)) «b_order» (now (b .entry)) (now (out .entry))) ⌝ }
+    ensures { λ r. ⌜ _≡_ {A = ℕ × List ℤ} (r, now (out .exit)) (overTwo (input curves) (input curves) (output curves) (onCurves (product checked)) «a_order» (now (a .entry)) «b_order» (now (b .entry)) (now (out .entry))) ⌝ }
 {
     on_two(Operation::Product, a_order, a, b_order, b, out)
 }
@@ -143,7 +144,7 @@ pub extern "C" fn sugamdely_exact_curve_quotient(
     b: &[i64],
     out: &mut [i64],
 ) -> u8
-    ensures { λ r. ⌜ _≡_ {A = ℕ × List ℤ} (r, now (out .exit)) (onTwo curves curves toCurve (onCurves (quotients checked)) «a_order» (now (a .entry)) «b_order» (now (b .entry)) (now (out .entry))) ⌝ }
+    ensures { λ r. ⌜ _≡_ {A = ℕ × List ℤ} (r, now (out .exit)) (overTwo (input curves) (input curves) (output curves) (onCurves (quotients checked)) «a_order» (now (a .entry)) «b_order» (now (b .entry)) (now (out .entry))) ⌝ }
 {
     on_two(Operation::Quotient, a_order, a, b_order, b, out)
 }

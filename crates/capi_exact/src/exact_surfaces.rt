@@ -6,10 +6,11 @@ ghost use lib.IntN.{ℤ};
 ghost use Rattle.calculus.specs.Kind.{regular};
 ghost use Rattle.calculus.specs.Surface.{sum as sums, difference as differences, product, quotient as quotients, derivativeU, derivativeV, derivativeBy};
 ghost use Rattle.exact_formulas.specs.Kinds.{checked};
-ghost use Rattle.exact.specs.Answer.{onSurfaces, onSurfacesAt, surfaceDerivative};
-ghost use Rattle.roads.specs.Roads.{surfaces as kind};
-ghost use Rattle.given.specs.Lists.{onTwo, onTwoAt, onOne};
-ghost use Rattle.exact_lists.specs.Lists.{surface as surfaces, toSurface, toWhole};
+ghost use Rattle.exact.specs.Answer.{surfaces, onSurfaces, onSurfacesAt};
+ghost use Rattle.roads.specs.Roads.{surfaceSteps as kind};
+ghost use Rattle.exact_lists.specs.Lists.{toWhole};
+ghost use Rattle.given.specs.Lists.{overTwoAt, overTwo, overOne, output, input};
+ghost use Rattle.calculus.specs.JetKind.{differentiated};
 use calculus::By;
 use exact::SurfaceAnswer;
 use exact::SurfaceDerivatives;
@@ -18,7 +19,7 @@ use given::Shape;
 use roads::Operation;
 
 fn derived(by: By, a: SurfaceDerivatives) -> SurfaceAnswer
-    ensures { λ r. ⌜ r ≡ surfaceDerivative (derivativeBy by) a ⌝ }
+    ensures { λ r. ⌜ r ≡ differentiated surfaces (derivativeBy by) a ⌝ }
 {
     match by {
         By::U => a.derivative_u(),
@@ -34,7 +35,7 @@ fn on_two(
     b: &[i64],
     out: &mut [i64],
 ) -> u8
-    ensures { λ r. ⌜ _≡_ {A = ℕ × List ℤ} (r, now (out .exit)) (onTwo surfaces surfaces toSurface (kind .apply op) «a_order» (now (a .entry)) «b_order» (now (b .entry)) (now (out .entry))) ⌝ }
+    ensures { λ r. ⌜ _≡_ {A = ℕ × List ℤ} (r, now (out .exit)) (overTwo (input surfaces) (input surfaces) (output surfaces) (kind .apply op) «a_order» (now (a .entry)) «b_order» (now (b .entry)) (now (out .entry))) ⌝ }
 {
     let t = given::two(
         Shape::Surface,
@@ -58,7 +59,7 @@ fn on_two(
 }
 
 fn derivative(by: By, a_order: usize, a: &[i64], out: &mut [i64]) -> u8
-    ensures { λ r. ⌜ _≡_ {A = ℕ × List ℤ} (r, now (out .exit)) (onOne surfaces toSurface («a_order» - 1) (surfaceDerivative (derivativeBy by)) «a_order» (now (a .entry)) (now (out .entry))) ⌝ }
+    ensures { λ r. ⌜ _≡_ {A = ℕ × List ℤ} (r, now (out .exit)) (overOne (input surfaces) (output surfaces) («a_order» - 1) (differentiated surfaces (derivativeBy by)) «a_order» (now (a .entry)) (now (out .entry))) ⌝ }
 {
     let t = given::lowered(Shape::Surface, a_order, a.len(), out.len());
     if t != 0 {
@@ -78,7 +79,7 @@ pub extern "C" fn sugamdely_exact_surface_sum(
     b: &[i64],
     out: &mut [i64],
 ) -> u8
-    ensures { λ r. ⌜ _≡_ {A = ℕ × List ℤ} (r, now (out .exit)) (onTwo surfaces surfaces toSurface (onSurfaces (sums (regular checked))) «a_order» (now (a .entry)) «b_order» (now (b .entry)) (now (out .entry))) ⌝ }
+    ensures { λ r. ⌜ _≡_ {A = ℕ × List ℤ} (r, now (out .exit)) (overTwo (input surfaces) (input surfaces) (output surfaces) (onSurfaces (sums (regular checked))) «a_order» (now (a .entry)) «b_order» (now (b .entry)) (now (out .entry))) ⌝ }
 {
     on_two(Operation::Sum, a_order, a, b_order, b, out)
 }
@@ -91,7 +92,7 @@ pub extern "C" fn sugamdely_exact_surface_difference(
     b: &[i64],
     out: &mut [i64],
 ) -> u8
-    ensures { λ r. ⌜ _≡_ {A = ℕ × List ℤ} (r, now (out .exit)) (onTwo surfaces surfaces toSurface (onSurfaces (differences (regular checked))) «a_order» (now (a .entry)) «b_order» (now (b .entry)) (now (out .entry))) ⌝ }
+    ensures { λ r. ⌜ _≡_ {A = ℕ × List ℤ} (r, now (out .exit)) (overTwo (input surfaces) (input surfaces) (output surfaces) (onSurfaces (differences (regular checked))) «a_order» (now (a .entry)) «b_order» (now (b .entry)) (now (out .entry))) ⌝ }
 {
     on_two(Operation::Difference, a_order, a, b_order, b, out)
 }
@@ -102,7 +103,7 @@ pub extern "C" fn sugamdely_exact_surface_derivative_u(
     a: &[i64],
     out: &mut [i64],
 ) -> u8
-    ensures { λ r. ⌜ _≡_ {A = ℕ × List ℤ} (r, now (out .exit)) (onOne surfaces toSurface («a_order» - 1) (surfaceDerivative derivativeU) «a_order» (now (a .entry)) (now (out .entry))) ⌝ }
+    ensures { λ r. ⌜ _≡_ {A = ℕ × List ℤ} (r, now (out .exit)) (overOne (input surfaces) (output surfaces) («a_order» - 1) (differentiated surfaces derivativeU) «a_order» (now (a .entry)) (now (out .entry))) ⌝ }
 {
     derivative(By::U, a_order, a, out)
 }
@@ -113,7 +114,7 @@ pub extern "C" fn sugamdely_exact_surface_derivative_v(
     a: &[i64],
     out: &mut [i64],
 ) -> u8
-    ensures { λ r. ⌜ _≡_ {A = ℕ × List ℤ} (r, now (out .exit)) (onOne surfaces toSurface («a_order» - 1) (surfaceDerivative derivativeV) «a_order» (now (a .entry)) (now (out .entry))) ⌝ }
+    ensures { λ r. ⌜ _≡_ {A = ℕ × List ℤ} (r, now (out .exit)) (overOne (input surfaces) (output surfaces) («a_order» - 1) (differentiated surfaces derivativeV) «a_order» (now (a .entry)) (now (out .entry))) ⌝ }
 {
     derivative(By::V, a_order, a, out)
 }
@@ -129,7 +130,7 @@ pub extern "C" fn sugamdely_exact_surface_combinatorial_derivative(
     n: usize,
     out: &mut [i64],
 ) -> u8
-    ensures { λ r. ⌜ _≡_ {A = ℕ × List ℤ} (r, now (out .exit)) (onTwoAt surfaces surfaces toWhole (m + n) (λ x y. onSurfacesAt (product checked) x y m n) «a_order» (now (a .entry)) «b_order» (now (b .entry)) (now (out .entry))) ⌝ }
+    ensures { λ r. ⌜ _≡_ {A = ℕ × List ℤ} (r, now (out .exit)) (overTwoAt (input surfaces) (input surfaces) toWhole (m + n) (λ x y. onSurfacesAt (product checked) x y m n) «a_order» (now (a .entry)) «b_order» (now (b .entry)) (now (out .entry))) ⌝ }
 {
     let asked = given::order_sum(m, n);
     let t = given::two_at(
@@ -163,7 +164,7 @@ pub extern "C" fn sugamdely_exact_surface_combinatorial_derivatives(
     b: &[i64],
     out: &mut [i64],
 ) -> u8
-    ensures { λ r. ⌜ _≡_ {A = ℕ × List ℤ} (r, now (out .exit)) (onTwo surfaces surfaces toSurface (onSurfaces (product checked)) «a_order» (now (a .entry)) «b_order» (now (b .entry)) (now (out .entry))) ⌝ }
+    ensures { λ r. ⌜ _≡_ {A = ℕ × List ℤ} (r, now (out .exit)) (overTwo (input surfaces) (input surfaces) (output surfaces) (onSurfaces (product checked)) «a_order» (now (a .entry)) «b_order» (now (b .entry)) (now (out .entry))) ⌝ }
 {
     on_two(Operation::Product, a_order, a, b_order, b, out)
 }
@@ -176,7 +177,7 @@ pub extern "C" fn sugamdely_exact_surface_quotient(
     b: &[i64],
     out: &mut [i64],
 ) -> u8
-    ensures { λ r. ⌜ _≡_ {A = ℕ × List ℤ} (r, now (out .exit)) (onTwo surfaces surfaces toSurface (onSurfaces (quotients checked)) «a_order» (now (a .entry)) «b_order» (now (b .entry)) (now (out .entry))) ⌝ }
+    ensures { λ r. ⌜ _≡_ {A = ℕ × List ℤ} (r, now (out .exit)) (overTwo (input surfaces) (input surfaces) (output surfaces) (onSurfaces (quotients checked)) «a_order» (now (a .entry)) «b_order» (now (b .entry)) (now (out .entry))) ⌝ }
 {
     on_two(Operation::Quotient, a_order, a, b_order, b, out)
 }

@@ -8,7 +8,6 @@ use lib.ListN.{length}
 use lib.Ieee.{Float}
 use Rattle.ieee_vectors.specs.Vectors.{positiveZero}
 use Rattle.vectors.specs.declared.VectorAnswer.{VectorAnswer}
-use Rattle.derivatives.specs.Lists.{curveOfList}
 use Rattle.rolling_ball_fillet.specs.Answers.{rotationAnswer, derivativeAnswer}
 use Rattle.rolling_ball_fillet.specs.Center.{centerContactAnswer}
 use Rattle.rolling_ball_fillet.specs.Partials.{derivativeV, derivativeUV, derivativeVV}
@@ -23,6 +22,8 @@ use Rattle.float_lists.specs.Delivery.{deliverVector, deliverMatrix3}
 use Rattle.float_lists.specs.Values.{vectorAt}
 use Rattle.fillet_lists.specs.Records.{circleOf, Listed, circleWith, filletOf, dersOf, infoOf}
 use Rattle.fillet_lists.specs.Delivery.{Five, deliverContacts, Three, deliverInfo}
+use Rattle.derivatives.specs.Answer.{curves}
+use Rattle.calculus.specs.JetKind.{jetOfList}
 
 -- ---- the rotation
 abbrev pub ordersGiven : (x y z n : ℕ) → ℕ
@@ -72,7 +73,7 @@ vderInfoInto center contact0 contact1 uv0 uv1 radius t out =
     let n = center .0 in
     admitted (first (dersGiven center contact0 contact1 uv0 uv1) (first (curveGiven (radius .0) (length (radius .1))) (first (orderGiven (n + 1))
     (first (vectorCurveGiven n (length (out .0))) (first (curveGiven n (length (out .1 .0))) (countGiven 1 (length (out .1 .1)))))))) out
-    (deliverInfo (vderInfoAnswer (dersOf center contact0 contact1 uv0 uv1) (curveOfList (radius .0) (radius .1)) t) out)
+    (deliverInfo (vderInfoAnswer (dersOf center contact0 contact1 uv0 uv1) (jetOfList curves (radius .0) (radius .1)) t) out)
 
 -- ---- the partials, from these jets, the axis' and the angle's
 abbrev pub partialBy : Partial → VderInfo → (u s c : Float) → VectorAnswer

@@ -7,10 +7,11 @@ ghost use Rattle.calculus.specs.Kind.{regular};
 ghost use Rattle.calculus.specs.Surface.{sum, difference, product, derivativeU, derivativeV};
 ghost use Rattle.formulas.specs.Real.{real};
 ghost use Rattle.calculus.specs.Rational.{surfaceRational};
-ghost use Rattle.derivatives.specs.Answer.{onSurfaces, bySurfaceFormula, bySurfaceDivision, onSurfacesAt, surfaceDerivative};
+ghost use Rattle.derivatives.specs.Answer.{surfaces, parameters, curves, entryAt, byDivision};
 ghost use Rattle.derivatives.specs.Composite.{alongCurveAt, alongCurve};
-ghost use Rattle.given.specs.Lists.{onTwo, onTwoAt, onOne};
-ghost use Rattle.float_lists.specs.Lists.{surface as surfaces, parameter as parameters, toCurve, toSurface, toFloat};
+ghost use Rattle.float_lists.specs.Lists.{toFloat};
+ghost use Rattle.calculus.specs.JetKind.{byFormula, differentiated};
+ghost use Rattle.given.specs.Lists.{overTwoAt, overTwo, overOne, output, input};
 use calculus::By;
 use calculus::Operation;
 use float_lists::deliver;
@@ -26,7 +27,7 @@ pub extern "C" fn sugamdely_surface_sum(
     b: &[f64],
     out: &mut [f64],
 ) -> u8
-    ensures { λ r. ⌜ _≡_ {A = ℕ × List Float} (r, now (out .exit)) (onTwo surfaces surfaces toSurface (onSurfaces (bySurfaceFormula (sum (regular real)))) «a_order» (now (a .entry)) «b_order» (now (b .entry)) (now (out .entry))) ⌝ }
+    ensures { λ r. ⌜ _≡_ {A = ℕ × List Float} (r, now (out .exit)) (overTwo (input surfaces) (input surfaces) (output surfaces) (byFormula surfaces surfaces surfaces (sum (regular real))) «a_order» (now (a .entry)) «b_order» (now (b .entry)) (now (out .entry))) ⌝ }
 {
     surfaces::on_two(Operation::Sum, a_order, a, b_order, b, out)
 }
@@ -39,21 +40,21 @@ pub extern "C" fn sugamdely_surface_difference(
     b: &[f64],
     out: &mut [f64],
 ) -> u8
-    ensures { λ r. ⌜ _≡_ {A = ℕ × List Float} (r, now (out .exit)) (onTwo surfaces surfaces toSurface (onSurfaces (bySurfaceFormula (difference (regular real)))) «a_order» (now (a .entry)) «b_order» (now (b .entry)) (now (out .entry))) ⌝ }
+    ensures { λ r. ⌜ _≡_ {A = ℕ × List Float} (r, now (out .exit)) (overTwo (input surfaces) (input surfaces) (output surfaces) (byFormula surfaces surfaces surfaces (difference (regular real))) «a_order» (now (a .entry)) «b_order» (now (b .entry)) (now (out .entry))) ⌝ }
 {
     surfaces::on_two(Operation::Difference, a_order, a, b_order, b, out)
 }
 
 #[no_mangle]
 pub extern "C" fn sugamdely_surface_derivative_u(a_order: usize, a: &[f64], out: &mut [f64]) -> u8
-    ensures { λ r. ⌜ _≡_ {A = ℕ × List Float} (r, now (out .exit)) (onOne surfaces toSurface («a_order» - 1) (surfaceDerivative derivativeU) «a_order» (now (a .entry)) (now (out .entry))) ⌝ }
+    ensures { λ r. ⌜ _≡_ {A = ℕ × List Float} (r, now (out .exit)) (overOne (input surfaces) (output surfaces) («a_order» - 1) (differentiated surfaces derivativeU) «a_order» (now (a .entry)) (now (out .entry))) ⌝ }
 {
     surfaces::derivative(By::U, a_order, a, out)
 }
 
 #[no_mangle]
 pub extern "C" fn sugamdely_surface_derivative_v(a_order: usize, a: &[f64], out: &mut [f64]) -> u8
-    ensures { λ r. ⌜ _≡_ {A = ℕ × List Float} (r, now (out .exit)) (onOne surfaces toSurface («a_order» - 1) (surfaceDerivative derivativeV) «a_order» (now (a .entry)) (now (out .entry))) ⌝ }
+    ensures { λ r. ⌜ _≡_ {A = ℕ × List Float} (r, now (out .exit)) (overOne (input surfaces) (output surfaces) («a_order» - 1) (differentiated surfaces derivativeV) «a_order» (now (a .entry)) (now (out .entry))) ⌝ }
 {
     surfaces::derivative(By::V, a_order, a, out)
 }
@@ -69,7 +70,7 @@ pub extern "C" fn sugamdely_surface_combinatorial_derivative(
     n: usize,
     out: &mut [f64],
 ) -> u8
-    ensures { λ r. ⌜ _≡_ {A = ℕ × List Float} (r, now (out .exit)) (onTwoAt surfaces surfaces toFloat (m + n) (λ x y. onSurfacesAt (product real) x y m n) «a_order» (now (a .entry)) «b_order» (now (b .entry)) (now (out .entry))) ⌝ }
+    ensures { λ r. ⌜ _≡_ {A = ℕ × List Float} (r, now (out .exit)) (overTwoAt (input surfaces) (input surfaces) toFloat (m + n) (λ x y. entryAt surfaces surfaces (λ p q. product real p q m n) x y (m + n)) «a_order» (now (a .entry)) «b_order» (now (b .entry)) (now (out .entry))) ⌝ }
 {
     let asked = given::order_sum(m, n);
     let t = given::two_at(
@@ -101,7 +102,7 @@ pub extern "C" fn sugamdely_surface_combinatorial_derivatives(
     b: &[f64],
     out: &mut [f64],
 ) -> u8
-    ensures { λ r. ⌜ _≡_ {A = ℕ × List Float} (r, now (out .exit)) (onTwo surfaces surfaces toSurface (onSurfaces (bySurfaceFormula (product real))) «a_order» (now (a .entry)) «b_order» (now (b .entry)) (now (out .entry))) ⌝ }
+    ensures { λ r. ⌜ _≡_ {A = ℕ × List Float} (r, now (out .exit)) (overTwo (input surfaces) (input surfaces) (output surfaces) (byFormula surfaces surfaces surfaces (product real)) «a_order» (now (a .entry)) «b_order» (now (b .entry)) (now (out .entry))) ⌝ }
 {
     surfaces::on_two(Operation::Product, a_order, a, b_order, b, out)
 }
@@ -115,7 +116,7 @@ pub extern "C" fn sugamdely_surface_rational_derivatives(
     w: &[f64],
     out: &mut [f64],
 ) -> u8
-    ensures { λ r. ⌜ _≡_ {A = ℕ × List Float} (r, now (out .exit)) (onTwo surfaces surfaces toSurface (onSurfaces (bySurfaceDivision (surfaceRational (regular real) (real .over)))) «a_order» (now (a .entry)) «w_order» (now (w .entry)) (now (out .entry))) ⌝ }
+    ensures { λ r. ⌜ _≡_ {A = ℕ × List Float} (r, now (out .exit)) (overTwo (input surfaces) (input surfaces) (output surfaces) (byDivision surfaces surfaces surfaces (λ y. y 0 0) (surfaceRational (regular real) (real .over))) «a_order» (now (a .entry)) «w_order» (now (w .entry)) (now (out .entry))) ⌝ }
 {
     surfaces::on_two(Operation::Quotient, a_order, a, w_order, w, out)
 }
@@ -130,7 +131,7 @@ pub extern "C" fn sugamdely_composite_derivative(
     n: usize,
     out: &mut [f64],
 ) -> u8
-    ensures { λ r. ⌜ _≡_ {A = ℕ × List Float} (r, now (out .exit)) (onTwoAt surfaces parameters toFloat n (λ x y. alongCurveAt x y n) «a_order» (now (a .entry)) «c_order» (now (c .entry)) (now (out .entry))) ⌝ }
+    ensures { λ r. ⌜ _≡_ {A = ℕ × List Float} (r, now (out .exit)) (overTwoAt (input surfaces) (input parameters) toFloat n (λ x y. alongCurveAt x y n) «a_order» (now (a .entry)) «c_order» (now (c .entry)) (now (out .entry))) ⌝ }
 {
     let asked = given::order(n);
     let t = given::two_at(
@@ -164,7 +165,7 @@ pub extern "C" fn sugamdely_composite_derivatives(
     n: usize,
     out: &mut [f64],
 ) -> u8
-    ensures { λ r. ⌜ _≡_ {A = ℕ × List Float} (r, now (out .exit)) (onTwoAt surfaces parameters toCurve n (λ x y. alongCurve x y n) «a_order» (now (a .entry)) «c_order» (now (c .entry)) (now (out .entry))) ⌝ }
+    ensures { λ r. ⌜ _≡_ {A = ℕ × List Float} (r, now (out .exit)) (overTwoAt (input surfaces) (input parameters) (output curves) n (λ x y. alongCurve x y n) «a_order» (now (a .entry)) «c_order» (now (c .entry)) (now (out .entry))) ⌝ }
 {
     let asked = given::order(n);
     let t = given::two_at(

@@ -12,7 +12,7 @@ ghost use Rattle.ieee_vectors.specs.Vectors.{sum, difference, multiple, dot, cr
 ghost use Rattle.ieee_vectors.specs.Matrices.{determinant2, determinant3, image2, image3};
 ghost use Rattle.ieee_vectors.specs.Finite.{finiteVector2, finiteVector, finiteMatrix2, finiteMatrix3};
 ghost use Rattle.given.specs.Given.{countGiven};
-ghost use Rattle.given.specs.Lists.{admitted, onTwo, onOne};
+ghost use Rattle.given.specs.Lists.{overTwo, overOne, admitted};
 ghost use Rattle.float_lists.specs.Delivery.{deliverFloat};
 ghost use Rattle.float_lists.specs.Values.{aVector2, aVector, aMatrix2, aMatrix3, toVector2, toMatrix2, toMatrix3};
 ghost use Rattle.float_lists.specs.Lists.{toFloat, toVector};
@@ -38,42 +38,42 @@ pub extern "C" fn sugamdely_square_root(x: f64, out: &mut [f64]) -> u8
 
 #[no_mangle]
 pub extern "C" fn sugamdely_vector_sum(a: &[f64], b: &[f64], out: &mut [f64]) -> u8
-    ensures { λ r. ⌜ _≡_ {A = ℕ × List Float} (r, now (out .exit)) (onTwo aVector aVector toVector (λ x y. vectorFrom (finiteVector x && finiteVector y) (sum x y)) 0 (now (a .entry)) 0 (now (b .entry)) (now (out .entry))) ⌝ }
+    ensures { λ r. ⌜ _≡_ {A = ℕ × List Float} (r, now (out .exit)) (overTwo aVector aVector toVector (λ x y. vectorFrom (finiteVector x && finiteVector y) (sum x y)) 0 (now (a .entry)) 0 (now (b .entry)) (now (out .entry))) ⌝ }
 {
     values::on_vectors(VectorOperation::Sum, a, b, out)
 }
 
 #[no_mangle]
 pub extern "C" fn sugamdely_vector_difference(a: &[f64], b: &[f64], out: &mut [f64]) -> u8
-    ensures { λ r. ⌜ _≡_ {A = ℕ × List Float} (r, now (out .exit)) (onTwo aVector aVector toVector (λ x y. vectorFrom (finiteVector x && finiteVector y) (difference x y)) 0 (now (a .entry)) 0 (now (b .entry)) (now (out .entry))) ⌝ }
+    ensures { λ r. ⌜ _≡_ {A = ℕ × List Float} (r, now (out .exit)) (overTwo aVector aVector toVector (λ x y. vectorFrom (finiteVector x && finiteVector y) (difference x y)) 0 (now (a .entry)) 0 (now (b .entry)) (now (out .entry))) ⌝ }
 {
     values::on_vectors(VectorOperation::Difference, a, b, out)
 }
 
 #[no_mangle]
 pub extern "C" fn sugamdely_vector_multiple(a: &[f64], s: f64, out: &mut [f64]) -> u8
-    ensures { λ r. ⌜ _≡_ {A = ℕ × List Float} (r, now (out .exit)) (onOne aVector toVector 0 (λ x. vectorFrom (finiteVector x && finite s) (multiple x s)) 0 (now (a .entry)) (now (out .entry))) ⌝ }
+    ensures { λ r. ⌜ _≡_ {A = ℕ × List Float} (r, now (out .exit)) (overOne aVector toVector 0 (λ x. vectorFrom (finiteVector x && finite s) (multiple x s)) 0 (now (a .entry)) (now (out .entry))) ⌝ }
 {
     values::on_scalar(ScalarOperation::Multiple, a, s, out)
 }
 
 #[no_mangle]
 pub extern "C" fn sugamdely_vector_quotient(a: &[f64], s: f64, out: &mut [f64]) -> u8
-    ensures { λ r. ⌜ _≡_ {A = ℕ × List Float} (r, now (out .exit)) (onOne aVector toVector 0 (λ x. quotientFrom (finiteVector x && finite s) x s) 0 (now (a .entry)) (now (out .entry))) ⌝ }
+    ensures { λ r. ⌜ _≡_ {A = ℕ × List Float} (r, now (out .exit)) (overOne aVector toVector 0 (λ x. quotientFrom (finiteVector x && finite s) x s) 0 (now (a .entry)) (now (out .entry))) ⌝ }
 {
     values::on_scalar(ScalarOperation::Quotient, a, s, out)
 }
 
 #[no_mangle]
 pub extern "C" fn sugamdely_vector_cross(a: &[f64], b: &[f64], out: &mut [f64]) -> u8
-    ensures { λ r. ⌜ _≡_ {A = ℕ × List Float} (r, now (out .exit)) (onTwo aVector aVector toVector (λ x y. vectorFrom (finiteVector x && finiteVector y) (cross x y)) 0 (now (a .entry)) 0 (now (b .entry)) (now (out .entry))) ⌝ }
+    ensures { λ r. ⌜ _≡_ {A = ℕ × List Float} (r, now (out .exit)) (overTwo aVector aVector toVector (λ x y. vectorFrom (finiteVector x && finiteVector y) (cross x y)) 0 (now (a .entry)) 0 (now (b .entry)) (now (out .entry))) ⌝ }
 {
     values::on_vectors(VectorOperation::Cross, a, b, out)
 }
 
 #[no_mangle]
 pub extern "C" fn sugamdely_vector_dot(a: &[f64], b: &[f64], out: &mut [f64]) -> u8
-    ensures { λ r. ⌜ _≡_ {A = ℕ × List Float} (r, now (out .exit)) (onTwo aVector aVector toFloat (λ x y. realFrom (finiteVector x && finiteVector y) (dot x y)) 0 (now (a .entry)) 0 (now (b .entry)) (now (out .entry))) ⌝ }
+    ensures { λ r. ⌜ _≡_ {A = ℕ × List Float} (r, now (out .exit)) (overTwo aVector aVector toFloat (λ x y. realFrom (finiteVector x && finiteVector y) (dot x y)) 0 (now (a .entry)) 0 (now (b .entry)) (now (out .entry))) ⌝ }
 {
     let t = given::two(
         Shape::Vector,
@@ -96,7 +96,7 @@ pub extern "C" fn sugamdely_vector_dot(a: &[f64], b: &[f64], out: &mut [f64]) ->
 
 #[no_mangle]
 pub extern "C" fn sugamdely_vector_magnitude(a: &[f64], out: &mut [f64]) -> u8
-    ensures { λ r. ⌜ _≡_ {A = ℕ × List Float} (r, now (out .exit)) (onOne aVector toFloat 0 (λ x. realFrom (finiteVector x) (magnitude x)) 0 (now (a .entry)) (now (out .entry))) ⌝ }
+    ensures { λ r. ⌜ _≡_ {A = ℕ × List Float} (r, now (out .exit)) (overOne aVector toFloat 0 (λ x. realFrom (finiteVector x) (magnitude x)) 0 (now (a .entry)) (now (out .entry))) ⌝ }
 {
     let t = given::one(Shape::Vector, 0, a.len(), Shape::Number, 0, out.len());
     if t != 0 {
@@ -109,7 +109,7 @@ pub extern "C" fn sugamdely_vector_magnitude(a: &[f64], out: &mut [f64]) -> u8
 
 #[no_mangle]
 pub extern "C" fn sugamdely_matrix2_determinant(m: &[f64], out: &mut [f64]) -> u8
-    ensures { λ r. ⌜ _≡_ {A = ℕ × List Float} (r, now (out .exit)) (onOne aMatrix2 toFloat 0 (λ x. realFrom (finiteMatrix2 x) (determinant2 x)) 0 (now (m .entry)) (now (out .entry))) ⌝ }
+    ensures { λ r. ⌜ _≡_ {A = ℕ × List Float} (r, now (out .exit)) (overOne aMatrix2 toFloat 0 (λ x. realFrom (finiteMatrix2 x) (determinant2 x)) 0 (now (m .entry)) (now (out .entry))) ⌝ }
 {
     let t = given::one(Shape::Matrix2, 0, m.len(), Shape::Number, 0, out.len());
     if t != 0 {
@@ -122,7 +122,7 @@ pub extern "C" fn sugamdely_matrix2_determinant(m: &[f64], out: &mut [f64]) -> u
 
 #[no_mangle]
 pub extern "C" fn sugamdely_matrix2_inverse(m: &[f64], out: &mut [f64]) -> u8
-    ensures { λ r. ⌜ _≡_ {A = ℕ × List Float} (r, now (out .exit)) (onOne aMatrix2 toMatrix2 0 inverseAnswer2 0 (now (m .entry)) (now (out .entry))) ⌝ }
+    ensures { λ r. ⌜ _≡_ {A = ℕ × List Float} (r, now (out .exit)) (overOne aMatrix2 toMatrix2 0 inverseAnswer2 0 (now (m .entry)) (now (out .entry))) ⌝ }
 {
     let t = given::one(Shape::Matrix2, 0, m.len(), Shape::Matrix2, 0, out.len());
     if t != 0 {
@@ -136,7 +136,7 @@ pub extern "C" fn sugamdely_matrix2_inverse(m: &[f64], out: &mut [f64]) -> u8
 // The image of the vector v, of two floats.
 #[no_mangle]
 pub extern "C" fn sugamdely_matrix2_image(m: &[f64], v: &[f64], out: &mut [f64]) -> u8
-    ensures { λ r. ⌜ _≡_ {A = ℕ × List Float} (r, now (out .exit)) (onTwo aMatrix2 aVector2 toVector2 (λ x y. vector2From (finiteMatrix2 x && finiteVector2 y) (image2 x y)) 0 (now (m .entry)) 0 (now (v .entry)) (now (out .entry))) ⌝ }
+    ensures { λ r. ⌜ _≡_ {A = ℕ × List Float} (r, now (out .exit)) (overTwo aMatrix2 aVector2 toVector2 (λ x y. vector2From (finiteMatrix2 x && finiteVector2 y) (image2 x y)) 0 (now (m .entry)) 0 (now (v .entry)) (now (out .entry))) ⌝ }
 {
     let t = given::two(
         Shape::Matrix2,
@@ -159,7 +159,7 @@ pub extern "C" fn sugamdely_matrix2_image(m: &[f64], v: &[f64], out: &mut [f64])
 
 #[no_mangle]
 pub extern "C" fn sugamdely_matrix3_determinant(m: &[f64], out: &mut [f64]) -> u8
-    ensures { λ r. ⌜ _≡_ {A = ℕ × List Float} (r, now (out .exit)) (onOne aMatrix3 toFloat 0 (λ x. realFrom (finiteMatrix3 x) (determinant3 x)) 0 (now (m .entry)) (now (out .entry))) ⌝ }
+    ensures { λ r. ⌜ _≡_ {A = ℕ × List Float} (r, now (out .exit)) (overOne aMatrix3 toFloat 0 (λ x. realFrom (finiteMatrix3 x) (determinant3 x)) 0 (now (m .entry)) (now (out .entry))) ⌝ }
 {
     let t = given::one(Shape::Matrix3, 0, m.len(), Shape::Number, 0, out.len());
     if t != 0 {
@@ -172,7 +172,7 @@ pub extern "C" fn sugamdely_matrix3_determinant(m: &[f64], out: &mut [f64]) -> u
 
 #[no_mangle]
 pub extern "C" fn sugamdely_matrix3_inverse(m: &[f64], out: &mut [f64]) -> u8
-    ensures { λ r. ⌜ _≡_ {A = ℕ × List Float} (r, now (out .exit)) (onOne aMatrix3 toMatrix3 0 inverseAnswer3 0 (now (m .entry)) (now (out .entry))) ⌝ }
+    ensures { λ r. ⌜ _≡_ {A = ℕ × List Float} (r, now (out .exit)) (overOne aMatrix3 toMatrix3 0 inverseAnswer3 0 (now (m .entry)) (now (out .entry))) ⌝ }
 {
     let t = given::one(Shape::Matrix3, 0, m.len(), Shape::Matrix3, 0, out.len());
     if t != 0 {
@@ -186,7 +186,7 @@ pub extern "C" fn sugamdely_matrix3_inverse(m: &[f64], out: &mut [f64]) -> u8
 // The image of the vector v.
 #[no_mangle]
 pub extern "C" fn sugamdely_matrix3_image(m: &[f64], v: &[f64], out: &mut [f64]) -> u8
-    ensures { λ r. ⌜ _≡_ {A = ℕ × List Float} (r, now (out .exit)) (onTwo aMatrix3 aVector toVector (λ x y. vectorFrom (finiteMatrix3 x && finiteVector y) (image3 x y)) 0 (now (m .entry)) 0 (now (v .entry)) (now (out .entry))) ⌝ }
+    ensures { λ r. ⌜ _≡_ {A = ℕ × List Float} (r, now (out .exit)) (overTwo aMatrix3 aVector toVector (λ x y. vectorFrom (finiteMatrix3 x && finiteVector y) (image3 x y)) 0 (now (m .entry)) 0 (now (v .entry)) (now (out .entry))) ⌝ }
 {
     let t = given::two(
         Shape::Matrix3,

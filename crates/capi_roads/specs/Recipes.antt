@@ -9,11 +9,11 @@ use lib.IntN.{ℤ}
 use lib.ListN.{length, getD, take, drop}
 use Rattle.calculus.specs.Graded.{triangle}
 use Rattle.calculus.specs.Array.{filled}
+use Rattle.calculus.specs.JetKind.{jetOfList}
 use Rattle.exact.specs.declared.CurveDerivatives.{CurveDerivatives}
 use Rattle.exact.specs.declared.SurfaceDerivatives.{SurfaceDerivatives}
 use Rattle.exact.specs.declared.CurveAnswer.{CurveAnswer}
 use Rattle.exact.specs.declared.ParameterCurve.{ParameterCurve}
-use Rattle.exact.specs.Answer.{refusedCurve, refusedSurface}
 use Rattle.calculus.specs.declared.Operation.{Operation}
 use Rattle.calculus.specs.declared.Operation.the-variants.{Sum, Difference, Product, Quotient}
 use Rattle.roads.specs.declared.Step.{Step}
@@ -22,11 +22,10 @@ use Rattle.roads.specs.declared.CurveRecipe.{CurveRecipe}
 use Rattle.calculus.specs.Orders.{someAbove20, smallest}
 use Rattle.roads.specs.Roads.{builtSurface, builtCurve}
 use Rattle.given.specs.Given.{first, countGiven, listGiven, curveGiven, parameterGiven}
-use Rattle.given.specs.Lists.{admitted}
+use Rattle.given.specs.Lists.{deliver, admitted}
 use Rattle.capi_roads.specs.declared.recipe_steps.Jets.{Jets}
 use Rattle.capi_roads.specs.declared.recipe_steps.Jets.the-variants as jets
-use Rattle.exact_lists.specs.Delivery.{deliverCurve, deliverSurface}
-use Rattle.exact_lists.specs.Lists.{curve, surface, parameter}
+use Rattle.exact.specs.Answer.{surfaces, parameters, curves}
 
 -- ---- the jets of lists that stand one after the other
 abbrev pub surfaceSize : ℕ → ℕ
@@ -62,15 +61,15 @@ blankStep = record { operation = Sum; left = 0; right = 0 }
 
 -- ---- the record, with zero jets of order 0 and sums of the first jet past what is given
 unfoldable pub blankCurve : CurveDerivatives
-blankCurve = refusedCurve 0 .jet
+blankCurve = curves .none
 
 unfoldable pub blankSurface : SurfaceDerivatives
-blankSurface = refusedSurface 0 .jet
+blankSurface = surfaces .none
 
 unfoldable pub surfaceRecipe : List ℕ → List ℤ → List ℕ → SurfaceRecipe
 surfaceRecipe orders entries steps = record {
   inputs = length orders;
-  surfaces = filled 4 blankSurface (jetAt surfaceSize (surface .jet) orders entries) (length orders);
+  surfaces = filled 4 blankSurface (jetAt surfaceSize (jetOfList surfaces) orders entries) (length orders);
   steps = length steps / 3;
   program = filled 12 blankStep (stepAt steps) (length steps / 3);
 }
@@ -78,7 +77,7 @@ surfaceRecipe orders entries steps = record {
 unfoldable pub curveRecipe : List ℕ → List ℤ → List ℕ → CurveRecipe
 curveRecipe orders entries steps = record {
   inputs = length orders;
-  curves = filled 4 blankCurve (jetAt suc (curve .jet) orders entries) (length orders);
+  curves = filled 4 blankCurve (jetAt suc (jetOfList curves) orders entries) (length orders);
   steps = length steps / 3;
   program = filled 12 blankStep (stepAt steps) (length steps / 3);
 }
@@ -111,12 +110,12 @@ roadGiven orders l steps m c n o =
 -- ---- a recipe's answer, and a road's
 unfoldable pub surfaceRecipeInto : List ℕ → List ℤ → List ℕ → List ℤ → ℕ × List ℤ
 surfaceRecipeInto orders entries steps out =
-    admitted (recipeGiven surfaceSize orders (length entries) steps (length out)) out (deliverSurface (builtSurface (surfaceRecipe orders entries steps)) out)
+    admitted (recipeGiven surfaceSize orders (length entries) steps (length out)) out (deliver surfaces (builtSurface (surfaceRecipe orders entries steps)) out)
 
 unfoldable pub curveRecipeInto : List ℕ → List ℤ → List ℕ → List ℤ → ℕ × List ℤ
 curveRecipeInto orders entries steps out =
-    admitted (recipeGiven suc orders (length entries) steps (length out)) out (deliverCurve (builtCurve (curveRecipe orders entries steps)) out)
+    admitted (recipeGiven suc orders (length entries) steps (length out)) out (deliver curves (builtCurve (curveRecipe orders entries steps)) out)
 
 unfoldable pub roadInto : (SurfaceRecipe → ParameterCurve → ℕ → CurveAnswer) → List ℕ → List ℤ → List ℕ → ℕ → List ℤ → ℕ → List ℤ → ℕ × List ℤ
 roadInto road orders entries steps m c n out =
-    admitted (roadGiven orders (length entries) steps m (length c) n (length out)) out (deliverCurve (road (surfaceRecipe orders entries steps) (parameter .jet m c) n) out)
+    admitted (roadGiven orders (length entries) steps m (length c) n (length out)) out (deliver curves (road (surfaceRecipe orders entries steps) (jetOfList parameters m c) n) out)

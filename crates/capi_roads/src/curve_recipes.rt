@@ -7,7 +7,8 @@ ghost use lib.IntN.{ℤ};
 ghost use lib.ListN.{length};
 ghost use Rattle.calculus.specs.Array.{filled};
 ghost use Rattle.calculus.specs.Orders.{someAbove20};
-ghost use Rattle.exact_lists.specs.Lists.{curve as curves};
+ghost use Rattle.calculus.specs.JetKind.{jetOfList};
+ghost use Rattle.exact.specs.Answer.{curves};
 ghost use Rattle.capi_roads.specs.Recipes.{total, jetAt, blankCurve, curveRecipe, curveRecipeInto};
 use crate::recipe_steps;
 use crate::recipe_steps::Jets;
@@ -17,7 +18,7 @@ use roads::CurveRecipe;
 
 fn read_curves(orders: &[usize], entries: &[i64]) -> [CurveDerivatives; 4]
     requires { ⌜ (length (now orders) ≤ 4) × (someAbove20 (now orders) ≡ false) × (length (now entries) ≡ total suc (now orders)) ⌝ }
-    ensures { λ r. ⌜ r ≡ filled 4 blankCurve (jetAt suc (curves .jet) (now (orders .entry)) (now (entries .entry))) (length (now (orders .entry))) ⌝ }
+    ensures { λ r. ⌜ r ≡ filled 4 blankCurve (jetAt suc (jetOfList curves) (now (orders .entry)) (now (entries .entry))) (length (now (orders .entry))) ⌝ }
 {
     let none = exact::refused_curve(0);
     let blank = none.jet;

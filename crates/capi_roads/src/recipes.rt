@@ -8,8 +8,9 @@ ghost use lib.IntN.{ℤ};
 ghost use lib.ListN.{length};
 ghost use Rattle.calculus.specs.Array.{filled};
 ghost use Rattle.calculus.specs.Orders.{someAbove20};
+ghost use Rattle.calculus.specs.JetKind.{jetOfList};
+ghost use Rattle.exact.specs.Answer.{surfaces};
 ghost use Rattle.roads.specs.Roads.{buildThenCarry, carryThenBuild};
-ghost use Rattle.exact_lists.specs.Lists.{surface as surfaces};
 ghost use Rattle.capi_roads.specs.Recipes.{surfaceSize, total, jetAt, blankSurface, surfaceRecipe, roadGiven, surfaceRecipeInto, roadInto};
 use crate::recipe_steps;
 use crate::recipe_steps::Jets;
@@ -41,7 +42,7 @@ fn given_road(
 
 fn read_surfaces(orders: &[usize], entries: &[i64]) -> [SurfaceDerivatives; 4]
     requires { ⌜ (length (now orders) ≤ 4) × (someAbove20 (now orders) ≡ false) × (length (now entries) ≡ total surfaceSize (now orders)) ⌝ }
-    ensures { λ r. ⌜ r ≡ filled 4 blankSurface (jetAt surfaceSize (surfaces .jet) (now (orders .entry)) (now (entries .entry))) (length (now (orders .entry))) ⌝ }
+    ensures { λ r. ⌜ r ≡ filled 4 blankSurface (jetAt surfaceSize (jetOfList surfaces) (now (orders .entry)) (now (entries .entry))) (length (now (orders .entry))) ⌝ }
 {
     let none = exact::refused_surface(0);
     let blank = none.jet;

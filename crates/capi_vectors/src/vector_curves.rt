@@ -3,28 +3,26 @@ ghost use mathlib.Core.Path.{_≡_};
 ghost use mathlib.Core.List.{List};
 ghost use Prim.Native.Nat.{ℕ, _-_};
 ghost use lib.Ieee.{Float};
-ghost use Rattle.vectors.specs.Answers.{returned, returnedVector};
-ghost use Rattle.vectors.specs.declared.Real.the-variants.{Refused as RealRefused};
-ghost use Rattle.vectors.specs.declared.VectorAnswer.the-variants.{Refused};
-ghost use Rattle.ieee_vectors.specs.Vectors.{multiple, dot, cross};
+ghost use Rattle.ieee_vectors.specs.Vectors.{quotient, multiple, dot, cross};
 ghost use Rattle.calculus.specs.Kind.{regular};
-ghost use Rattle.calculus.specs.Curve.{sum, difference, productBy};
+ghost use Rattle.calculus.specs.Curve.{sum, difference, productBy, derivative};
 ghost use Rattle.formulas.specs.Real.{real};
-ghost use Rattle.derivatives.specs.Answer.{refusedCurve};
-ghost use Rattle.vector_formulas.specs.Vector.{vectors};
-ghost use Rattle.derivatives.specs.VectorAnswer.{refusedVectorCurve, onVectors, onWeighted, byVectorFormula, byNumberFormula, byWeights, vectorQuotient, onVectorsAt, onWeightedAt, vectorCurveAbsolute, vectorCurveDerivative};
-ghost use Rattle.given.specs.Lists.{onTwo, onTwoAt, onOne};
-ghost use Rattle.float_lists.specs.Lists.{curve as curves, toCurve, toFloat, toVector};
-ghost use Rattle.capi_vectors.specs.Lists.{vectorCurve as vectorCurves, toVectorCurve};
+ghost use Rattle.vector_formulas.specs.Vector.{vectors, vectorNorm};
+ghost use Rattle.float_lists.specs.Lists.{toFloat, toVector};
 ghost use Rattle.capi_vectors.specs.Inner.{vectorCurveOperation, weightedCurveOperation};
+ghost use Rattle.vector_derivatives.specs.Answer.{vectorCurves, vectorEntryAt, byNorm};
+ghost use Rattle.derivatives.specs.Answer.{curves, entryAt, byDivision};
+ghost use Rattle.calculus.specs.Rational.{rational};
+ghost use Rattle.calculus.specs.JetKind.{byFormula, differentiated};
+ghost use Rattle.given.specs.Lists.{overTwoAt, overTwo, overOne, output, input};
 use derivatives::CurveDerivatives;
-use derivatives::VectorCurveAnswer;
-use derivatives::VectorCurveDerivatives;
 use float_lists::deliver;
 use float_lists::lists;
 use float_lists::operations::ScalarOperation;
 use float_lists::operations::VectorOperation;
 use given::Shape;
+use vector_derivatives::VectorCurveAnswer;
+use vector_derivatives::VectorCurveDerivatives;
 
 fn work(
     op: VectorOperation,
@@ -61,7 +59,7 @@ fn on_two(
     b: &[f64],
     out: &mut [f64],
 ) -> u8
-    ensures { λ r. ⌜ _≡_ {A = ℕ × List Float} (r, now (out .exit)) (onTwo vectorCurves vectorCurves toVectorCurve (vectorCurveOperation op) «a_order» (now (a .entry)) «b_order» (now (b .entry)) (now (out .entry))) ⌝ }
+    ensures { λ r. ⌜ _≡_ {A = ℕ × List Float} (r, now (out .exit)) (overTwo (input vectorCurves) (input vectorCurves) (output vectorCurves) (vectorCurveOperation op) «a_order» (now (a .entry)) «b_order» (now (b .entry)) (now (out .entry))) ⌝ }
 {
     let t = given::two(
         Shape::VectorCurve,
@@ -90,7 +88,7 @@ fn on_weighted(
     b: &[f64],
     out: &mut [f64],
 ) -> u8
-    ensures { λ r. ⌜ _≡_ {A = ℕ × List Float} (r, now (out .exit)) (onTwo vectorCurves curves toVectorCurve (weightedCurveOperation op) «a_order» (now (a .entry)) «b_order» (now (b .entry)) (now (out .entry))) ⌝ }
+    ensures { λ r. ⌜ _≡_ {A = ℕ × List Float} (r, now (out .exit)) (overTwo (input vectorCurves) (input curves) (output vectorCurves) (weightedCurveOperation op) «a_order» (now (a .entry)) «b_order» (now (b .entry)) (now (out .entry))) ⌝ }
 {
     let t = given::two(
         Shape::VectorCurve,
@@ -119,7 +117,7 @@ pub extern "C" fn sugamdely_vector_curve_sum(
     b: &[f64],
     out: &mut [f64],
 ) -> u8
-    ensures { λ r. ⌜ _≡_ {A = ℕ × List Float} (r, now (out .exit)) (onTwo vectorCurves vectorCurves toVectorCurve (onVectors refusedVectorCurve (byVectorFormula (sum vectors))) «a_order» (now (a .entry)) «b_order» (now (b .entry)) (now (out .entry))) ⌝ }
+    ensures { λ r. ⌜ _≡_ {A = ℕ × List Float} (r, now (out .exit)) (overTwo (input vectorCurves) (input vectorCurves) (output vectorCurves) (byFormula vectorCurves vectorCurves vectorCurves (sum vectors)) «a_order» (now (a .entry)) «b_order» (now (b .entry)) (now (out .entry))) ⌝ }
 {
     on_two(VectorOperation::Sum, a_order, a, b_order, b, out)
 }
@@ -132,7 +130,7 @@ pub extern "C" fn sugamdely_vector_curve_difference(
     b: &[f64],
     out: &mut [f64],
 ) -> u8
-    ensures { λ r. ⌜ _≡_ {A = ℕ × List Float} (r, now (out .exit)) (onTwo vectorCurves vectorCurves toVectorCurve (onVectors refusedVectorCurve (byVectorFormula (difference vectors))) «a_order» (now (a .entry)) «b_order» (now (b .entry)) (now (out .entry))) ⌝ }
+    ensures { λ r. ⌜ _≡_ {A = ℕ × List Float} (r, now (out .exit)) (overTwo (input vectorCurves) (input vectorCurves) (output vectorCurves) (byFormula vectorCurves vectorCurves vectorCurves (difference vectors)) «a_order» (now (a .entry)) «b_order» (now (b .entry)) (now (out .entry))) ⌝ }
 {
     on_two(VectorOperation::Difference, a_order, a, b_order, b, out)
 }
@@ -143,7 +141,7 @@ pub extern "C" fn sugamdely_vector_curve_derivative(
     a: &[f64],
     out: &mut [f64],
 ) -> u8
-    ensures { λ r. ⌜ _≡_ {A = ℕ × List Float} (r, now (out .exit)) (onOne vectorCurves toVectorCurve («a_order» - 1) vectorCurveDerivative «a_order» (now (a .entry)) (now (out .entry))) ⌝ }
+    ensures { λ r. ⌜ _≡_ {A = ℕ × List Float} (r, now (out .exit)) (overOne (input vectorCurves) (output vectorCurves) («a_order» - 1) (differentiated vectorCurves derivative) «a_order» (now (a .entry)) (now (out .entry))) ⌝ }
 {
     let t = given::lowered(Shape::VectorCurve, a_order, a.len(), out.len());
     if t != 0 {
@@ -163,7 +161,7 @@ pub extern "C" fn sugamdely_vector_curve_rational_derivatives(
     w: &[f64],
     out: &mut [f64],
 ) -> u8
-    ensures { λ r. ⌜ _≡_ {A = ℕ × List Float} (r, now (out .exit)) (onTwo vectorCurves curves toVectorCurve (onWeighted vectorQuotient) «a_order» (now (a .entry)) «w_order» (now (w .entry)) (now (out .entry))) ⌝ }
+    ensures { λ r. ⌜ _≡_ {A = ℕ × List Float} (r, now (out .exit)) (overTwo (input vectorCurves) (input curves) (output vectorCurves) (byDivision vectorCurves curves vectorCurves (λ y. y 0) (rational vectors quotient)) «a_order» (now (a .entry)) «w_order» (now (w .entry)) (now (out .entry))) ⌝ }
 {
     on_weighted(ScalarOperation::Quotient, a_order, a, w_order, w, out)
 }
@@ -178,7 +176,7 @@ pub extern "C" fn sugamdely_curve_combinatorial_derivative_scaled(
     m: usize,
     out: &mut [f64],
 ) -> u8
-    ensures { λ r. ⌜ _≡_ {A = ℕ × List Float} (r, now (out .exit)) (onTwoAt vectorCurves curves toVector m (λ x y. onWeightedAt (productBy vectors multiple) x y m) «a_order» (now (a .entry)) «b_order» (now (b .entry)) (now (out .entry))) ⌝ }
+    ensures { λ r. ⌜ _≡_ {A = ℕ × List Float} (r, now (out .exit)) (overTwoAt (input vectorCurves) (input curves) toVector m (λ x y. vectorEntryAt vectorCurves curves (λ p q. productBy vectors multiple p q m) x y m) «a_order» (now (a .entry)) «b_order» (now (b .entry)) (now (out .entry))) ⌝ }
 {
     let asked = given::order(m);
     let t = given::two_at(
@@ -212,7 +210,7 @@ pub extern "C" fn sugamdely_curve_combinatorial_derivative_dot(
     m: usize,
     out: &mut [f64],
 ) -> u8
-    ensures { λ r. ⌜ _≡_ {A = ℕ × List Float} (r, now (out .exit)) (onTwoAt vectorCurves vectorCurves toFloat m (λ x y. onVectorsAt RealRefused (λ p q k. returned (productBy (regular real) dot p q k)) x y m) «a_order» (now (a .entry)) «b_order» (now (b .entry)) (now (out .entry))) ⌝ }
+    ensures { λ r. ⌜ _≡_ {A = ℕ × List Float} (r, now (out .exit)) (overTwoAt (input vectorCurves) (input vectorCurves) toFloat m (λ x y. entryAt vectorCurves vectorCurves (λ p q. productBy (regular real) dot p q m) x y m) «a_order» (now (a .entry)) «b_order» (now (b .entry)) (now (out .entry))) ⌝ }
 {
     let asked = given::order(m);
     let t = given::two_at(
@@ -246,7 +244,7 @@ pub extern "C" fn sugamdely_curve_combinatorial_derivative_cross(
     m: usize,
     out: &mut [f64],
 ) -> u8
-    ensures { λ r. ⌜ _≡_ {A = ℕ × List Float} (r, now (out .exit)) (onTwoAt vectorCurves vectorCurves toVector m (λ x y. onVectorsAt Refused (λ p q k. returnedVector (productBy vectors cross p q k)) x y m) «a_order» (now (a .entry)) «b_order» (now (b .entry)) (now (out .entry))) ⌝ }
+    ensures { λ r. ⌜ _≡_ {A = ℕ × List Float} (r, now (out .exit)) (overTwoAt (input vectorCurves) (input vectorCurves) toVector m (λ x y. vectorEntryAt vectorCurves vectorCurves (λ p q. productBy vectors cross p q m) x y m) «a_order» (now (a .entry)) «b_order» (now (b .entry)) (now (out .entry))) ⌝ }
 {
     let asked = given::order(m);
     let t = given::two_at(
@@ -278,7 +276,7 @@ pub extern "C" fn sugamdely_curve_combinatorial_derivatives_scaled(
     b: &[f64],
     out: &mut [f64],
 ) -> u8
-    ensures { λ r. ⌜ _≡_ {A = ℕ × List Float} (r, now (out .exit)) (onTwo vectorCurves curves toVectorCurve (onWeighted (byWeights (productBy vectors multiple))) «a_order» (now (a .entry)) «b_order» (now (b .entry)) (now (out .entry))) ⌝ }
+    ensures { λ r. ⌜ _≡_ {A = ℕ × List Float} (r, now (out .exit)) (overTwo (input vectorCurves) (input curves) (output vectorCurves) (byFormula vectorCurves curves vectorCurves (productBy vectors multiple)) «a_order» (now (a .entry)) «b_order» (now (b .entry)) (now (out .entry))) ⌝ }
 {
     on_weighted(ScalarOperation::Multiple, a_order, a, b_order, b, out)
 }
@@ -291,7 +289,7 @@ pub extern "C" fn sugamdely_curve_combinatorial_derivatives_dot(
     b: &[f64],
     out: &mut [f64],
 ) -> u8
-    ensures { λ r. ⌜ _≡_ {A = ℕ × List Float} (r, now (out .exit)) (onTwo vectorCurves vectorCurves toCurve (onVectors refusedCurve (byNumberFormula (productBy (regular real) dot))) «a_order» (now (a .entry)) «b_order» (now (b .entry)) (now (out .entry))) ⌝ }
+    ensures { λ r. ⌜ _≡_ {A = ℕ × List Float} (r, now (out .exit)) (overTwo (input vectorCurves) (input vectorCurves) (output curves) (byFormula vectorCurves vectorCurves curves (productBy (regular real) dot)) «a_order» (now (a .entry)) «b_order» (now (b .entry)) (now (out .entry))) ⌝ }
 {
     let t = given::two(
         Shape::VectorCurve,
@@ -320,7 +318,7 @@ pub extern "C" fn sugamdely_curve_combinatorial_derivatives_cross(
     b: &[f64],
     out: &mut [f64],
 ) -> u8
-    ensures { λ r. ⌜ _≡_ {A = ℕ × List Float} (r, now (out .exit)) (onTwo vectorCurves vectorCurves toVectorCurve (onVectors refusedVectorCurve (byVectorFormula (productBy vectors cross))) «a_order» (now (a .entry)) «b_order» (now (b .entry)) (now (out .entry))) ⌝ }
+    ensures { λ r. ⌜ _≡_ {A = ℕ × List Float} (r, now (out .exit)) (overTwo (input vectorCurves) (input vectorCurves) (output vectorCurves) (byFormula vectorCurves vectorCurves vectorCurves (productBy vectors cross)) «a_order» (now (a .entry)) «b_order» (now (b .entry)) (now (out .entry))) ⌝ }
 {
     on_two(VectorOperation::Cross, a_order, a, b_order, b, out)
 }
@@ -332,7 +330,7 @@ pub extern "C" fn sugamdely_curve_absolute_derivatives(
     a: &[f64],
     out: &mut [f64],
 ) -> u8
-    ensures { λ r. ⌜ _≡_ {A = ℕ × List Float} (r, now (out .exit)) (onOne vectorCurves toCurve «a_order» vectorCurveAbsolute «a_order» (now (a .entry)) (now (out .entry))) ⌝ }
+    ensures { λ r. ⌜ _≡_ {A = ℕ × List Float} (r, now (out .exit)) (overOne (input vectorCurves) (output curves) «a_order» (byNorm vectorCurves curves (λ q. q 0) vectorNorm) «a_order» (now (a .entry)) (now (out .entry))) ⌝ }
 {
     let t = given::one(
         Shape::VectorCurve,

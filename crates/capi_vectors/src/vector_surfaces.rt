@@ -3,30 +3,29 @@ ghost use mathlib.Core.Path.{_≡_};
 ghost use mathlib.Core.List.{List};
 ghost use Prim.Native.Nat.{ℕ, _+_, _-_};
 ghost use lib.Ieee.{Float};
-ghost use Rattle.vectors.specs.Answers.{returned, returnedVector};
-ghost use Rattle.vectors.specs.declared.Real.the-variants.{Refused as RealRefused};
-ghost use Rattle.vectors.specs.declared.VectorAnswer.the-variants.{Refused};
-ghost use Rattle.ieee_vectors.specs.Vectors.{multiple, dot, cross};
+ghost use Rattle.ieee_vectors.specs.Vectors.{quotient, multiple, dot, cross};
 ghost use Rattle.calculus.specs.Kind.{regular};
 ghost use Rattle.calculus.specs.Surface.{sum, difference, productBy, derivativeU, derivativeV, derivativeBy};
 ghost use Rattle.formulas.specs.Real.{real};
 ghost use Rattle.vector_formulas.specs.Vector.{vectors};
-ghost use Rattle.derivatives.specs.VectorSurfaceAnswer.{onVectorSurfaces, onWeightedSurface, byVectorSurfaceFormula, bySurfaceWeights, vectorSurfaceQuotient, vectorSurfaceDot, onVectorSurfacesAt, onWeightedSurfaceAt, vectorSurfaceDerivative};
-ghost use Rattle.derivatives.specs.VectorSurfaceNorm.{vectorSurfaceAbsolute};
-ghost use Rattle.derivatives.specs.VectorComposite.{vectorAlongCurveAt, vectorAlongCurve};
-ghost use Rattle.given.specs.Lists.{onTwo, onTwoAt, onOne};
-ghost use Rattle.float_lists.specs.Lists.{surface as surfaces, parameter as parameters, toSurface, toFloat, toVector};
-ghost use Rattle.capi_vectors.specs.Lists.{vectorSurface as vectorSurfaces, toVectorCurve, toVectorSurface};
+ghost use Rattle.vector_derivatives.specs.Composite.{vectorAlongCurveAt, vectorAlongCurve};
+ghost use Rattle.float_lists.specs.Lists.{toFloat, toVector};
 ghost use Rattle.capi_vectors.specs.Inner.{vectorSurfaceOperation, weightedSurfaceOperation};
+ghost use Rattle.vector_surface_formulas.specs.Formulas.{vectorSurfaceNorm};
+ghost use Rattle.vector_derivatives.specs.Answer.{vectorSurfaces, vectorCurves, vectorEntryAt, byNorm};
+ghost use Rattle.derivatives.specs.Answer.{surfaces, parameters, entryAt, byDivision};
+ghost use Rattle.calculus.specs.Rational.{surfaceRational};
+ghost use Rattle.calculus.specs.JetKind.{byFormula, differentiated};
+ghost use Rattle.given.specs.Lists.{overTwoAt, overTwo, overOne, output, input};
 use calculus::By;
 use derivatives::SurfaceDerivatives;
-use derivatives::VectorSurfaceAnswer;
-use derivatives::VectorSurfaceDerivatives;
 use float_lists::deliver;
 use float_lists::lists;
 use float_lists::operations::ScalarOperation;
 use float_lists::operations::VectorOperation;
 use given::Shape;
+use vector_derivatives::VectorSurfaceAnswer;
+use vector_derivatives::VectorSurfaceDerivatives;
 
 fn work(
     op: VectorOperation,
@@ -56,7 +55,7 @@ fn work_weighted(
 }
 
 fn derived(by: By, a: VectorSurfaceDerivatives) -> VectorSurfaceAnswer
-    ensures { λ r. ⌜ r ≡ vectorSurfaceDerivative (derivativeBy by) a ⌝ }
+    ensures { λ r. ⌜ r ≡ differentiated vectorSurfaces (derivativeBy by) a ⌝ }
 {
     match by {
         By::U => a.derivative_u(),
@@ -72,7 +71,7 @@ fn on_two(
     b: &[f64],
     out: &mut [f64],
 ) -> u8
-    ensures { λ r. ⌜ _≡_ {A = ℕ × List Float} (r, now (out .exit)) (onTwo vectorSurfaces vectorSurfaces toVectorSurface (vectorSurfaceOperation op) «a_order» (now (a .entry)) «b_order» (now (b .entry)) (now (out .entry))) ⌝ }
+    ensures { λ r. ⌜ _≡_ {A = ℕ × List Float} (r, now (out .exit)) (overTwo (input vectorSurfaces) (input vectorSurfaces) (output vectorSurfaces) (vectorSurfaceOperation op) «a_order» (now (a .entry)) «b_order» (now (b .entry)) (now (out .entry))) ⌝ }
 {
     let t = given::two(
         Shape::VectorSurface,
@@ -101,7 +100,7 @@ fn on_weighted(
     b: &[f64],
     out: &mut [f64],
 ) -> u8
-    ensures { λ r. ⌜ _≡_ {A = ℕ × List Float} (r, now (out .exit)) (onTwo vectorSurfaces surfaces toVectorSurface (weightedSurfaceOperation op) «a_order» (now (a .entry)) «b_order» (now (b .entry)) (now (out .entry))) ⌝ }
+    ensures { λ r. ⌜ _≡_ {A = ℕ × List Float} (r, now (out .exit)) (overTwo (input vectorSurfaces) (input surfaces) (output vectorSurfaces) (weightedSurfaceOperation op) «a_order» (now (a .entry)) «b_order» (now (b .entry)) (now (out .entry))) ⌝ }
 {
     let t = given::two(
         Shape::VectorSurface,
@@ -123,7 +122,7 @@ fn on_weighted(
 }
 
 fn derivative(by: By, a_order: usize, a: &[f64], out: &mut [f64]) -> u8
-    ensures { λ r. ⌜ _≡_ {A = ℕ × List Float} (r, now (out .exit)) (onOne vectorSurfaces toVectorSurface («a_order» - 1) (vectorSurfaceDerivative (derivativeBy by)) «a_order» (now (a .entry)) (now (out .entry))) ⌝ }
+    ensures { λ r. ⌜ _≡_ {A = ℕ × List Float} (r, now (out .exit)) (overOne (input vectorSurfaces) (output vectorSurfaces) («a_order» - 1) (differentiated vectorSurfaces (derivativeBy by)) «a_order» (now (a .entry)) (now (out .entry))) ⌝ }
 {
     let t = given::lowered(Shape::VectorSurface, a_order, a.len(), out.len());
     if t != 0 {
@@ -142,7 +141,7 @@ pub extern "C" fn sugamdely_vector_surface_sum(
     b: &[f64],
     out: &mut [f64],
 ) -> u8
-    ensures { λ r. ⌜ _≡_ {A = ℕ × List Float} (r, now (out .exit)) (onTwo vectorSurfaces vectorSurfaces toVectorSurface (onVectorSurfaces (byVectorSurfaceFormula (sum vectors))) «a_order» (now (a .entry)) «b_order» (now (b .entry)) (now (out .entry))) ⌝ }
+    ensures { λ r. ⌜ _≡_ {A = ℕ × List Float} (r, now (out .exit)) (overTwo (input vectorSurfaces) (input vectorSurfaces) (output vectorSurfaces) (byFormula vectorSurfaces vectorSurfaces vectorSurfaces (sum vectors)) «a_order» (now (a .entry)) «b_order» (now (b .entry)) (now (out .entry))) ⌝ }
 {
     on_two(VectorOperation::Sum, a_order, a, b_order, b, out)
 }
@@ -155,7 +154,7 @@ pub extern "C" fn sugamdely_vector_surface_difference(
     b: &[f64],
     out: &mut [f64],
 ) -> u8
-    ensures { λ r. ⌜ _≡_ {A = ℕ × List Float} (r, now (out .exit)) (onTwo vectorSurfaces vectorSurfaces toVectorSurface (onVectorSurfaces (byVectorSurfaceFormula (difference vectors))) «a_order» (now (a .entry)) «b_order» (now (b .entry)) (now (out .entry))) ⌝ }
+    ensures { λ r. ⌜ _≡_ {A = ℕ × List Float} (r, now (out .exit)) (overTwo (input vectorSurfaces) (input vectorSurfaces) (output vectorSurfaces) (byFormula vectorSurfaces vectorSurfaces vectorSurfaces (difference vectors)) «a_order» (now (a .entry)) «b_order» (now (b .entry)) (now (out .entry))) ⌝ }
 {
     on_two(VectorOperation::Difference, a_order, a, b_order, b, out)
 }
@@ -166,7 +165,7 @@ pub extern "C" fn sugamdely_vector_surface_derivative_u(
     a: &[f64],
     out: &mut [f64],
 ) -> u8
-    ensures { λ r. ⌜ _≡_ {A = ℕ × List Float} (r, now (out .exit)) (onOne vectorSurfaces toVectorSurface («a_order» - 1) (vectorSurfaceDerivative derivativeU) «a_order» (now (a .entry)) (now (out .entry))) ⌝ }
+    ensures { λ r. ⌜ _≡_ {A = ℕ × List Float} (r, now (out .exit)) (overOne (input vectorSurfaces) (output vectorSurfaces) («a_order» - 1) (differentiated vectorSurfaces derivativeU) «a_order» (now (a .entry)) (now (out .entry))) ⌝ }
 {
     derivative(By::U, a_order, a, out)
 }
@@ -177,7 +176,7 @@ pub extern "C" fn sugamdely_vector_surface_derivative_v(
     a: &[f64],
     out: &mut [f64],
 ) -> u8
-    ensures { λ r. ⌜ _≡_ {A = ℕ × List Float} (r, now (out .exit)) (onOne vectorSurfaces toVectorSurface («a_order» - 1) (vectorSurfaceDerivative derivativeV) «a_order» (now (a .entry)) (now (out .entry))) ⌝ }
+    ensures { λ r. ⌜ _≡_ {A = ℕ × List Float} (r, now (out .exit)) (overOne (input vectorSurfaces) (output vectorSurfaces) («a_order» - 1) (differentiated vectorSurfaces derivativeV) «a_order» (now (a .entry)) (now (out .entry))) ⌝ }
 {
     derivative(By::V, a_order, a, out)
 }
@@ -191,7 +190,7 @@ pub extern "C" fn sugamdely_vector_surface_rational_derivatives(
     w: &[f64],
     out: &mut [f64],
 ) -> u8
-    ensures { λ r. ⌜ _≡_ {A = ℕ × List Float} (r, now (out .exit)) (onTwo vectorSurfaces surfaces toVectorSurface (onWeightedSurface vectorSurfaceQuotient) «a_order» (now (a .entry)) «w_order» (now (w .entry)) (now (out .entry))) ⌝ }
+    ensures { λ r. ⌜ _≡_ {A = ℕ × List Float} (r, now (out .exit)) (overTwo (input vectorSurfaces) (input surfaces) (output vectorSurfaces) (byDivision vectorSurfaces surfaces vectorSurfaces (λ y. y 0 0) (surfaceRational vectors quotient)) «a_order» (now (a .entry)) «w_order» (now (w .entry)) (now (out .entry))) ⌝ }
 {
     on_weighted(ScalarOperation::Quotient, a_order, a, w_order, w, out)
 }
@@ -207,7 +206,7 @@ pub extern "C" fn sugamdely_surface_combinatorial_derivative_scaled(
     n: usize,
     out: &mut [f64],
 ) -> u8
-    ensures { λ r. ⌜ _≡_ {A = ℕ × List Float} (r, now (out .exit)) (onTwoAt vectorSurfaces surfaces toVector (m + n) (λ x y. onWeightedSurfaceAt (productBy vectors multiple) x y m n) «a_order» (now (a .entry)) «b_order» (now (b .entry)) (now (out .entry))) ⌝ }
+    ensures { λ r. ⌜ _≡_ {A = ℕ × List Float} (r, now (out .exit)) (overTwoAt (input vectorSurfaces) (input surfaces) toVector (m + n) (λ x y. vectorEntryAt vectorSurfaces surfaces (λ p q. productBy vectors multiple p q m n) x y (m + n)) «a_order» (now (a .entry)) «b_order» (now (b .entry)) (now (out .entry))) ⌝ }
 {
     let asked = given::order_sum(m, n);
     let t = given::two_at(
@@ -242,7 +241,7 @@ pub extern "C" fn sugamdely_surface_combinatorial_derivative_dot(
     n: usize,
     out: &mut [f64],
 ) -> u8
-    ensures { λ r. ⌜ _≡_ {A = ℕ × List Float} (r, now (out .exit)) (onTwoAt vectorSurfaces vectorSurfaces toFloat (m + n) (λ x y. onVectorSurfacesAt RealRefused (λ p q i j. returned (productBy (regular real) dot p q i j)) x y m n) «a_order» (now (a .entry)) «b_order» (now (b .entry)) (now (out .entry))) ⌝ }
+    ensures { λ r. ⌜ _≡_ {A = ℕ × List Float} (r, now (out .exit)) (overTwoAt (input vectorSurfaces) (input vectorSurfaces) toFloat (m + n) (λ x y. entryAt vectorSurfaces vectorSurfaces (λ p q. productBy (regular real) dot p q m n) x y (m + n)) «a_order» (now (a .entry)) «b_order» (now (b .entry)) (now (out .entry))) ⌝ }
 {
     let asked = given::order_sum(m, n);
     let t = given::two_at(
@@ -277,7 +276,7 @@ pub extern "C" fn sugamdely_surface_combinatorial_derivative_cross(
     n: usize,
     out: &mut [f64],
 ) -> u8
-    ensures { λ r. ⌜ _≡_ {A = ℕ × List Float} (r, now (out .exit)) (onTwoAt vectorSurfaces vectorSurfaces toVector (m + n) (λ x y. onVectorSurfacesAt Refused (λ p q i j. returnedVector (productBy vectors cross p q i j)) x y m n) «a_order» (now (a .entry)) «b_order» (now (b .entry)) (now (out .entry))) ⌝ }
+    ensures { λ r. ⌜ _≡_ {A = ℕ × List Float} (r, now (out .exit)) (overTwoAt (input vectorSurfaces) (input vectorSurfaces) toVector (m + n) (λ x y. vectorEntryAt vectorSurfaces vectorSurfaces (λ p q. productBy vectors cross p q m n) x y (m + n)) «a_order» (now (a .entry)) «b_order» (now (b .entry)) (now (out .entry))) ⌝ }
 {
     let asked = given::order_sum(m, n);
     let t = given::two_at(
@@ -309,7 +308,7 @@ pub extern "C" fn sugamdely_surface_combinatorial_derivatives_scaled(
     b: &[f64],
     out: &mut [f64],
 ) -> u8
-    ensures { λ r. ⌜ _≡_ {A = ℕ × List Float} (r, now (out .exit)) (onTwo vectorSurfaces surfaces toVectorSurface (onWeightedSurface (bySurfaceWeights (productBy vectors multiple))) «a_order» (now (a .entry)) «b_order» (now (b .entry)) (now (out .entry))) ⌝ }
+    ensures { λ r. ⌜ _≡_ {A = ℕ × List Float} (r, now (out .exit)) (overTwo (input vectorSurfaces) (input surfaces) (output vectorSurfaces) (byFormula vectorSurfaces surfaces vectorSurfaces (productBy vectors multiple)) «a_order» (now (a .entry)) «b_order» (now (b .entry)) (now (out .entry))) ⌝ }
 {
     on_weighted(ScalarOperation::Multiple, a_order, a, b_order, b, out)
 }
@@ -322,7 +321,7 @@ pub extern "C" fn sugamdely_surface_combinatorial_derivatives_dot(
     b: &[f64],
     out: &mut [f64],
 ) -> u8
-    ensures { λ r. ⌜ _≡_ {A = ℕ × List Float} (r, now (out .exit)) (onTwo vectorSurfaces vectorSurfaces toSurface vectorSurfaceDot «a_order» (now (a .entry)) «b_order» (now (b .entry)) (now (out .entry))) ⌝ }
+    ensures { λ r. ⌜ _≡_ {A = ℕ × List Float} (r, now (out .exit)) (overTwo (input vectorSurfaces) (input vectorSurfaces) (output surfaces) (byFormula vectorSurfaces vectorSurfaces surfaces (productBy (regular real) dot)) «a_order» (now (a .entry)) «b_order» (now (b .entry)) (now (out .entry))) ⌝ }
 {
     let t = given::two(
         Shape::VectorSurface,
@@ -351,7 +350,7 @@ pub extern "C" fn sugamdely_surface_combinatorial_derivatives_cross(
     b: &[f64],
     out: &mut [f64],
 ) -> u8
-    ensures { λ r. ⌜ _≡_ {A = ℕ × List Float} (r, now (out .exit)) (onTwo vectorSurfaces vectorSurfaces toVectorSurface (onVectorSurfaces (byVectorSurfaceFormula (productBy vectors cross))) «a_order» (now (a .entry)) «b_order» (now (b .entry)) (now (out .entry))) ⌝ }
+    ensures { λ r. ⌜ _≡_ {A = ℕ × List Float} (r, now (out .exit)) (overTwo (input vectorSurfaces) (input vectorSurfaces) (output vectorSurfaces) (byFormula vectorSurfaces vectorSurfaces vectorSurfaces (productBy vectors cross)) «a_order» (now (a .entry)) «b_order» (now (b .entry)) (now (out .entry))) ⌝ }
 {
     on_two(VectorOperation::Cross, a_order, a, b_order, b, out)
 }
@@ -363,7 +362,7 @@ pub extern "C" fn sugamdely_surface_absolute_derivatives(
     a: &[f64],
     out: &mut [f64],
 ) -> u8
-    ensures { λ r. ⌜ _≡_ {A = ℕ × List Float} (r, now (out .exit)) (onOne vectorSurfaces toSurface «a_order» vectorSurfaceAbsolute «a_order» (now (a .entry)) (now (out .entry))) ⌝ }
+    ensures { λ r. ⌜ _≡_ {A = ℕ × List Float} (r, now (out .exit)) (overOne (input vectorSurfaces) (output surfaces) «a_order» (byNorm vectorSurfaces surfaces (λ q. q 0 0) vectorSurfaceNorm) «a_order» (now (a .entry)) (now (out .entry))) ⌝ }
 {
     let t = given::one(
         Shape::VectorSurface,
@@ -391,7 +390,7 @@ pub extern "C" fn sugamdely_vector_composite_derivative(
     n: usize,
     out: &mut [f64],
 ) -> u8
-    ensures { λ r. ⌜ _≡_ {A = ℕ × List Float} (r, now (out .exit)) (onTwoAt vectorSurfaces parameters toVector n (λ x y. vectorAlongCurveAt x y n) «a_order» (now (a .entry)) «c_order» (now (c .entry)) (now (out .entry))) ⌝ }
+    ensures { λ r. ⌜ _≡_ {A = ℕ × List Float} (r, now (out .exit)) (overTwoAt (input vectorSurfaces) (input parameters) toVector n (λ x y. vectorAlongCurveAt x y n) «a_order» (now (a .entry)) «c_order» (now (c .entry)) (now (out .entry))) ⌝ }
 {
     let asked = given::order(n);
     let t = given::two_at(
@@ -425,7 +424,7 @@ pub extern "C" fn sugamdely_vector_composite_derivatives(
     n: usize,
     out: &mut [f64],
 ) -> u8
-    ensures { λ r. ⌜ _≡_ {A = ℕ × List Float} (r, now (out .exit)) (onTwoAt vectorSurfaces parameters toVectorCurve n (λ x y. vectorAlongCurve x y n) «a_order» (now (a .entry)) «c_order» (now (c .entry)) (now (out .entry))) ⌝ }
+    ensures { λ r. ⌜ _≡_ {A = ℕ × List Float} (r, now (out .exit)) (overTwoAt (input vectorSurfaces) (input parameters) (output vectorCurves) n (λ x y. vectorAlongCurve x y n) «a_order» (now (a .entry)) «c_order» (now (c .entry)) (now (out .entry))) ⌝ }
 {
     let asked = given::order(n);
     let t = given::two_at(

@@ -10,7 +10,7 @@ use mir.Facts.{toZ-ofZ}
 use borrow.Author.Tests.{eq-eqb, ne-eqb}
 use Rattle.whole.specs.declared.Whole.{Whole}
 use Rattle.whole.specs.declared.Whole.the-variants.{Value, Refused}
-use Rattle.calculus.proofs.Writing.{writing-begins, writing-goes-on, writing-ends}
+use Rattle.calculus.proofs.LoopWriting.{writing-begins, writing-goes-on, writing-ends}
 use Rattle.given.proofs.Admission.{pair}
 use Rattle.exact_lists.specs.Delivery.{deliverWhole}
 

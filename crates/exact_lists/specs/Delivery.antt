@@ -7,18 +7,8 @@ use Rattle.whole.specs.declared.Whole.{Whole}
 use Rattle.whole.specs.declared.Whole.the-variants as whole
 use Rattle.partitions.specs.declared.Count.{Count}
 use Rattle.partitions.specs.declared.Count.the-variants as count
-use Rattle.exact.specs.declared.CurveAnswer.{CurveAnswer}
-use Rattle.exact.specs.declared.SurfaceAnswer.{SurfaceAnswer}
-use Rattle.exact.specs.Answer.{curveIntoList, surfaceIntoList}
 use Rattle.given.specs.Given.{first, countGiven}
 use Rattle.given.specs.Lists.{admitted}
-
--- ---- jets, each as its own function writes it into a list
-unfoldable pub deliverCurve : CurveAnswer → List ℤ → ℕ × List ℤ
-deliverCurve a out = admitted (a .refusal) out (curveIntoList (a .jet) out)
-
-unfoldable pub deliverSurface : SurfaceAnswer → List ℤ → ℕ × List ℤ
-deliverSurface a out = admitted (a .refusal) out (surfaceIntoList (a .jet) out)
 
 -- ---- a number into a list of one; a count too, whose list is tested after an order (1) and before a part list (3)
 unfoldable pub deliverWhole : Whole → List ℤ → ℕ × List ℤ

@@ -3,7 +3,9 @@ ghost use mathlib.Core.Path.{_≡_};
 ghost use mathlib.Core.List.{List};
 ghost use Prim.Native.Nat.{ℕ};
 ghost use lib.IntN.{ℤ};
-ghost use Rattle.exact_lists.specs.Delivery.{deliverWhole, deliverCount, deliverCurve, deliverSurface};
+ghost use Rattle.exact_lists.specs.Delivery.{deliverWhole, deliverCount};
+ghost use Rattle.exact.specs.Answer.{surfaces, curves};
+ghost use Rattle.given.specs.Lists.{deliver};
 use exact::CurveAnswer;
 use exact::SurfaceAnswer;
 use partitions::Count;
@@ -43,7 +45,7 @@ pub fn count(a: Count, out: &mut [u64]) -> u8
 }
 
 pub fn curve(a: CurveAnswer, out: &mut [i64]) -> u8
-    ensures { λ r. ⌜ _≡_ {A = ℕ × List ℤ} (r, now (out .exit)) (deliverCurve a (now (out .entry))) ⌝ }
+    ensures { λ r. ⌜ _≡_ {A = ℕ × List ℤ} (r, now (out .exit)) (deliver curves a (now (out .entry))) ⌝ }
 {
     let c = a.refusal;
     if c != 0 {
@@ -54,7 +56,7 @@ pub fn curve(a: CurveAnswer, out: &mut [i64]) -> u8
 }
 
 pub fn surface(a: SurfaceAnswer, out: &mut [i64]) -> u8
-    ensures { λ r. ⌜ _≡_ {A = ℕ × List ℤ} (r, now (out .exit)) (deliverSurface a (now (out .entry))) ⌝ }
+    ensures { λ r. ⌜ _≡_ {A = ℕ × List ℤ} (r, now (out .exit)) (deliver surfaces a (now (out .entry))) ⌝ }
 {
     let c = a.refusal;
     if c != 0 {

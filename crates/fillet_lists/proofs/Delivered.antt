@@ -11,18 +11,17 @@ use lib.Ieee.{Float}
 use lib.Ieee.Scale.{finite}
 use borrow.Author.Tests.{eqb-false, ltb-false}
 use Rattle.calculus.specs.Array.{listed}
-use Rattle.calculus.specs.Order.{curveEntries}
+use Rattle.calculus.specs.Order.{curveEntries, pairs}
 use Rattle.formulas.specs.Numbers.{curveNumbers, finiteCurve}
-use Rattle.derivatives.specs.Answer.{pairs, parameterIntoList, above20 as above20Of}
+use Rattle.calculus.specs.JetKind.{finiteUpTo, above20 as above20Of, intoList}
 use Rattle.vector_formulas.specs.Vector.{vectorNumbers, finiteVectorCurve, flat}
-use Rattle.derivatives.specs.VectorAnswer.{vectorCurveIntoList}
 use Rattle.derivatives.specs.declared.CurveDerivatives.{CurveDerivatives}
 use Rattle.derivatives.specs.declared.ParameterCurve.{ParameterCurve}
-use Rattle.derivatives.specs.declared.VectorCurveDerivatives.{VectorCurveDerivatives}
+use Rattle.vector_derivatives.specs.declared.VectorCurveDerivatives.{VectorCurveDerivatives}
 use Rattle.derivatives.proofs.Answers as curves
 use Rattle.derivatives.proofs.Parameters as parameters
-use Rattle.derivatives.proofs.VectorAnswers as vectors
-use Rattle.rolling_ball_fillet.specs.Jets.{contactsAbove20, shortContacts, finiteJet, finiteNumbers}
+use Rattle.vector_derivatives.proofs.Answers as vectors
+use Rattle.rolling_ball_fillet.specs.Jets.{contactsAbove20, shortContacts}
 use Rattle.partials.specs.AxisAngle.{axisAngle}
 use Rattle.rolling_ball_fillet.specs.PartialAnswer.{refusedInfo, infoOf, vderInfo, returnedInfo, vderInfoAnswer, finiteInfo}
 use Rattle.contacts.specs.Center.{centerContacts as contactsAt}
@@ -36,6 +35,8 @@ use Rattle.rolling_ball_fillet.proofs.Tests.{order-below, or-left}
 use Rattle.float_lists.proofs.Lengths.{all-written}
 use Rattle.fillet_lists.specs.Delivery.{Three, Five, deliverInfo, deliverContacts}
 use Rattle.given.proofs.Admission.{allowed}
+use Rattle.vector_derivatives.specs.Answer.{vectorCurves}
+use Rattle.derivatives.specs.Answer.{parameters, curves}
 
 -- a property of an answer, by the tests that lead to it
 by-test : {A : Type 0} (P : A → Type 0) (b : Bool) (x y : A) → (b ≡ true → P x) → (b ≡ false → P y) → P (cond b x y)
@@ -64,7 +65,7 @@ module _ (d : CenterContactDers) (r : CurveDerivatives) (t : Float) where
   Orders a = (a .info .«axis_ders» .order ≡ n) × (a .info .«angle_ders» .order ≡ n)
 
   abbrev Finite : VderInfoAnswer → Type 0
-  Finite a = (n ≤ 19) × ((finiteJet (a .info .«axis_ders») n ≡ true) × (finiteNumbers (a .info .«angle_ders») n ≡ true))
+  Finite a = (n ≤ 19) × ((finiteUpTo vectorCurves (a .info .«axis_ders») n ≡ true) × (finiteUpTo curves (a .info .«angle_ders») n ≡ true))
 
   abbrev Whole : VderInfoAnswer → Type 0
   Whole a = a .refusal ≡ 0 → Orders a × Finite a
@@ -79,7 +80,7 @@ module _ (d : CenterContactDers) (r : CurveDerivatives) (t : Float) where
   unfit = shortContacts d (suc n) || ltb (r .order) (suc n)
 
   abbrev given : Bool
-  given = center.finiteContacts d n && finiteNumbers r (suc n) && finite t
+  given = center.finiteContacts d n && finiteUpTo curves r (suc n) && finite t
 
   orders : worked .refusal ≡ 0 → Orders worked
   orders =
@@ -91,8 +92,8 @@ module _ (d : CenterContactDers) (r : CurveDerivatives) (t : Float) where
   returned near =
       let a = worked in
       let p = center.finiteContacts (a .info .«cc_ders») n in
-      let q = finiteJet (a .info .«axis_ders») n in
-      let s = finiteNumbers (a .info .«angle_ders») n in
+      let q = finiteUpTo vectorCurves (a .info .«axis_ders») n in
+      let s = finiteUpTo curves (a .info .«angle_ders») n in
       let w = finite (a .cosine) in
       by-test Whole (eqb (a .refusal) 0) (cond (finiteInfo (a .info) n && w) a (refusedInfo 10)) a
       (λ _. by-test Whole (finiteInfo (a .info) n && w) a (refusedInfo 10)
@@ -129,8 +130,8 @@ module _ (d : CenterContactDers) (r : CurveDerivatives) (t : Float) where
       let o : x .order ≡ n = m .0 .0 in
       let k : y .order ≡ n = m .0 .1 in
       let b : n ≤ 19 = m .1 .0 in
-      let v = vectors.into-is x axis (omega (arith, o, b)) (omega (arith, o, e)) (subst (λ (j : ℕ). finiteJet x j ≡ true) (sym o) (m .1 .1 .0)) in
-      let c = curves.into-is y angle (omega (arith, k, b)) (omega (arith, k, f)) (subst (λ (j : ℕ). finiteNumbers y j ≡ true) (sym k) (m .1 .1 .1)) in
+      let v = vectors.into-is x axis (omega (arith, o, b)) (omega (arith, o, e)) (subst (λ (j : ℕ). finiteUpTo vectorCurves x j ≡ true) (sym o) (m .1 .1 .0)) in
+      let c = curves.into-is y angle (omega (arith, k, b)) (omega (arith, k, f)) (subst (λ (j : ℕ). finiteUpTo curves y j ≡ true) (sym k) (m .1 .1 .1)) in
       sym (allowed {L = Three} (axis, (angle, cosine)) refl z (λ i. (0, (v i .1, (c i .1, all-written (answer .cosine ∷ []) cosine g refl i .1)))))
 
 -- ---- one jet of the order k
@@ -144,12 +145,12 @@ abbrev list : ℕ × List Float → List Float
 list r = r .1
 
 vector-left : (a : VectorCurveDerivatives) (out : List Float) (k : ℕ) → k ≤ 20 → a .order ≡ k → length out ≡ 3 * suc k →
-    finiteVectorCurve (vectorNumbers (a .entries)) k ≡ true → vectorList a ≡ vectorCurveIntoList a out .1
+    finiteVectorCurve (vectorNumbers (a .entries)) k ≡ true → vectorList a ≡ intoList vectorCurves a out .1
 vector-left a out k h o e p =
     ap list (vectors.into-is a out (omega (arith, o, h)) (omega (arith, o, e)) (subst (λ (j : ℕ). finiteVectorCurve (vectorNumbers (a .entries)) j ≡ true) (sym o) p))
 
 parameter-left : (a : ParameterCurve) (out : List Float) (k : ℕ) → k ≤ 20 → a .order ≡ k → length out ≡ 2 * suc k →
-    finiteCurve (curveNumbers (a .u)) k ≡ true → finiteCurve (curveNumbers (a .v)) k ≡ true → parameterList a ≡ parameterIntoList a out .1
+    finiteCurve (curveNumbers (a .u)) k ≡ true → finiteCurve (curveNumbers (a .v)) k ≡ true → parameterList a ≡ intoList parameters a out .1
 parameter-left a out k h o e p q =
     ap list
     (parameters.into-is a out (omega (arith, o, h)) (omega (arith, o, e)) (subst (λ (j : ℕ). finiteCurve (curveNumbers (a .u)) j ≡ true) (sym o) p)

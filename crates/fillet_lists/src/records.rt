@@ -2,8 +2,6 @@
 ghost use mathlib.Core.Path.{_≡_};
 ghost use Rattle.fillet_lists.specs.Records.{circleOf, circleWith, filletWith, filletOf, dersOf, infoOf};
 use derivatives::CurveDerivatives;
-use derivatives::VectorCurveDerivatives;
-use derivatives::VectorSurfaceDerivatives;
 use float_lists::lists;
 use float_lists::read;
 use ieee_vectors::Vector2;
@@ -12,6 +10,8 @@ use rolling_ball_fillet::ContactCircle;
 use rolling_ball_fillet::ContactPoint;
 use rolling_ball_fillet::RollingBallFilletSurface;
 use rolling_ball_fillet::VderInfo;
+use vector_derivatives::VectorCurveDerivatives;
+use vector_derivatives::VectorSurfaceDerivatives;
 
 // With the parameters of its contact points.
 pub fn circle(l: &[f64], u0: f64, v0: f64, u1: f64, v1: f64) -> ContactCircle

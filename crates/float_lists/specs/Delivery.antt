@@ -13,27 +13,7 @@ use Rattle.vectors.specs.declared.VectorAnswer.{VectorAnswer}
 use Rattle.vectors.specs.declared.VectorAnswer.the-variants as vector
 use Rattle.vectors.specs.declared.Matrix2Answer.{Matrix2Answer}
 use Rattle.vectors.specs.declared.Matrix3Answer.{Matrix3Answer}
-use Rattle.derivatives.specs.declared.CurveAnswer.{CurveAnswer}
-use Rattle.derivatives.specs.declared.SurfaceAnswer.{SurfaceAnswer}
-use Rattle.derivatives.specs.declared.VectorCurveAnswer.{VectorCurveAnswer}
-use Rattle.derivatives.specs.declared.VectorSurfaceAnswer.{VectorSurfaceAnswer}
-use Rattle.derivatives.specs.Answer.{curveIntoList, surfaceIntoList}
-use Rattle.derivatives.specs.VectorAnswer.{vectorCurveIntoList}
-use Rattle.derivatives.specs.VectorSurfaceAnswer.{vectorSurfaceIntoList}
 use Rattle.given.specs.Lists.{admitted}
-
--- ---- jets, each as its own function writes it into a list
-unfoldable pub deliverCurve : CurveAnswer → List Float → ℕ × List Float
-deliverCurve a out = admitted (a .refusal) out (curveIntoList (a .jet) out)
-
-unfoldable pub deliverSurface : SurfaceAnswer → List Float → ℕ × List Float
-deliverSurface a out = admitted (a .refusal) out (surfaceIntoList (a .jet) out)
-
-unfoldable pub deliverVectorCurve : VectorCurveAnswer → List Float → ℕ × List Float
-deliverVectorCurve a out = admitted (a .refusal) out (vectorCurveIntoList (a .jet) out)
-
-unfoldable pub deliverVectorSurface : VectorSurfaceAnswer → List Float → ℕ × List Float
-deliverVectorSurface a out = admitted (a .refusal) out (vectorSurfaceIntoList (a .jet) out)
 
 -- ---- floats into a list of just so many, which else is refused 2
 abbrev pub written : List Float → List Float → ℕ × List Float

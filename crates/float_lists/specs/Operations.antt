@@ -16,7 +16,8 @@ use Rattle.derivatives.specs.declared.SurfaceDerivatives.{SurfaceDerivatives}
 use Rattle.derivatives.specs.declared.SurfaceAnswer.{SurfaceAnswer}
 use Rattle.formulas.specs.Real.{real}
 use Rattle.calculus.specs.Rational.{rational, surfaceRational}
-use Rattle.derivatives.specs.Answer.{onCurves, byFormula, byDivision, onSurfaces, bySurfaceFormula, bySurfaceDivision}
+use Rattle.calculus.specs.JetKind.{byFormula}
+use Rattle.derivatives.specs.Answer.{byDivision, curves, surfaces}
 use Rattle.calculus.specs.declared.Operation.{Operation}
 use Rattle.calculus.specs.declared.Operation.the-variants as jets
 use Rattle.float_lists.specs.declared.operations.VectorOperation.{VectorOperation}
@@ -25,16 +26,16 @@ use Rattle.float_lists.specs.declared.operations.ScalarOperation.{Scalar
 use Rattle.float_lists.specs.declared.operations.ScalarOperation.the-variants as scalar
 
 abbrev pub curveOperation : Operation → CurveDerivatives → CurveDerivatives → CurveAnswer
-curveOperation jets.Sum = onCurves (byFormula (Curve.sum (regular real)))
-curveOperation jets.Difference = onCurves (byFormula (Curve.difference (regular real)))
-curveOperation jets.Product = onCurves (byFormula (Curve.product real))
-curveOperation jets.Quotient = onCurves (byDivision (rational (regular real) (real .over)))
+curveOperation jets.Sum = byFormula curves curves curves (Curve.sum (regular real))
+curveOperation jets.Difference = byFormula curves curves curves (Curve.difference (regular real))
+curveOperation jets.Product = byFormula curves curves curves (Curve.product real)
+curveOperation jets.Quotient = byDivision curves curves curves (λ y. y 0) (rational (regular real) (real .over))
 
 abbrev pub surfaceOperation : Operation → SurfaceDerivatives → SurfaceDerivatives → SurfaceAnswer
-surfaceOperation jets.Sum = onSurfaces (bySurfaceFormula (Surface.sum (regular real)))
-surfaceOperation jets.Difference = onSurfaces (bySurfaceFormula (Surface.difference (regular real)))
-surfaceOperation jets.Product = onSurfaces (bySurfaceFormula (Surface.product real))
-surfaceOperation jets.Quotient = onSurfaces (bySurfaceDivision (surfaceRational (regular real) (real .over)))
+surfaceOperation jets.Sum = byFormula surfaces surfaces surfaces (Surface.sum (regular real))
+surfaceOperation jets.Difference = byFormula surfaces surfaces surfaces (Surface.difference (regular real))
+surfaceOperation jets.Product = byFormula surfaces surfaces surfaces (Surface.product real)
+surfaceOperation jets.Quotient = byDivision surfaces surfaces surfaces (λ y. y 0 0) (surfaceRational (regular real) (real .over))
 
 abbrev pub vectorOperation : VectorOperation → Vector3 → Vector3 → VectorAnswer
 vectorOperation vector.Sum a b = vectorFrom (finiteVector a && finiteVector b) (sum a b)

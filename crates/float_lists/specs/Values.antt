@@ -31,22 +31,22 @@ abbrev pub matrix3Of : List Float → Matrix3
 matrix3Of l = columns (vectorAt l 0) (vectorAt l 3) (vectorAt l 6)
 
 abbrev pub aVector2 : Input Float Vector2
-aVector2 = record { given = λ n. countGiven 2; jet = λ n. vector2Of }
+aVector2 = record { test = λ n. countGiven 2; jet = λ n. vector2Of }
 
 abbrev pub aVector : Input Float Vector3
-aVector = record { given = λ n. countGiven 3; jet = λ n l. vectorAt l 0 }
+aVector = record { test = λ n. countGiven 3; jet = λ n l. vectorAt l 0 }
 
 abbrev pub aMatrix2 : Input Float Matrix2
-aMatrix2 = record { given = λ n. countGiven 4; jet = λ n. matrix2Of }
+aMatrix2 = record { test = λ n. countGiven 4; jet = λ n. matrix2Of }
 
 abbrev pub aMatrix3 : Input Float Matrix3
-aMatrix3 = record { given = λ n. countGiven 9; jet = λ n. matrix3Of }
+aMatrix3 = record { test = λ n. countGiven 9; jet = λ n. matrix3Of }
 
 abbrev pub toVector2 : Output Float Vector2Answer
-toVector2 = record { given = λ n. countGiven 2; deliver = deliverVector2 }
+toVector2 = record { test = λ n. countGiven 2; deliver = deliverVector2 }
 
 abbrev pub toMatrix2 : Output Float Matrix2Answer
-toMatrix2 = record { given = λ n. countGiven 4; deliver = deliverMatrix2 }
+toMatrix2 = record { test = λ n. countGiven 4; deliver = deliverMatrix2 }
 
 abbrev pub toMatrix3 : Output Float Matrix3Answer
-toMatrix3 = record { given = λ n. countGiven 9; deliver = deliverMatrix3 }
+toMatrix3 = record { test = λ n. countGiven 9; deliver = deliverMatrix3 }

@@ -3,9 +3,9 @@ ghost use mathlib.Core.Path.{_≡_};
 ghost use mathlib.Core.List.{List};
 ghost use Prim.Native.Nat.{ℕ};
 ghost use lib.Ieee.{Float};
-ghost use Rattle.given.specs.Lists.{onTwo};
-ghost use Rattle.float_lists.specs.Lists.{curve as curves, toCurve};
 ghost use Rattle.float_lists.specs.Operations.{curveOperation};
+ghost use Rattle.derivatives.specs.Answer.{curves};
+ghost use Rattle.given.specs.Lists.{overTwo, output, input};
 use crate::deliver;
 use crate::lists;
 use calculus::Operation;
@@ -32,7 +32,7 @@ pub fn on_two(
     b: &[f64],
     out: &mut [f64],
 ) -> u8
-    ensures { λ r. ⌜ _≡_ {A = ℕ × List Float} (r, now (out .exit)) (onTwo curves curves toCurve (curveOperation op) «a_order» (now (a .entry)) «b_order» (now (b .entry)) (now (out .entry))) ⌝ }
+    ensures { λ r. ⌜ _≡_ {A = ℕ × List Float} (r, now (out .exit)) (overTwo (input curves) (input curves) (output curves) (curveOperation op) «a_order» (now (a .entry)) «b_order» (now (b .entry)) (now (out .entry))) ⌝ }
 {
     let t = given::two(
         Shape::Curve,

@@ -3,11 +3,14 @@ ghost use mathlib.Core.Path.{_≡_};
 ghost use mathlib.Core.List.{List};
 ghost use Prim.Native.Nat.{ℕ};
 ghost use lib.Ieee.{Float};
-ghost use Rattle.float_lists.specs.Delivery.{deliverCurve, deliverSurface, deliverVectorCurve, deliverVectorSurface, deliverFloat, deliverVector2, deliverVector, deliverMatrix2, deliverMatrix3};
+ghost use Rattle.float_lists.specs.Delivery.{deliverFloat, deliverVector2, deliverVector, deliverMatrix2, deliverMatrix3};
+ghost use Rattle.derivatives.specs.Answer.{surfaces, curves};
+ghost use Rattle.given.specs.Lists.{deliver};
+ghost use Rattle.vector_derivatives.specs.Answer.{vectorSurfaces, vectorCurves};
 use derivatives::CurveAnswer;
 use derivatives::SurfaceAnswer;
-use derivatives::VectorCurveAnswer;
-use derivatives::VectorSurfaceAnswer;
+use vector_derivatives::VectorCurveAnswer;
+use vector_derivatives::VectorSurfaceAnswer;
 use vectors::Matrix2Answer;
 use vectors::Matrix3Answer;
 use vectors::Real;
@@ -15,7 +18,7 @@ use vectors::Vector2Answer;
 use vectors::VectorAnswer;
 
 pub fn curve(a: CurveAnswer, out: &mut [f64]) -> u8
-    ensures { λ r. ⌜ _≡_ {A = ℕ × List Float} (r, now (out .exit)) (deliverCurve a (now (out .entry))) ⌝ }
+    ensures { λ r. ⌜ _≡_ {A = ℕ × List Float} (r, now (out .exit)) (deliver curves a (now (out .entry))) ⌝ }
 {
     let c = a.refusal;
     if c != 0 {
@@ -26,7 +29,7 @@ pub fn curve(a: CurveAnswer, out: &mut [f64]) -> u8
 }
 
 pub fn surface(a: SurfaceAnswer, out: &mut [f64]) -> u8
-    ensures { λ r. ⌜ _≡_ {A = ℕ × List Float} (r, now (out .exit)) (deliverSurface a (now (out .entry))) ⌝ }
+    ensures { λ r. ⌜ _≡_ {A = ℕ × List Float} (r, now (out .exit)) (deliver surfaces a (now (out .entry))) ⌝ }
 {
     let c = a.refusal;
     if c != 0 {
@@ -37,7 +40,7 @@ pub fn surface(a: SurfaceAnswer, out: &mut [f64]) -> u8
 }
 
 pub fn vector_curve(a: VectorCurveAnswer, out: &mut [f64]) -> u8
-    ensures { λ r. ⌜ _≡_ {A = ℕ × List Float} (r, now (out .exit)) (deliverVectorCurve a (now (out .entry))) ⌝ }
+    ensures { λ r. ⌜ _≡_ {A = ℕ × List Float} (r, now (out .exit)) (deliver vectorCurves a (now (out .entry))) ⌝ }
 {
     let c = a.refusal;
     if c != 0 {
@@ -48,7 +51,7 @@ pub fn vector_curve(a: VectorCurveAnswer, out: &mut [f64]) -> u8
 }
 
 pub fn vector_surface(a: VectorSurfaceAnswer, out: &mut [f64]) -> u8
-    ensures { λ r. ⌜ _≡_ {A = ℕ × List Float} (r, now (out .exit)) (deliverVectorSurface a (now (out .entry))) ⌝ }
+    ensures { λ r. ⌜ _≡_ {A = ℕ × List Float} (r, now (out .exit)) (deliver vectorSurfaces a (now (out .entry))) ⌝ }
 {
     let c = a.refusal;
     if c != 0 {

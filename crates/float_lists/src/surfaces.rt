@@ -4,10 +4,10 @@ ghost use mathlib.Core.List.{List};
 ghost use Prim.Native.Nat.{ℕ, _-_};
 ghost use lib.Ieee.{Float};
 ghost use Rattle.calculus.specs.Surface.{derivativeBy};
-ghost use Rattle.derivatives.specs.Answer.{surfaceDerivative};
-ghost use Rattle.given.specs.Lists.{onTwo, onOne};
-ghost use Rattle.float_lists.specs.Lists.{surface as surfaces, toSurface};
 ghost use Rattle.float_lists.specs.Operations.{surfaceOperation};
+ghost use Rattle.calculus.specs.JetKind.{differentiated};
+ghost use Rattle.given.specs.Lists.{overTwo, overOne, output, input};
+ghost use Rattle.derivatives.specs.Answer.{surfaces};
 use crate::deliver;
 use crate::lists;
 use calculus::By;
@@ -28,7 +28,7 @@ fn work(op: Operation, a: SurfaceDerivatives, b: SurfaceDerivatives) -> SurfaceA
 }
 
 fn derived(by: By, a: SurfaceDerivatives) -> SurfaceAnswer
-    ensures { λ r. ⌜ r ≡ surfaceDerivative (derivativeBy by) a ⌝ }
+    ensures { λ r. ⌜ r ≡ differentiated surfaces (derivativeBy by) a ⌝ }
 {
     match by {
         By::U => a.derivative_u(),
@@ -44,7 +44,7 @@ pub fn on_two(
     b: &[f64],
     out: &mut [f64],
 ) -> u8
-    ensures { λ r. ⌜ _≡_ {A = ℕ × List Float} (r, now (out .exit)) (onTwo surfaces surfaces toSurface (surfaceOperation op) «a_order» (now (a .entry)) «b_order» (now (b .entry)) (now (out .entry))) ⌝ }
+    ensures { λ r. ⌜ _≡_ {A = ℕ × List Float} (r, now (out .exit)) (overTwo (input surfaces) (input surfaces) (output surfaces) (surfaceOperation op) «a_order» (now (a .entry)) «b_order» (now (b .entry)) (now (out .entry))) ⌝ }
 {
     let t = given::two(
         Shape::Surface,
@@ -66,7 +66,7 @@ pub fn on_two(
 }
 
 pub fn derivative(by: By, a_order: usize, a: &[f64], out: &mut [f64]) -> u8
-    ensures { λ r. ⌜ _≡_ {A = ℕ × List Float} (r, now (out .exit)) (onOne surfaces toSurface («a_order» - 1) (surfaceDerivative (derivativeBy by)) «a_order» (now (a .entry)) (now (out .entry))) ⌝ }
+    ensures { λ r. ⌜ _≡_ {A = ℕ × List Float} (r, now (out .exit)) (overOne (input surfaces) (output surfaces) («a_order» - 1) (differentiated surfaces (derivativeBy by)) «a_order» (now (a .entry)) (now (out .entry))) ⌝ }
 {
     let t = given::lowered(Shape::Surface, a_order, a.len(), out.len());
     if t != 0 {

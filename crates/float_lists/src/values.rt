@@ -3,10 +3,10 @@ ghost use mathlib.Core.Path.{_≡_};
 ghost use mathlib.Core.List.{List};
 ghost use Prim.Native.Nat.{ℕ};
 ghost use lib.Ieee.{Float};
-ghost use Rattle.given.specs.Lists.{onTwo, onOne};
 ghost use Rattle.float_lists.specs.Values.{aVector};
 ghost use Rattle.float_lists.specs.Lists.{toVector};
 ghost use Rattle.float_lists.specs.Operations.{vectorOperation, scalarOperation};
+ghost use Rattle.given.specs.Lists.{overTwo, overOne};
 use crate::deliver;
 use crate::operations::ScalarOperation;
 use crate::operations::VectorOperation;
@@ -35,7 +35,7 @@ fn work_scalar(op: ScalarOperation, a: Vector3, s: f64) -> VectorAnswer
 }
 
 pub fn on_vectors(op: VectorOperation, a: &[f64], b: &[f64], out: &mut [f64]) -> u8
-    ensures { λ r. ⌜ _≡_ {A = ℕ × List Float} (r, now (out .exit)) (onTwo aVector aVector toVector (vectorOperation op) 0 (now (a .entry)) 0 (now (b .entry)) (now (out .entry))) ⌝ }
+    ensures { λ r. ⌜ _≡_ {A = ℕ × List Float} (r, now (out .exit)) (overTwo aVector aVector toVector (vectorOperation op) 0 (now (a .entry)) 0 (now (b .entry)) (now (out .entry))) ⌝ }
 {
     let t = given::two(
         Shape::Vector,
@@ -57,7 +57,7 @@ pub fn on_vectors(op: VectorOperation, a: &[f64], b: &[f64], out: &mut [f64]) ->
 }
 
 pub fn on_scalar(op: ScalarOperation, a: &[f64], s: f64, out: &mut [f64]) -> u8
-    ensures { λ r. ⌜ _≡_ {A = ℕ × List Float} (r, now (out .exit)) (onOne aVector toVector 0 (scalarOperation op s) 0 (now (a .entry)) (now (out .entry))) ⌝ }
+    ensures { λ r. ⌜ _≡_ {A = ℕ × List Float} (r, now (out .exit)) (overOne aVector toVector 0 (scalarOperation op s) 0 (now (a .entry)) (now (out .entry))) ⌝ }
 {
     let t = given::one(Shape::Vector, 0, a.len(), Shape::Vector, 0, out.len());
     if t != 0 {

@@ -7,7 +7,7 @@ use native.Mathlib.Omega.{arith}
 use lib.ListN.{length}
 use borrow.Author.Tests.{eq-eqb, ne-eqb}
 use Rattle.given.specs.Given.{first, orderGiven, countGiven}
-use Rattle.given.specs.Lists.{admitted, Input, Output, onTwo, onTwoAt, onOne}
+use Rattle.given.specs.Lists.{overTwoAt, overTwo, overOne, admitted, Input, Output}
 
 abbrev pub pair : {T : Type 0} → ℕ → List T → ℕ × List T
 pair c l = (c, l)
@@ -25,24 +25,24 @@ module _ {L : Type 0} {t g : ℕ} (out : L) (e : t ≡ g) where
 
 -- ---- operations on jets
 module _ {T J K A : Type 0} (X : Input T J) (Y : Input T K) (Z : Output T A) (op : J → K → A) (m : ℕ) (a : List T) (n : ℕ) (b out : List T) where
-  module _ {t : ℕ} (e : t ≡ first (X .given m (length a)) (first (Y .given n (length b)) (Z .given (min m n) (length out)))) where
-    pub two-refused : ¬ (t ≡ 0) → pair t out ≡ onTwo X Y Z op m a n b out
-    unfolding onTwo
+  module _ {t : ℕ} (e : t ≡ first (X .test m (length a)) (first (Y .test n (length b)) (Z .test (min m n) (length out)))) where
+    pub two-refused : ¬ (t ≡ 0) → pair t out ≡ overTwo X Y Z op m a n b out
+    unfolding overTwo
     two-refused h = refused out e (Z .deliver (op (X .jet m a) (Y .jet n b)) out) h
 
     pub two-worked : t ≡ 0 → {x : J} {y : K} {r : A} {s : ℕ × List T} → x ≡ X .jet m a → y ≡ Y .jet n b → r ≡ op x y → s ≡ Z .deliver r out →
-        s ≡ onTwo X Y Z op m a n b out
-    unfolding onTwo
+        s ≡ overTwo X Y Z op m a n b out
+    unfolding overTwo
     two-worked h p q w v = allowed out e h (v ∙ ap (λ (r : A). Z .deliver r out) (w ∙ ap₂ op p q))
 
-  module _ (k : ℕ) {t : ℕ} (e : t ≡ first (X .given m (length a)) (first (Y .given n (length b)) (first (orderGiven k) (Z .given k (length out))))) where
-    pub two-refused-at : ¬ (t ≡ 0) → pair t out ≡ onTwoAt X Y Z k op m a n b out
-    unfolding onTwoAt
+  module _ (k : ℕ) {t : ℕ} (e : t ≡ first (X .test m (length a)) (first (Y .test n (length b)) (first (orderGiven k) (Z .test k (length out))))) where
+    pub two-refused-at : ¬ (t ≡ 0) → pair t out ≡ overTwoAt X Y Z k op m a n b out
+    unfolding overTwoAt
     two-refused-at h = refused out e (Z .deliver (op (X .jet m a) (Y .jet n b)) out) h
 
     pub two-worked-at : t ≡ 0 → {x : J} {y : K} {r : A} {s : ℕ × List T} → x ≡ X .jet m a → y ≡ Y .jet n b → r ≡ op x y → s ≡ Z .deliver r out →
-        s ≡ onTwoAt X Y Z k op m a n b out
-    unfolding onTwoAt
+        s ≡ overTwoAt X Y Z k op m a n b out
+    unfolding overTwoAt
     two-worked-at h p q w v = allowed out e h (v ∙ ap (λ (r : A). Z .deliver r out) (w ∙ ap₂ op p q))
 
 -- the test of an order asked, as a number of its own
@@ -50,13 +50,13 @@ pub asked-at : (p q o : ℕ) {x y t : ℕ} → x ≡ y → t ≡ first p (first 
 asked-at p q o h e = e ∙ ap (λ (x : ℕ). first p (first q (first x o))) h
 
 module _ {T J A : Type 0} (X : Input T J) (Z : Output T A) (k : ℕ) (op : J → A) (n : ℕ) (a out : List T) where
-  module _ {t : ℕ} (e : t ≡ first (X .given n (length a)) (Z .given k (length out))) where
-    pub one-refused : ¬ (t ≡ 0) → pair t out ≡ onOne X Z k op n a out
-    unfolding onOne
+  module _ {t : ℕ} (e : t ≡ first (X .test n (length a)) (Z .test k (length out))) where
+    pub one-refused : ¬ (t ≡ 0) → pair t out ≡ overOne X Z k op n a out
+    unfolding overOne
     one-refused h = refused out e (Z .deliver (op (X .jet n a)) out) h
 
-    pub one-worked : t ≡ 0 → {x : J} {r : A} {s : ℕ × List T} → x ≡ X .jet n a → r ≡ op x → s ≡ Z .deliver r out → s ≡ onOne X Z k op n a out
-    unfolding onOne
+    pub one-worked : t ≡ 0 → {x : J} {r : A} {s : ℕ × List T} → x ≡ X .jet n a → r ≡ op x → s ≡ Z .deliver r out → s ≡ overOne X Z k op n a out
+    unfolding overOne
     one-worked h p w v = allowed out e h (v ∙ ap (λ (r : A). Z .deliver r out) (w ∙ ap op p))
 
 -- ---- where the test is 0, each of its parts is

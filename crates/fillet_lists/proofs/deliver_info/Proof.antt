@@ -2,12 +2,13 @@
 use mathlib.Core.Path.{refl}
 use mathlib.Core.List.{[], _∷_}
 use denote.Ref.{now}
-use Rattle.derivatives.specs.Answer.{curveIntoList}
-use Rattle.derivatives.specs.VectorAnswer.{vectorCurveIntoList}
 use Rattle.float_lists.specs.Delivery.{written, deliverFloat}
 use Rattle.fillet_lists.specs.Delivery.{Three, deliverInfo}
 use Rattle.given.proofs.Admission.{refused, allowed}
 use borrow.Author.Needs.{needs}
+use Rattle.vector_derivatives.specs.Answer.{vectorCurves}
+use Rattle.derivatives.specs.Answer.{curves}
+use Rattle.calculus.specs.JetKind.{intoList}
 use Rattle.fillet_lists.proofs.deliver_info.Statement.{statement}
 use Rattle.fillet_lists.proofs.deliver_info.Tie as tie
 
@@ -15,7 +16,7 @@ returns : tie.Need-returns
 unfolding deliverInfo
 returns c = let s = c .before .before .before .before .args in
     refused {L = Three} (now (s .axis), (now (s .angle), now (s .cosine))) refl
-    (0, (vectorCurveIntoList (s .a .info .«axis_ders») (now (s .axis)) .1, (curveIntoList (s .a .info .«angle_ders») (now (s .angle)) .1, written (s .a .cosine ∷ []) (now (s .cosine)) .1))) (c .if1 .taken)
+    (0, (intoList vectorCurves (s .a .info .«axis_ders») (now (s .axis)) .1, (intoList curves (s .a .info .«angle_ders») (now (s .angle)) .1, written (s .a .cosine ∷ []) (now (s .cosine)) .1))) (c .if1 .taken)
 
 into-list-requires : tie.Need-into-list-requires
 into-list-requires c κs = search needs

@@ -5,8 +5,9 @@ use Rattle.exact.specs.Composite.{alongCurve}
 use Rattle.exact.specs.declared.SurfaceAnswer.{SurfaceAnswer}
 use Rattle.exact.specs.declared.ParameterAnswer.{ParameterAnswer}
 use Rattle.given.proofs.Admission.{asked-at, two-refused-at, two-worked-at}
-use Rattle.exact_lists.specs.Lists.{surface, parameter, toCurve}
 use borrow.Author.Needs.{needs}
+use Rattle.exact.specs.Answer.{surfaces, parameters, curves}
+use Rattle.given.specs.Lists.{output, input}
 use Rattle.capi_exact.proofs.carry.sugamdely_exact_composite_derivatives.Statement.{statement}
 use Rattle.capi_exact.proofs.carry.sugamdely_exact_composite_derivatives.Tie as tie
 
@@ -19,7 +20,7 @@ two-at-requires c κs = search needs
 returns : tie.Need-returns
 returns c =
     let s = c .before .before .before .args in
-    two-refused-at surface parameter toCurve (λ x y. alongCurve x y (s .n)) (s .a-order) (now (s .a)) (s .c-order) (now (s .c)) (now (s .out)) (s .n) (asked-at _ _ _ (c .before .before .order .ensures) (c .before .two-at .ensures)) (c .if1 .taken)
+    two-refused-at (input surfaces) (input parameters) (output curves) (λ x y. alongCurve x y (s .n)) (s .a-order) (now (s .a)) (s .c-order) (now (s .c)) (now (s .out)) (s .n) (asked-at _ _ _ (c .before .before .order .ensures) (c .before .two-at .ensures)) (c .if1 .taken)
 
 from-list-requires : tie.Need-from-list-requires
 from-list-requires c κs = search needs
@@ -42,7 +43,7 @@ returns-2 c =
     let y = p .before .before .before in
     let g = y .before .before in
     let s = g .before .before .before .args in
-    two-worked-at surface parameter toCurve (λ x y. alongCurve x y (s .n)) (s .a-order) (now (s .a)) (s .c-order) (now (s .c)) (now (s .out)) (s .n)
+    two-worked-at (input surfaces) (input parameters) (output curves) (λ x y. alongCurve x y (s .n)) (s .a-order) (now (s .a)) (s .c-order) (now (s .c)) (now (s .out)) (s .n)
     (asked-at _ _ _ (g .before .before .order .ensures) (g .before .two-at .ensures)) (g .if1 .left) (ap (λ (l : SurfaceAnswer). l .jet) (y .before .from-list .ensures)) (ap (λ (r : ParameterAnswer). r .jet) (y .from-list2 .ensures)) (p .composite-derivatives .ensures) (c .before .curve2 .ensures)
 
 pub sugamdely-exact-composite-derivatives-spec : {M : Type 1} → statement M

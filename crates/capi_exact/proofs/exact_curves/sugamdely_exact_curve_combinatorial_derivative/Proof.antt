@@ -3,11 +3,12 @@ use mathlib.Core.Path.{ap}
 use denote.Ref.{now}
 use Rattle.calculus.specs.Curve.{product}
 use Rattle.exact_formulas.specs.Kinds.{checked}
-use Rattle.exact.specs.Answer.{onCurvesAt}
+use Rattle.exact.specs.Answer.{curves, onCurvesAt}
 use Rattle.exact.specs.declared.CurveAnswer.{CurveAnswer}
 use Rattle.given.proofs.Admission.{asked-at, two-refused-at, two-worked-at}
-use Rattle.exact_lists.specs.Lists.{curve, toWhole}
+use Rattle.exact_lists.specs.Lists.{toWhole}
 use borrow.Author.Needs.{needs}
+use Rattle.given.specs.Lists.{input}
 use Rattle.capi_exact.proofs.exact_curves.sugamdely_exact_curve_combinatorial_derivative.Statement.{statement}
 use Rattle.capi_exact.proofs.exact_curves.sugamdely_exact_curve_combinatorial_derivative.Tie as tie
 
@@ -20,7 +21,7 @@ two-at-requires c κs = search needs
 returns : tie.Need-returns
 returns c =
     let s = c .before .before .before .args in
-    two-refused-at curve curve toWhole (λ x y. onCurvesAt (product checked) x y (s .m)) (s .a-order) (now (s .a)) (s .b-order) (now (s .b)) (now (s .out)) (s .m) (asked-at _ _ _ (c .before .before .order .ensures) (c .before .two-at .ensures)) (c .if1 .taken)
+    two-refused-at (input curves) (input curves) toWhole (λ x y. onCurvesAt (product checked) x y (s .m)) (s .a-order) (now (s .a)) (s .b-order) (now (s .b)) (now (s .out)) (s .m) (asked-at _ _ _ (c .before .before .order .ensures) (c .before .two-at .ensures)) (c .if1 .taken)
 
 from-list-requires : tie.Need-from-list-requires
 from-list-requires c κs = search needs
@@ -43,7 +44,7 @@ returns-2 c =
     let y = p .before .before .before in
     let g = y .before .before in
     let s = g .before .before .before .args in
-    two-worked-at curve curve toWhole (λ x y. onCurvesAt (product checked) x y (s .m)) (s .a-order) (now (s .a)) (s .b-order) (now (s .b)) (now (s .out)) (s .m)
+    two-worked-at (input curves) (input curves) toWhole (λ x y. onCurvesAt (product checked) x y (s .m)) (s .a-order) (now (s .a)) (s .b-order) (now (s .b)) (now (s .out)) (s .m)
     (asked-at _ _ _ (g .before .before .order .ensures) (g .before .two-at .ensures)) (g .if1 .left) (ap (λ (l : CurveAnswer). l .jet) (y .before .from-list .ensures)) (ap (λ (l : CurveAnswer). l .jet) (y .from-list2 .ensures)) (p .combinatorial-derivative .ensures) (c .before .whole .ensures)
 
 pub sugamdely-exact-curve-combinatorial-derivative-spec : {M : Type 1} → statement M

@@ -2,11 +2,13 @@
 use mathlib.Core.Path.{ap}
 use Prim.Native.Nat.{_-_}
 use denote.Ref.{now}
-use Rattle.exact.specs.Answer.{curveDerivative}
+use Rattle.exact.specs.Answer.{curves}
 use Rattle.exact.specs.declared.CurveAnswer.{CurveAnswer}
 use Rattle.given.proofs.Admission.{one-refused, one-worked}
-use Rattle.exact_lists.specs.Lists.{curve, toCurve}
 use borrow.Author.Needs.{needs}
+use Rattle.given.specs.Lists.{output, input}
+use Rattle.calculus.specs.JetKind.{differentiated}
+use Rattle.calculus.specs.Curve.{derivative}
 use Rattle.capi_exact.proofs.exact_curves.sugamdely_exact_curve_derivative.Statement.{statement}
 use Rattle.capi_exact.proofs.exact_curves.sugamdely_exact_curve_derivative.Tie as tie
 
@@ -16,7 +18,7 @@ lowered-requires c κs = search needs
 returns : tie.Need-returns
 returns c =
     let s = c .before .before .args in
-    one-refused curve toCurve (s .a-order - 1) curveDerivative (s .a-order) (now (s .a)) (now (s .out)) (c .before .lowered .ensures) (c .if1 .taken)
+    one-refused (input curves) (output curves) (s .a-order - 1) (differentiated curves derivative) (s .a-order) (now (s .a)) (now (s .out)) (c .before .lowered .ensures) (c .if1 .taken)
 
 from-list-requires : tie.Need-from-list-requires
 from-list-requires c κs = search needs
@@ -36,7 +38,7 @@ returns-2 c =
     let x = p .before .before in
     let g = x .before in
     let s = g .before .before .args in
-    one-worked curve toCurve (s .a-order - 1) curveDerivative (s .a-order) (now (s .a)) (now (s .out))
+    one-worked (input curves) (output curves) (s .a-order - 1) (differentiated curves derivative) (s .a-order) (now (s .a)) (now (s .out))
     (g .before .lowered .ensures) (g .if1 .left) (ap (λ (l : CurveAnswer). l .jet) (x .from-list .ensures)) (p .derivative .ensures) (c .before .curve .ensures)
 
 pub sugamdely-exact-curve-derivative-spec : {M : Type 1} → statement M

@@ -1,9 +1,10 @@
 -- `capi_exact::exact_surfaces::derived` meets its contract. Assumes nothing.
 use mathlib.Core.Path.{sym, ap, _∙_}
 use borrow.Author.Needs.{needs}
-use Rattle.exact.specs.Answer.{surfaceDerivative}
 use Rattle.calculus.specs.declared.By.{By}
 use Rattle.calculus.specs.Surface.{derivativeBy}
+use Rattle.exact.specs.Answer.{surfaces}
+use Rattle.calculus.specs.JetKind.{differentiated}
 use Rattle.capi_exact.proofs.exact_surfaces.derived.Statement.{statement}
 use Rattle.capi_exact.proofs.exact_surfaces.derived.Tie as tie
 
@@ -21,11 +22,11 @@ derivative-v-requires c κs = search needs
 
 returns : tie.Need-returns
 returns c =
-    c .derivative-u .ensures ∙ sym (ap (λ (b : By). surfaceDerivative (derivativeBy b) (c .before .before .before .args .a)) (c .before .enum-told .given .1))
+    c .derivative-u .ensures ∙ sym (ap (λ (b : By). differentiated surfaces (derivativeBy b) (c .before .before .before .args .a)) (c .before .enum-told .given .1))
 
 returns-2 : tie.Need-returns-2
 returns-2 c =
-    c .derivative-v .ensures ∙ sym (ap (λ (b : By). surfaceDerivative (derivativeBy b) (c .before .before .before .args .a)) (c .before .enum-told2 .given .1))
+    c .derivative-v .ensures ∙ sym (ap (λ (b : By). differentiated surfaces (derivativeBy b) (c .before .before .before .args .a)) (c .before .enum-told2 .given .1))
 
 pub derived-spec : {M : Type 1} → statement M
 derived-spec =

@@ -2,10 +2,11 @@
 use mathlib.Core.Path.{ap}
 use denote.Ref.{now}
 use Rattle.exact.specs.declared.SurfaceAnswer.{SurfaceAnswer}
-use Rattle.roads.specs.Roads.{surfaces as kind}
+use Rattle.roads.specs.Roads.{surfaceSteps as kind}
 use Rattle.given.proofs.Admission.{two-refused, two-worked}
-use Rattle.exact_lists.specs.Lists.{surface, toSurface}
 use borrow.Author.Needs.{needs}
+use Rattle.given.specs.Lists.{output, input}
+use Rattle.exact.specs.Answer.{surfaces}
 use Rattle.capi_exact.proofs.exact_surfaces.on_two.Statement.{statement}
 use Rattle.capi_exact.proofs.exact_surfaces.on_two.Tie as tie
 
@@ -15,7 +16,7 @@ two-requires c κs = search needs
 returns : tie.Need-returns
 returns c =
     let s = c .before .before .args in
-    two-refused surface surface toSurface (kind .apply (s .op)) (s .a-order) (now (s .a)) (s .b-order) (now (s .b)) (now (s .out)) (c .before .two .ensures) (c .if1 .taken)
+    two-refused (input surfaces) (input surfaces) (output surfaces) (kind .apply (s .op)) (s .a-order) (now (s .a)) (s .b-order) (now (s .b)) (now (s .out)) (c .before .two .ensures) (c .if1 .taken)
 
 from-list-requires : tie.Need-from-list-requires
 from-list-requires c κs = search needs
@@ -38,7 +39,7 @@ returns-2 c =
     let y = p .before .before .before in
     let g = y .before .before in
     let s = g .before .before .args in
-    two-worked surface surface toSurface (kind .apply (s .op)) (s .a-order) (now (s .a)) (s .b-order) (now (s .b)) (now (s .out))
+    two-worked (input surfaces) (input surfaces) (output surfaces) (kind .apply (s .op)) (s .a-order) (now (s .a)) (s .b-order) (now (s .b)) (now (s .out))
     (g .before .two .ensures) (g .if1 .left) (ap (λ (l : SurfaceAnswer). l .jet) (y .before .from-list .ensures)) (ap (λ (l : SurfaceAnswer). l .jet) (y .from-list2 .ensures)) (p .on-surfaces .ensures) (c .before .surface .ensures)
 
 pub on-two-spec : {M : Type 1} → statement M

@@ -4,11 +4,12 @@ use Prim.Native.Nat.{_+_}
 use denote.Ref.{now}
 use Rattle.calculus.specs.Surface.{product}
 use Rattle.exact_formulas.specs.Kinds.{checked}
-use Rattle.exact.specs.Answer.{onSurfacesAt}
+use Rattle.exact.specs.Answer.{surfaces, onSurfacesAt}
 use Rattle.exact.specs.declared.SurfaceAnswer.{SurfaceAnswer}
 use Rattle.given.proofs.Admission.{asked-at, two-refused-at, two-worked-at}
-use Rattle.exact_lists.specs.Lists.{surface, toWhole}
+use Rattle.exact_lists.specs.Lists.{toWhole}
 use borrow.Author.Needs.{needs}
+use Rattle.given.specs.Lists.{input}
 use Rattle.capi_exact.proofs.exact_surfaces.sugamdely_exact_surface_combinatorial_derivative.Statement.{statement}
 use Rattle.capi_exact.proofs.exact_surfaces.sugamdely_exact_surface_combinatorial_derivative.Tie as tie
 
@@ -21,7 +22,7 @@ two-at-requires c κs = search needs
 returns : tie.Need-returns
 returns c =
     let s = c .before .before .before .args in
-    two-refused-at surface surface toWhole (λ x y. onSurfacesAt (product checked) x y (s .m) (s .n)) (s .a-order) (now (s .a)) (s .b-order) (now (s .b)) (now (s .out)) (s .m + s .n) (asked-at _ _ _ (c .before .before .order-sum .ensures) (c .before .two-at .ensures)) (c .if1 .taken)
+    two-refused-at (input surfaces) (input surfaces) toWhole (λ x y. onSurfacesAt (product checked) x y (s .m) (s .n)) (s .a-order) (now (s .a)) (s .b-order) (now (s .b)) (now (s .out)) (s .m + s .n) (asked-at _ _ _ (c .before .before .order-sum .ensures) (c .before .two-at .ensures)) (c .if1 .taken)
 
 from-list-requires : tie.Need-from-list-requires
 from-list-requires c κs = search needs
@@ -44,7 +45,7 @@ returns-2 c =
     let y = p .before .before .before in
     let g = y .before .before in
     let s = g .before .before .before .args in
-    two-worked-at surface surface toWhole (λ x y. onSurfacesAt (product checked) x y (s .m) (s .n)) (s .a-order) (now (s .a)) (s .b-order) (now (s .b)) (now (s .out)) (s .m + s .n)
+    two-worked-at (input surfaces) (input surfaces) toWhole (λ x y. onSurfacesAt (product checked) x y (s .m) (s .n)) (s .a-order) (now (s .a)) (s .b-order) (now (s .b)) (now (s .out)) (s .m + s .n)
     (asked-at _ _ _ (g .before .before .order-sum .ensures) (g .before .two-at .ensures)) (g .if1 .left) (ap (λ (l : SurfaceAnswer). l .jet) (y .before .from-list .ensures)) (ap (λ (l : SurfaceAnswer). l .jet) (y .from-list2 .ensures)) (p .combinatorial-derivative .ensures) (c .before .whole .ensures)
 
 pub sugamdely-exact-surface-combinatorial-derivative-spec : {M : Type 1} → statement M

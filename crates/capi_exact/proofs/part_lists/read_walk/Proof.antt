@@ -10,7 +10,7 @@ use denote.Ref.{now}
 use borrow.Author.Needs.{needs}
 use Rattle.capi_exact.specs.PartLists.{walkOf}
 use Rattle.partitions.proofs.Slices.{drop-at}
-use Rattle.calculus.proofs.Writing.{Writing, writing-begins, writing-goes-on, writing-ends}
+use Rattle.calculus.proofs.LoopWriting.{Writing, writing-begins, writing-goes-on, writing-ends}
 use Rattle.capi_exact.proofs.part_lists.read_walk.Statement.{statement}
 use Rattle.capi_exact.proofs.part_lists.read_walk.Tie as tie
 

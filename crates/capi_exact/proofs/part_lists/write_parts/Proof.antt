@@ -4,7 +4,7 @@ use Prim.Native.Nat.{_-_, _≤_, _<_}
 use native.Mathlib.Omega.{arith}
 use lib.ListN.{length, drop, drop-of-length-le}
 use Rattle.partitions.proofs.Slices.{drop-at}
-use Rattle.calculus.proofs.Writing.{Writing, writing-begins, in-list, writing-goes-on, writing-ends}
+use Rattle.calculus.proofs.LoopWriting.{Writing, writing-begins, in-list, writing-goes-on, writing-ends}
 use borrow.Author.Needs.{needs}
 use Rattle.capi_exact.proofs.part_lists.write_parts.Statement.{statement}
 use Rattle.capi_exact.proofs.part_lists.write_parts.Tie as tie

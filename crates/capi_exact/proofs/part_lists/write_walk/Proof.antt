@@ -8,7 +8,7 @@ use denote.Ref.{now}
 use borrow.Author.Needs.{needs}
 use Rattle.capi_exact.specs.PartLists.{walkNumbers}
 use Rattle.partitions.proofs.Slices.{drop-at}
-use Rattle.calculus.proofs.Writing.{Writing, writing-begins, in-list, writing-goes-on, writing-ends}
+use Rattle.calculus.proofs.LoopWriting.{Writing, writing-begins, in-list, writing-goes-on, writing-ends}
 use Rattle.capi_exact.proofs.part_lists.write_walk.Statement.{statement}
 use Rattle.capi_exact.proofs.part_lists.write_walk.Tie as tie
 

@@ -2,7 +2,6 @@
 use mathlib.Core.Path.{refl, ap, ap₂, _∙_}
 use denote.Ref.{now}
 use Rattle.derivatives.specs.declared.CurveDerivatives.{CurveDerivatives}
-use Rattle.derivatives.specs.Lists.{curveOfList}
 use Rattle.rolling_ball_fillet.specs.declared.CenterContactDers.{CenterContactDers}
 use Rattle.rolling_ball_fillet.specs.declared.VderInfoAnswer.{VderInfoAnswer}
 use Rattle.rolling_ball_fillet.specs.PartialAnswer.{vderInfoAnswer}
@@ -12,6 +11,8 @@ use Rattle.fillet_lists.specs.Records.{dersOf}
 use Rattle.capi_fillet.specs.Fillet.{vderInfoInto}
 use Rattle.given.proofs.Admission.{refused, allowed}
 use borrow.Author.Needs.{needs}
+use Rattle.derivatives.specs.Answer.{curves}
+use Rattle.calculus.specs.JetKind.{jetOfList}
 use Rattle.capi_fillet.proofs.fillet.sugamdely_vder_info.Statement.{statement}
 use Rattle.capi_fillet.proofs.fillet.sugamdely_vder_info.Tie as tie
 
@@ -26,7 +27,7 @@ unfolding vderInfoInto
 returns c = let s = c .before .before .before .before .before .before .before .before .before .before .before .before .args in
     let out : Three = (now (s .axis-out), (now (s .angle-out), now (s .cosine-out))) in
     refused out (c .before .given-info .ensures ∙ ap₂ first (c .before .before .given-ders .ensures) refl)
-    (deliverInfo (vderInfoAnswer (dersOf (s .center-order, now (s .center)) (s .contact0-order, now (s .contact0)) (s .contact1-order, now (s .contact1)) (s .uv0-order, now (s .uv0)) (s .uv1-order, now (s .uv1))) (curveOfList (s .radius-order) (now (s .radius))) (s .angle)) out) (c .if1 .taken)
+    (deliverInfo (vderInfoAnswer (dersOf (s .center-order, now (s .center)) (s .contact0-order, now (s .contact0)) (s .contact1-order, now (s .contact1)) (s .uv0-order, now (s .uv0)) (s .uv1-order, now (s .uv1))) (jetOfList curves (s .radius-order) (now (s .radius))) (s .angle)) out) (c .if1 .taken)
 
 ders-requires : tie.Need-ders-requires
 ders-requires c κs = search needs

@@ -2,10 +2,11 @@
 use denote.Ref.{now}
 use Rattle.calculus.specs.Curve.{product}
 use Rattle.formulas.specs.Real.{real}
-use Rattle.derivatives.specs.Answer.{onCurvesAt}
-use Rattle.float_lists.specs.Lists.{curve, toFloat}
+use Rattle.float_lists.specs.Lists.{toFloat}
 use Rattle.given.proofs.Admission.{asked-at, two-refused-at, two-worked-at}
+use Rattle.derivatives.specs.Answer.{entryAt, curves}
 use borrow.Author.Needs.{needs}
+use Rattle.given.specs.Lists.{input}
 use Rattle.capi_floats.proofs.curves.sugamdely_curve_combinatorial_derivative.Statement.{statement}
 use Rattle.capi_floats.proofs.curves.sugamdely_curve_combinatorial_derivative.Tie as tie
 
@@ -17,7 +18,7 @@ two-at-requires c κs = search needs
 
 returns : tie.Need-returns
 returns c = let s = c .before .before .before .before .before .before .args in
-    two-refused-at curve curve toFloat (λ x y. onCurvesAt (product real) x y (s .m)) (s .a-order) (now (s .a)) (s .b-order) (now (s .b)) (now (s .out)) (s .m) (asked-at _ _ _ (c .before .before .order .ensures) (c .before .two-at .ensures)) (c .if1 .taken)
+    two-refused-at (input curves) (input curves) toFloat (λ x y. entryAt curves curves (λ p q. product real p q (s .m)) x y (s .m)) (s .a-order) (now (s .a)) (s .b-order) (now (s .b)) (now (s .out)) (s .m) (asked-at _ _ _ (c .before .before .order .ensures) (c .before .two-at .ensures)) (c .if1 .taken)
 
 curve-requires : tie.Need-curve-requires
 curve-requires c κs = search needs
@@ -36,7 +37,7 @@ same-length c = search needs
 
 returns-2 : tie.Need-returns-2
 returns-2 c = let s = c .before .before .before .before .before .before .before .before .before .before .before .before .before .args in
-    two-worked-at curve curve toFloat (λ x y. onCurvesAt (product real) x y (s .m)) (s .a-order) (now (s .a)) (s .b-order) (now (s .b)) (now (s .out)) (s .m) (asked-at _ _ _ (c .before .before .before .before .before .before .before .before .before .order .ensures) (c .before .before .before .before .before .before .before .before .two-at .ensures)) (c .before .before .before .before .before .before .before .if1 .left) (c .before .before .before .before .before .before .curve .ensures) (c .before .before .before .before .before .curve2 .ensures) (c .before .before .before .before .combinatorial-derivative .ensures) (c .before .before .float .ensures)
+    two-worked-at (input curves) (input curves) toFloat (λ x y. entryAt curves curves (λ p q. product real p q (s .m)) x y (s .m)) (s .a-order) (now (s .a)) (s .b-order) (now (s .b)) (now (s .out)) (s .m) (asked-at _ _ _ (c .before .before .before .before .before .before .before .before .before .order .ensures) (c .before .before .before .before .before .before .before .before .two-at .ensures)) (c .before .before .before .before .before .before .before .if1 .left) (c .before .before .before .before .before .before .curve .ensures) (c .before .before .before .before .before .curve2 .ensures) (c .before .before .before .before .combinatorial-derivative .ensures) (c .before .before .float .ensures)
 
 pub sugamdely-curve-combinatorial-derivative-spec : {M : Type 1} → statement M
 sugamdely-curve-combinatorial-derivative-spec = tie.close (tie.spec order-requires two-at-requires returns curve-requires curve-requires-2 combinatorial-derivative-requires float-requires same-length returns-2)

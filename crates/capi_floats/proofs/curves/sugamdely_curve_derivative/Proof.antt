@@ -1,10 +1,12 @@
 -- `capi_floats::curves::sugamdely_curve_derivative` meets its contract. Assumes nothing.
 use denote.Ref.{now}
 use Prim.Native.Nat.{_-_}
-use Rattle.derivatives.specs.Answer.{curveDerivative}
-use Rattle.float_lists.specs.Lists.{curve, toCurve}
 use Rattle.given.proofs.Admission.{one-refused, one-worked}
 use borrow.Author.Needs.{needs}
+use Rattle.calculus.specs.JetKind.{differentiated}
+use Rattle.calculus.specs.Curve.{derivative}
+use Rattle.derivatives.specs.Answer.{curves}
+use Rattle.given.specs.Lists.{output, input}
 use Rattle.capi_floats.proofs.curves.sugamdely_curve_derivative.Statement.{statement}
 use Rattle.capi_floats.proofs.curves.sugamdely_curve_derivative.Tie as tie
 
@@ -16,7 +18,7 @@ returns c = let s = c .before .before .before .before .args in
     let n = s .a-order in
     let a = now (s .a) in
     let out = now (s .out) in
-    one-refused curve toCurve (n - 1) curveDerivative n a out
+    one-refused (input curves) (output curves) (n - 1) (differentiated curves derivative) n a out
     (c .before .lowered .ensures) (c .if1 .taken)
 
 curve-requires : tie.Need-curve-requires
@@ -36,7 +38,7 @@ returns-2 c = let s = c .before .before .before .before .before .before .before 
     let n = s .a-order in
     let a = now (s .a) in
     let out = now (s .out) in
-    one-worked curve toCurve (n - 1) curveDerivative n a out
+    one-worked (input curves) (output curves) (n - 1) (differentiated curves derivative) n a out
     (c .before .before .before .before .before .before .before .lowered .ensures) (c .before .before .before .before .before .before .if1 .left) (c .before .before .before .before .before .curve .ensures) (c .before .before .before .before .derivative .ensures) (c .before .before .curve2 .ensures)
 
 pub sugamdely-curve-derivative-spec : {M : Type 1} → statement M

@@ -1,9 +1,10 @@
 -- `capi_floats::surfaces::sugamdely_composite_derivatives` meets its contract. Assumes nothing.
 use denote.Ref.{now}
 use Rattle.derivatives.specs.Composite.{alongCurve}
-use Rattle.float_lists.specs.Lists.{surface, parameter, toCurve}
 use Rattle.given.proofs.Admission.{asked-at, two-refused-at, two-worked-at}
 use borrow.Author.Needs.{needs}
+use Rattle.derivatives.specs.Answer.{surfaces, parameters, curves}
+use Rattle.given.specs.Lists.{output, input}
 use Rattle.capi_floats.proofs.surfaces.sugamdely_composite_derivatives.Statement.{statement}
 use Rattle.capi_floats.proofs.surfaces.sugamdely_composite_derivatives.Tie as tie
 
@@ -15,7 +16,7 @@ two-at-requires c κs = search needs
 
 returns : tie.Need-returns
 returns c = let s = c .before .before .before .before .before .before .args in
-    two-refused-at surface parameter toCurve (λ x y. alongCurve x y (s .n)) (s .a-order) (now (s .a)) (s .c-order) (now (s .c)) (now (s .out)) (s .n) (asked-at _ _ _ (c .before .before .order .ensures) (c .before .two-at .ensures)) (c .if1 .taken)
+    two-refused-at (input surfaces) (input parameters) (output curves) (λ x y. alongCurve x y (s .n)) (s .a-order) (now (s .a)) (s .c-order) (now (s .c)) (now (s .out)) (s .n) (asked-at _ _ _ (c .before .before .order .ensures) (c .before .two-at .ensures)) (c .if1 .taken)
 
 surface-requires : tie.Need-surface-requires
 surface-requires c κs = search needs
@@ -34,7 +35,7 @@ same-length c = search needs
 
 returns-2 : tie.Need-returns-2
 returns-2 c = let s = c .before .before .before .before .before .before .before .before .before .before .before .before .before .args in
-    two-worked-at surface parameter toCurve (λ x y. alongCurve x y (s .n)) (s .a-order) (now (s .a)) (s .c-order) (now (s .c)) (now (s .out)) (s .n) (asked-at _ _ _ (c .before .before .before .before .before .before .before .before .before .order .ensures) (c .before .before .before .before .before .before .before .before .two-at .ensures)) (c .before .before .before .before .before .before .before .if1 .left) (c .before .before .before .before .before .before .surface .ensures) (c .before .before .before .before .before .parameter .ensures) (c .before .before .before .before .composite-derivatives .ensures) (c .before .before .curve .ensures)
+    two-worked-at (input surfaces) (input parameters) (output curves) (λ x y. alongCurve x y (s .n)) (s .a-order) (now (s .a)) (s .c-order) (now (s .c)) (now (s .out)) (s .n) (asked-at _ _ _ (c .before .before .before .before .before .before .before .before .before .order .ensures) (c .before .before .before .before .before .before .before .before .two-at .ensures)) (c .before .before .before .before .before .before .before .if1 .left) (c .before .before .before .before .before .before .surface .ensures) (c .before .before .before .before .before .parameter .ensures) (c .before .before .before .before .composite-derivatives .ensures) (c .before .before .curve .ensures)
 
 pub sugamdely-composite-derivatives-spec : {M : Type 1} → statement M
 sugamdely-composite-derivatives-spec = tie.close (tie.spec order-requires two-at-requires returns surface-requires parameter-requires composite-derivatives-requires curve-requires same-length returns-2)

@@ -3,10 +3,11 @@ use denote.Ref.{now}
 use Prim.Native.Nat.{_+_}
 use Rattle.calculus.specs.Surface.{product}
 use Rattle.formulas.specs.Real.{real}
-use Rattle.derivatives.specs.Answer.{onSurfacesAt}
-use Rattle.float_lists.specs.Lists.{surface, toFloat}
+use Rattle.float_lists.specs.Lists.{toFloat}
 use Rattle.given.proofs.Admission.{asked-at, two-refused-at, two-worked-at}
+use Rattle.derivatives.specs.Answer.{surfaces, entryAt}
 use borrow.Author.Needs.{needs}
+use Rattle.given.specs.Lists.{input}
 use Rattle.capi_floats.proofs.surfaces.sugamdely_surface_combinatorial_derivative.Statement.{statement}
 use Rattle.capi_floats.proofs.surfaces.sugamdely_surface_combinatorial_derivative.Tie as tie
 
@@ -18,7 +19,7 @@ two-at-requires c κs = search needs
 
 returns : tie.Need-returns
 returns c = let s = c .before .before .before .before .before .before .args in
-    two-refused-at surface surface toFloat (λ x y. onSurfacesAt (product real) x y (s .m) (s .n)) (s .a-order) (now (s .a)) (s .b-order) (now (s .b)) (now (s .out)) (s .m + s .n) (asked-at _ _ _ (c .before .before .order-sum .ensures) (c .before .two-at .ensures)) (c .if1 .taken)
+    two-refused-at (input surfaces) (input surfaces) toFloat (λ x y. entryAt surfaces surfaces (λ p q. product real p q (s .m) (s .n)) x y (s .m + s .n)) (s .a-order) (now (s .a)) (s .b-order) (now (s .b)) (now (s .out)) (s .m + s .n) (asked-at _ _ _ (c .before .before .order-sum .ensures) (c .before .two-at .ensures)) (c .if1 .taken)
 
 surface-requires : tie.Need-surface-requires
 surface-requires c κs = search needs
@@ -37,7 +38,7 @@ same-length c = search needs
 
 returns-2 : tie.Need-returns-2
 returns-2 c = let s = c .before .before .before .before .before .before .before .before .before .before .before .before .before .args in
-    two-worked-at surface surface toFloat (λ x y. onSurfacesAt (product real) x y (s .m) (s .n)) (s .a-order) (now (s .a)) (s .b-order) (now (s .b)) (now (s .out)) (s .m + s .n) (asked-at _ _ _ (c .before .before .before .before .before .before .before .before .before .order-sum .ensures) (c .before .before .before .before .before .before .before .before .two-at .ensures)) (c .before .before .before .before .before .before .before .if1 .left) (c .before .before .before .before .before .before .surface .ensures) (c .before .before .before .before .before .surface2 .ensures) (c .before .before .before .before .combinatorial-derivative .ensures) (c .before .before .float .ensures)
+    two-worked-at (input surfaces) (input surfaces) toFloat (λ x y. entryAt surfaces surfaces (λ p q. product real p q (s .m) (s .n)) x y (s .m + s .n)) (s .a-order) (now (s .a)) (s .b-order) (now (s .b)) (now (s .out)) (s .m + s .n) (asked-at _ _ _ (c .before .before .before .before .before .before .before .before .before .order-sum .ensures) (c .before .before .before .before .before .before .before .before .two-at .ensures)) (c .before .before .before .before .before .before .before .if1 .left) (c .before .before .before .before .before .before .surface .ensures) (c .before .before .before .before .before .surface2 .ensures) (c .before .before .before .before .combinatorial-derivative .ensures) (c .before .before .float .ensures)
 
 pub sugamdely-surface-combinatorial-derivative-spec : {M : Type 1} → statement M
 sugamdely-surface-combinatorial-derivative-spec = tie.close (tie.spec order-sum-requires two-at-requires returns surface-requires surface-requires-2 combinatorial-derivative-requires float-requires same-length returns-2)

@@ -7,19 +7,20 @@ use native.Mathlib.Omega.{arith}
 use lib.IntN.{ℤ}
 use lib.ListN.{length, take, drop, getD}
 use denote.Ref.{now}
-use Rattle.calculus.proofs.Filling.{CurveStored, curve-none, curve-more, curve-all}
+use Rattle.calculus.proofs.LoopFilling.{CurveStored, curve-none, curve-more, curve-all}
 use Rattle.exact.specs.declared.CurveAnswer.{CurveAnswer}
 use Rattle.exact.specs.declared.CurveDerivatives.{CurveDerivatives}
-use Rattle.exact_lists.specs.Lists.{curve}
 use Rattle.capi_roads.specs.Recipes.{total, jetAt, blankCurve}
 use Rattle.capi_roads.proofs.RecipeLists.{below-20, total-more, within-entries}
 use borrow.Author.Needs.{needs}
+use Rattle.exact.specs.Answer.{curves}
+use Rattle.calculus.specs.JetKind.{jetOfList}
 use Rattle.capi_roads.proofs.curve_recipes.read_curves.Statement.{statement}
 use Rattle.capi_roads.proofs.curve_recipes.read_curves.Tie as tie
 
 -- a jet at its place
 abbrev Entry : List ℕ → List ℤ → ℕ → CurveDerivatives → Type 0
-Entry orders entries i v = v ≡ jetAt suc (curve .jet) orders entries i
+Entry orders entries i v = v ≡ jetAt suc (jetOfList curves) orders entries i
 
 abbrev Inv-loop : tie.InvT-loop
 Inv-loop orders entries jets₀ at₀ i₀ jets at i = (i ≤ length orders) × (at ≡ total suc (take i orders)) × CurveStored 4 blankCurve blankCurve (Entry orders entries) i jets
@@ -107,9 +108,9 @@ loop-again c =
     let h : i < 4 = omega (arith, s .pre .0) in
     let k : (getD os i 0 + 1) ≡ suc (getD os i 0) = (add-one (getD os i 0)) in
     let e : l .loop .at + (getD os i 0 + 1) - l .loop .at ≡ (getD os i 0 + 1) = omega arith in
-    let v : c .before .from-list .result .jet ≡ jetAt suc (curve .jet) os es i =
+    let v : c .before .from-list .result .jet ≡ jetAt suc (jetOfList curves) os es i =
     ap (λ (y : CurveAnswer). y .jet) (c .before .from-list .ensures)
-    ∙ ap₂ (λ (k p : ℕ). curve .jet (getD os i 0) (take k (drop p es))) (e ∙ k) (l .loop .inv .1) in (
+    ∙ ap₂ (λ (k p : ℕ). jetOfList curves (getD os i 0) (take k (drop p es))) (e ∙ k) (l .loop .inv .1) in (
       omega arith,
       ap₂ _+_ (l .loop .inv .1) k ∙ sym (total-more suc os i (x .before .loop-test .taken)),
       curve-more 4 blankCurve blankCurve (Entry os es) _ (l .loop .inv .2) h v,
@@ -122,7 +123,7 @@ returns c =
     let os = now (s .orders) in
     let es = now (s .entries) in
     let e : l .loop .i ≡ length os = omega arith in
-    curve-all 4 blankCurve blankCurve (Entry os es) (jetAt suc (curve .jet) os es) (λ k v q. q) (length os) (l .loop .inv .2) e
+    curve-all 4 blankCurve blankCurve (Entry os es) (jetAt suc (jetOfList curves) os es) (λ k v q. q) (length os) (l .loop .inv .2) e
 
 pub read-curves-spec : {M : Type 1} → statement M
 read-curves-spec =

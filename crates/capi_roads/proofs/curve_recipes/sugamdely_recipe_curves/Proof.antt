@@ -6,10 +6,11 @@ use denote.Ref.{now}
 use Rattle.exact.specs.declared.CurveAnswer.{CurveAnswer}
 use Rattle.roads.specs.Roads.{builtCurve}
 use Rattle.given.proofs.Admission.{refused, allowed}
-use Rattle.exact_lists.specs.Delivery.{deliverCurve}
 use Rattle.capi_roads.specs.Recipes.{curveRecipeInto}
 use Rattle.capi_roads.proofs.RecipeChecks.{recipe-fits}
 use borrow.Author.Needs.{needs}
+use Rattle.exact.specs.Answer.{curves}
+use Rattle.given.specs.Lists.{deliver}
 use Rattle.capi_roads.proofs.curve_recipes.sugamdely_recipe_curves.Statement.{statement}
 use Rattle.capi_roads.proofs.curve_recipes.sugamdely_recipe_curves.Tie as tie
 
@@ -43,7 +44,7 @@ returns-2 c =
     let g = b .before .before in
     let s = g .before .before .before .before .args in
     allowed (now (s .out)) (g .before .given-recipe .ensures) (g .if1 .left)
-    (c .before .curve .ensures ∙ ap (λ (r : CurveAnswer). deliverCurve r (now (s .out))) (b .build .ensures ∙ ap builtCurve (b .before .read-recipe .ensures)))
+    (c .before .curve .ensures ∙ ap (λ (r : CurveAnswer). deliver curves r (now (s .out))) (b .build .ensures ∙ ap builtCurve (b .before .read-recipe .ensures)))
 
 pub sugamdely-recipe-curves-spec : {M : Type 1} → statement M
 sugamdely-recipe-curves-spec = tie.close (tie.spec given-recipe-requires returns read-recipe-requires build-requires curve-requires same-length returns-2)

@@ -6,7 +6,7 @@ use native.Mathlib.Omega.{arith}
 use lib.ListN.{getD}
 use denote.Ref.{now}
 use borrow.Author.Needs.{needs}
-use Rattle.calculus.proofs.Filling.{CurveStored, curve-none, curve-more, curve-all}
+use Rattle.calculus.proofs.LoopFilling.{CurveStored, curve-none, curve-more, curve-all}
 use Rattle.roads.specs.declared.Step.{Step}
 use Rattle.calculus.specs.declared.Operation.{Operation}
 use Rattle.capi_roads.specs.Recipes.{stepAt, blankStep}

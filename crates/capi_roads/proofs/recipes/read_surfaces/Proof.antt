@@ -6,20 +6,21 @@ use native.Mathlib.Omega.{arith}
 use lib.IntN.{ℤ}
 use lib.ListN.{length, take, drop, getD}
 use denote.Ref.{now}
-use Rattle.calculus.proofs.Filling.{CurveStored, curve-none, curve-more, curve-all}
+use Rattle.calculus.proofs.LoopFilling.{CurveStored, curve-none, curve-more, curve-all}
 use Rattle.exact.specs.declared.SurfaceAnswer.{SurfaceAnswer}
 use Rattle.exact.specs.declared.SurfaceDerivatives.{SurfaceDerivatives}
 use Rattle.capi_roads.specs.declared.recipe_steps.Jets.the-variants.{Surfaces}
-use Rattle.exact_lists.specs.Lists.{surface}
 use Rattle.capi_roads.specs.Recipes.{surfaceSize, total, jetAt, blankSurface}
 use Rattle.capi_roads.proofs.RecipeLists.{below-20, sized, total-more, within-entries}
 use borrow.Author.Needs.{needs}
+use Rattle.exact.specs.Answer.{surfaces}
+use Rattle.calculus.specs.JetKind.{jetOfList}
 use Rattle.capi_roads.proofs.recipes.read_surfaces.Statement.{statement}
 use Rattle.capi_roads.proofs.recipes.read_surfaces.Tie as tie
 
 -- a jet at its place
 abbrev Entry : List ℕ → List ℤ → ℕ → SurfaceDerivatives → Type 0
-Entry orders entries i v = v ≡ jetAt surfaceSize (surface .jet) orders entries i
+Entry orders entries i v = v ≡ jetAt surfaceSize (jetOfList surfaces) orders entries i
 
 abbrev Inv-loop : tie.InvT-loop
 Inv-loop orders entries jets₀ at₀ i₀ jets at i = (i ≤ length orders) × (at ≡ total surfaceSize (take i orders)) × CurveStored 4 blankSurface blankSurface (Entry orders entries) i jets
@@ -104,9 +105,9 @@ loop-again c =
     let h : i < 4 = omega (arith, s .pre .0) in
     let k : (x .surface-count .result) ≡ surfaceSize (getD os i 0) = (sized Surfaces _ (below-20 os (s .pre .1) i (x .before .before .loop-test .taken)) (x .surface-count .ensures)) in
     let e : l .loop .at + (x .surface-count .result) - l .loop .at ≡ (x .surface-count .result) = omega arith in
-    let v : c .before .from-list .result .jet ≡ jetAt surfaceSize (surface .jet) os es i =
+    let v : c .before .from-list .result .jet ≡ jetAt surfaceSize (jetOfList surfaces) os es i =
     ap (λ (y : SurfaceAnswer). y .jet) (c .before .from-list .ensures)
-    ∙ ap₂ (λ (k p : ℕ). surface .jet (getD os i 0) (take k (drop p es))) (e ∙ k) (l .loop .inv .1) in (
+    ∙ ap₂ (λ (k p : ℕ). jetOfList surfaces (getD os i 0) (take k (drop p es))) (e ∙ k) (l .loop .inv .1) in (
       omega arith,
       ap₂ _+_ (l .loop .inv .1) k ∙ sym (total-more surfaceSize os i (x .before .before .loop-test .taken)),
       curve-more 4 blankSurface blankSurface (Entry os es) _ (l .loop .inv .2) h v,
@@ -119,7 +120,7 @@ returns c =
     let os = now (s .orders) in
     let es = now (s .entries) in
     let e : l .loop .i ≡ length os = omega arith in
-    curve-all 4 blankSurface blankSurface (Entry os es) (jetAt surfaceSize (surface .jet) os es) (λ k v q. q) (length os) (l .loop .inv .2) e
+    curve-all 4 blankSurface blankSurface (Entry os es) (jetAt surfaceSize (jetOfList surfaces) os es) (λ k v q. q) (length os) (l .loop .inv .2) e
 
 pub read-surfaces-spec : {M : Type 1} → statement M
 read-surfaces-spec =

@@ -5,10 +5,11 @@ use denote.Ref.{now}
 use Rattle.exact.specs.declared.SurfaceAnswer.{SurfaceAnswer}
 use Rattle.roads.specs.Roads.{builtSurface}
 use Rattle.given.proofs.Admission.{refused, allowed}
-use Rattle.exact_lists.specs.Delivery.{deliverSurface}
 use Rattle.capi_roads.specs.Recipes.{surfaceSize, surfaceRecipeInto}
 use Rattle.capi_roads.proofs.RecipeChecks.{recipe-fits}
 use borrow.Author.Needs.{needs}
+use Rattle.given.specs.Lists.{deliver}
+use Rattle.exact.specs.Answer.{surfaces}
 use Rattle.capi_roads.proofs.recipes.sugamdely_recipe_surfaces.Statement.{statement}
 use Rattle.capi_roads.proofs.recipes.sugamdely_recipe_surfaces.Tie as tie
 
@@ -42,7 +43,7 @@ returns-2 c =
     let g = b .before .before in
     let s = g .before .before .before .before .args in
     allowed (now (s .out)) (g .before .given-recipe .ensures) (g .if1 .left)
-    (c .before .surface .ensures ∙ ap (λ (r : SurfaceAnswer). deliverSurface r (now (s .out))) (b .build .ensures ∙ ap builtSurface (b .before .read-recipe .ensures)))
+    (c .before .surface .ensures ∙ ap (λ (r : SurfaceAnswer). deliver surfaces r (now (s .out))) (b .build .ensures ∙ ap builtSurface (b .before .read-recipe .ensures)))
 
 pub sugamdely-recipe-surfaces-spec : {M : Type 1} → statement M
 sugamdely-recipe-surfaces-spec = tie.close (tie.spec given-recipe-requires returns read-recipe-requires build-requires surface-requires same-length returns-2)

@@ -3,11 +3,12 @@ use denote.Ref.{now}
 use Rattle.ieee_vectors.specs.Vectors.{multiple}
 use Rattle.calculus.specs.Curve.{productBy}
 use Rattle.vector_formulas.specs.Vector.{vectors}
-use Rattle.derivatives.specs.VectorAnswer.{onWeightedAt}
-use Rattle.float_lists.specs.Lists.{curve, toVector}
-use Rattle.capi_vectors.specs.Lists.{vectorCurve}
+use Rattle.float_lists.specs.Lists.{toVector}
 use Rattle.given.proofs.Admission.{asked-at, two-refused-at, two-worked-at}
+use Rattle.derivatives.specs.Answer.{curves}
+use Rattle.vector_derivatives.specs.Answer.{vectorEntryAt, vectorCurves}
 use borrow.Author.Needs.{needs}
+use Rattle.given.specs.Lists.{input}
 use Rattle.capi_vectors.proofs.vector_curves.sugamdely_curve_combinatorial_derivative_scaled.Statement.{statement}
 use Rattle.capi_vectors.proofs.vector_curves.sugamdely_curve_combinatorial_derivative_scaled.Tie as tie
 
@@ -19,7 +20,7 @@ two-at-requires c κs = search needs
 
 returns : tie.Need-returns
 returns c = let s = c .before .before .before .before .before .before .args in
-    two-refused-at vectorCurve curve toVector (λ x y. onWeightedAt (productBy vectors multiple) x y (s .m)) (s .a-order) (now (s .a)) (s .b-order) (now (s .b)) (now (s .out)) (s .m) (asked-at _ _ _ (c .before .before .order .ensures) (c .before .two-at .ensures)) (c .if1 .taken)
+    two-refused-at (input vectorCurves) (input curves) toVector (λ x y. vectorEntryAt vectorCurves curves (λ p q. productBy vectors multiple p q (s .m)) x y (s .m)) (s .a-order) (now (s .a)) (s .b-order) (now (s .b)) (now (s .out)) (s .m) (asked-at _ _ _ (c .before .before .order .ensures) (c .before .two-at .ensures)) (c .if1 .taken)
 
 vector-curve-requires : tie.Need-vector-curve-requires
 vector-curve-requires c κs = search needs
@@ -38,7 +39,7 @@ same-length c = search needs
 
 returns-2 : tie.Need-returns-2
 returns-2 c = let s = c .before .before .before .before .before .before .before .before .before .before .before .before .before .args in
-    two-worked-at vectorCurve curve toVector (λ x y. onWeightedAt (productBy vectors multiple) x y (s .m)) (s .a-order) (now (s .a)) (s .b-order) (now (s .b)) (now (s .out)) (s .m) (asked-at _ _ _ (c .before .before .before .before .before .before .before .before .before .order .ensures) (c .before .before .before .before .before .before .before .before .two-at .ensures)) (c .before .before .before .before .before .before .before .if1 .left) (c .before .before .before .before .before .before .vector-curve .ensures) (c .before .before .before .before .before .curve .ensures) (c .before .before .before .before .combinatorial-derivative-scaled .ensures) (c .before .before .vector .ensures)
+    two-worked-at (input vectorCurves) (input curves) toVector (λ x y. vectorEntryAt vectorCurves curves (λ p q. productBy vectors multiple p q (s .m)) x y (s .m)) (s .a-order) (now (s .a)) (s .b-order) (now (s .b)) (now (s .out)) (s .m) (asked-at _ _ _ (c .before .before .before .before .before .before .before .before .before .order .ensures) (c .before .before .before .before .before .before .before .before .two-at .ensures)) (c .before .before .before .before .before .before .before .if1 .left) (c .before .before .before .before .before .before .vector-curve .ensures) (c .before .before .before .before .before .curve .ensures) (c .before .before .before .before .combinatorial-derivative-scaled .ensures) (c .before .before .vector .ensures)
 
 pub sugamdely-curve-combinatorial-derivative-scaled-spec : {M : Type 1} → statement M
 sugamdely-curve-combinatorial-derivative-scaled-spec = tie.close (tie.spec order-requires two-at-requires returns vector-curve-requires curve-requires combinatorial-derivative-scaled-requires vector-requires same-length returns-2)

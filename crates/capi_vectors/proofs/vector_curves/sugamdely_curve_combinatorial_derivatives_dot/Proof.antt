@@ -4,12 +4,12 @@ use Rattle.ieee_vectors.specs.Vectors.{dot}
 use Rattle.calculus.specs.Kind.{regular}
 use Rattle.calculus.specs.Curve.{productBy}
 use Rattle.formulas.specs.Real.{real}
-use Rattle.derivatives.specs.Answer.{refusedCurve}
-use Rattle.derivatives.specs.VectorAnswer.{onVectors, byNumberFormula}
-use Rattle.float_lists.specs.Lists.{toCurve}
-use Rattle.capi_vectors.specs.Lists.{vectorCurve}
 use Rattle.given.proofs.Admission.{two-refused, two-worked}
 use borrow.Author.Needs.{needs}
+use Rattle.vector_derivatives.specs.Answer.{vectorCurves}
+use Rattle.derivatives.specs.Answer.{curves}
+use Rattle.calculus.specs.JetKind.{byFormula}
+use Rattle.given.specs.Lists.{output, input}
 use Rattle.capi_vectors.proofs.vector_curves.sugamdely_curve_combinatorial_derivatives_dot.Statement.{statement}
 use Rattle.capi_vectors.proofs.vector_curves.sugamdely_curve_combinatorial_derivatives_dot.Tie as tie
 
@@ -18,7 +18,7 @@ two-requires c κs = search needs
 
 returns : tie.Need-returns
 returns c = let s = c .before .before .before .before .before .args in
-    two-refused vectorCurve vectorCurve toCurve (onVectors refusedCurve (byNumberFormula (productBy (regular real) dot))) (s .a-order) (now (s .a)) (s .b-order) (now (s .b)) (now (s .out)) (c .before .two .ensures) (c .if1 .taken)
+    two-refused (input vectorCurves) (input vectorCurves) (output curves) (byFormula vectorCurves vectorCurves curves (productBy (regular real) dot)) (s .a-order) (now (s .a)) (s .b-order) (now (s .b)) (now (s .out)) (c .before .two .ensures) (c .if1 .taken)
 
 vector-curve-requires : tie.Need-vector-curve-requires
 vector-curve-requires c κs = search needs
@@ -37,7 +37,7 @@ same-length c = search needs
 
 returns-2 : tie.Need-returns-2
 returns-2 c = let s = c .before .before .before .before .before .before .before .before .before .before .before .before .args in
-    two-worked vectorCurve vectorCurve toCurve (onVectors refusedCurve (byNumberFormula (productBy (regular real) dot))) (s .a-order) (now (s .a)) (s .b-order) (now (s .b)) (now (s .out)) (c .before .before .before .before .before .before .before .before .two .ensures) (c .before .before .before .before .before .before .before .if1 .left) (c .before .before .before .before .before .before .vector-curve .ensures) (c .before .before .before .before .before .vector-curve2 .ensures) (c .before .before .before .before .combinatorial-derivatives-dot .ensures) (c .before .before .curve .ensures)
+    two-worked (input vectorCurves) (input vectorCurves) (output curves) (byFormula vectorCurves vectorCurves curves (productBy (regular real) dot)) (s .a-order) (now (s .a)) (s .b-order) (now (s .b)) (now (s .out)) (c .before .before .before .before .before .before .before .before .two .ensures) (c .before .before .before .before .before .before .before .if1 .left) (c .before .before .before .before .before .before .vector-curve .ensures) (c .before .before .before .before .before .vector-curve2 .ensures) (c .before .before .before .before .combinatorial-derivatives-dot .ensures) (c .before .before .curve .ensures)
 
 pub sugamdely-curve-combinatorial-derivatives-dot-spec : {M : Type 1} → statement M
 sugamdely-curve-combinatorial-derivatives-dot-spec = tie.close (tie.spec two-requires returns vector-curve-requires vector-curve-requires-2 combinatorial-derivatives-dot-requires curve-requires same-length returns-2)

@@ -1,10 +1,11 @@
 -- `capi_vectors::vector_surfaces::on_weighted` meets its contract. Assumes nothing.
 use denote.Ref.{now}
-use Rattle.float_lists.specs.Lists.{surface}
-use Rattle.capi_vectors.specs.Lists.{vectorSurface, toVectorSurface}
 use Rattle.capi_vectors.specs.Inner.{weightedSurfaceOperation}
 use Rattle.given.proofs.Admission.{two-refused, two-worked}
 use borrow.Author.Needs.{needs}
+use Rattle.given.specs.Lists.{output, input}
+use Rattle.derivatives.specs.Answer.{surfaces}
+use Rattle.vector_derivatives.specs.Answer.{vectorSurfaces}
 use Rattle.capi_vectors.proofs.vector_surfaces.on_weighted.Statement.{statement}
 use Rattle.capi_vectors.proofs.vector_surfaces.on_weighted.Tie as tie
 
@@ -13,7 +14,7 @@ two-requires c κs = search needs
 
 returns : tie.Need-returns
 returns c = let s = c .before .before .before .before .before .args in
-    two-refused vectorSurface surface toVectorSurface (weightedSurfaceOperation (s .op)) (s .a-order) (now (s .a)) (s .b-order) (now (s .b)) (now (s .out)) (c .before .two .ensures) (c .if1 .taken)
+    two-refused (input vectorSurfaces) (input surfaces) (output vectorSurfaces) (weightedSurfaceOperation (s .op)) (s .a-order) (now (s .a)) (s .b-order) (now (s .b)) (now (s .out)) (c .before .two .ensures) (c .if1 .taken)
 
 vector-surface-requires : tie.Need-vector-surface-requires
 vector-surface-requires c κs = search needs
@@ -32,7 +33,7 @@ same-length c = search needs
 
 returns-2 : tie.Need-returns-2
 returns-2 c = let s = c .before .before .before .before .before .before .before .before .before .before .before .before .args in
-    two-worked vectorSurface surface toVectorSurface (weightedSurfaceOperation (s .op)) (s .a-order) (now (s .a)) (s .b-order) (now (s .b)) (now (s .out)) (c .before .before .before .before .before .before .before .before .two .ensures) (c .before .before .before .before .before .before .before .if1 .left) (c .before .before .before .before .before .before .vector-surface .ensures) (c .before .before .before .before .before .surface .ensures) (c .before .before .before .before .work-weighted .ensures) (c .before .before .vector-surface2 .ensures)
+    two-worked (input vectorSurfaces) (input surfaces) (output vectorSurfaces) (weightedSurfaceOperation (s .op)) (s .a-order) (now (s .a)) (s .b-order) (now (s .b)) (now (s .out)) (c .before .before .before .before .before .before .before .before .two .ensures) (c .before .before .before .before .before .before .before .if1 .left) (c .before .before .before .before .before .before .vector-surface .ensures) (c .before .before .before .before .before .surface .ensures) (c .before .before .before .before .work-weighted .ensures) (c .before .before .vector-surface2 .ensures)
 
 pub on-weighted-spec : {M : Type 1} → statement M
 on-weighted-spec = tie.close (tie.spec two-requires returns vector-surface-requires surface-requires work-weighted-requires vector-surface-requires-2 same-length returns-2)

@@ -1,10 +1,11 @@
 -- `capi_vectors::vector_surfaces::sugamdely_surface_absolute_derivatives` meets its contract. Assumes nothing.
 use denote.Ref.{now}
-use Rattle.derivatives.specs.VectorSurfaceNorm.{vectorSurfaceAbsolute}
-use Rattle.float_lists.specs.Lists.{toSurface}
-use Rattle.capi_vectors.specs.Lists.{vectorSurface}
 use Rattle.given.proofs.Admission.{one-refused, one-worked}
 use borrow.Author.Needs.{needs}
+use Rattle.vector_surface_formulas.specs.Formulas.{vectorSurfaceNorm}
+use Rattle.vector_derivatives.specs.Answer.{byNorm, vectorSurfaces}
+use Rattle.derivatives.specs.Answer.{surfaces}
+use Rattle.given.specs.Lists.{output, input}
 use Rattle.capi_vectors.proofs.vector_surfaces.sugamdely_surface_absolute_derivatives.Statement.{statement}
 use Rattle.capi_vectors.proofs.vector_surfaces.sugamdely_surface_absolute_derivatives.Tie as tie
 
@@ -16,7 +17,7 @@ returns c = let s = c .before .before .before .before .args in
     let n = s .a-order in
     let a = now (s .a) in
     let out = now (s .out) in
-    one-refused vectorSurface toSurface n vectorSurfaceAbsolute n a out
+    one-refused (input vectorSurfaces) (output surfaces) n (byNorm vectorSurfaces surfaces (λ q. q 0 0) vectorSurfaceNorm) n a out
     (c .before .one .ensures) (c .if1 .taken)
 
 vector-surface-requires : tie.Need-vector-surface-requires
@@ -36,7 +37,7 @@ returns-2 c = let s = c .before .before .before .before .before .before .before 
     let n = s .a-order in
     let a = now (s .a) in
     let out = now (s .out) in
-    one-worked vectorSurface toSurface n vectorSurfaceAbsolute n a out
+    one-worked (input vectorSurfaces) (output surfaces) n (byNorm vectorSurfaces surfaces (λ q. q 0 0) vectorSurfaceNorm) n a out
     (c .before .before .before .before .before .before .before .one .ensures) (c .before .before .before .before .before .before .if1 .left) (c .before .before .before .before .before .vector-surface .ensures) (c .before .before .before .before .absolute-derivatives .ensures) (c .before .before .surface .ensures)
 
 pub sugamdely-surface-absolute-derivatives-spec : {M : Type 1} → statement M

@@ -1,10 +1,12 @@
 -- `capi_vectors::vector_surfaces::sugamdely_vector_composite_derivative` meets its contract. Assumes nothing.
 use denote.Ref.{now}
-use Rattle.derivatives.specs.VectorComposite.{vectorAlongCurveAt}
-use Rattle.float_lists.specs.Lists.{parameter, toVector}
-use Rattle.capi_vectors.specs.Lists.{vectorSurface}
+use Rattle.vector_derivatives.specs.Composite.{vectorAlongCurveAt}
+use Rattle.float_lists.specs.Lists.{toVector}
 use Rattle.given.proofs.Admission.{asked-at, two-refused-at, two-worked-at}
 use borrow.Author.Needs.{needs}
+use Rattle.given.specs.Lists.{input}
+use Rattle.derivatives.specs.Answer.{parameters}
+use Rattle.vector_derivatives.specs.Answer.{vectorSurfaces}
 use Rattle.capi_vectors.proofs.vector_surfaces.sugamdely_vector_composite_derivative.Statement.{statement}
 use Rattle.capi_vectors.proofs.vector_surfaces.sugamdely_vector_composite_derivative.Tie as tie
 
@@ -16,7 +18,7 @@ two-at-requires c κs = search needs
 
 returns : tie.Need-returns
 returns c = let s = c .before .before .before .before .before .before .args in
-    two-refused-at vectorSurface parameter toVector (λ x y. vectorAlongCurveAt x y (s .n)) (s .a-order) (now (s .a)) (s .c-order) (now (s .c)) (now (s .out)) (s .n) (asked-at _ _ _ (c .before .before .order .ensures) (c .before .two-at .ensures)) (c .if1 .taken)
+    two-refused-at (input vectorSurfaces) (input parameters) toVector (λ x y. vectorAlongCurveAt x y (s .n)) (s .a-order) (now (s .a)) (s .c-order) (now (s .c)) (now (s .out)) (s .n) (asked-at _ _ _ (c .before .before .order .ensures) (c .before .two-at .ensures)) (c .if1 .taken)
 
 vector-surface-requires : tie.Need-vector-surface-requires
 vector-surface-requires c κs = search needs
@@ -35,7 +37,7 @@ same-length c = search needs
 
 returns-2 : tie.Need-returns-2
 returns-2 c = let s = c .before .before .before .before .before .before .before .before .before .before .before .before .before .args in
-    two-worked-at vectorSurface parameter toVector (λ x y. vectorAlongCurveAt x y (s .n)) (s .a-order) (now (s .a)) (s .c-order) (now (s .c)) (now (s .out)) (s .n) (asked-at _ _ _ (c .before .before .before .before .before .before .before .before .before .order .ensures) (c .before .before .before .before .before .before .before .before .two-at .ensures)) (c .before .before .before .before .before .before .before .if1 .left) (c .before .before .before .before .before .before .vector-surface .ensures) (c .before .before .before .before .before .parameter .ensures) (c .before .before .before .before .composite-derivative .ensures) (c .before .before .vector .ensures)
+    two-worked-at (input vectorSurfaces) (input parameters) toVector (λ x y. vectorAlongCurveAt x y (s .n)) (s .a-order) (now (s .a)) (s .c-order) (now (s .c)) (now (s .out)) (s .n) (asked-at _ _ _ (c .before .before .before .before .before .before .before .before .before .order .ensures) (c .before .before .before .before .before .before .before .before .two-at .ensures)) (c .before .before .before .before .before .before .before .if1 .left) (c .before .before .before .before .before .before .vector-surface .ensures) (c .before .before .before .before .before .parameter .ensures) (c .before .before .before .before .composite-derivative .ensures) (c .before .before .vector .ensures)
 
 pub sugamdely-vector-composite-derivative-spec : {M : Type 1} → statement M
 sugamdely-vector-composite-derivative-spec = tie.close (tie.spec order-requires two-at-requires returns vector-surface-requires parameter-requires composite-derivative-requires vector-requires same-length returns-2)

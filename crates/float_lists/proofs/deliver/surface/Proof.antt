@@ -1,17 +1,18 @@
 -- `float_lists::deliver::surface` meets its contract. Assumes nothing.
 use mathlib.Core.Path.{refl}
 use denote.Ref.{now}
-use Rattle.derivatives.specs.Answer.{surfaceIntoList}
-use Rattle.float_lists.specs.Delivery.{deliverSurface}
 use Rattle.given.proofs.Admission.{refused, allowed}
 use borrow.Author.Needs.{needs}
+use Rattle.derivatives.specs.Answer.{surfaces}
+use Rattle.calculus.specs.JetKind.{intoList}
+use Rattle.given.specs.Lists.{deliver}
 use Rattle.float_lists.proofs.deliver.surface.Statement.{statement}
 use Rattle.float_lists.proofs.deliver.surface.Tie as tie
 
 returns : tie.Need-returns
-unfolding deliverSurface
+unfolding deliver
 returns c = let s = c .before .before .args in
-    refused (now (s .out)) refl (surfaceIntoList (s .a .jet) (now (s .out))) (c .if1 .taken)
+    refused (now (s .out)) refl (intoList surfaces (s .a .jet) (now (s .out))) (c .if1 .taken)
 
 into-list-requires : tie.Need-into-list-requires
 into-list-requires c κs = search needs
@@ -20,7 +21,7 @@ same-length : tie.Need-same-length
 same-length c = search needs
 
 returns-2 : tie.Need-returns-2
-unfolding deliverSurface
+unfolding deliver
 returns-2 c = let s = c .before .before .before .before .before .before .before .args in
     allowed (now (s .out)) refl (c .before .before .before .before .before .if1 .left) (c .before .before .into-list .ensures)
 

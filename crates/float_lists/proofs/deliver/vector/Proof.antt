@@ -3,7 +3,7 @@ use mathlib.Core.Path.{refl, sym, ap, _∙_}
 use mathlib.Core.List.{List, [], _∷_}
 use lib.Ieee.{Float}
 use denote.Ref.{now}
-use Rattle.calculus.proofs.Writing.{writing-begins, writing-goes-on, writing-ends}
+use Rattle.calculus.proofs.LoopWriting.{writing-begins, writing-goes-on, writing-ends}
 use Rattle.vectors.specs.declared.VectorAnswer.{VectorAnswer}
 use Rattle.float_lists.specs.Delivery.{deliverVector}
 use Rattle.float_lists.proofs.Lengths.{unwritten, all-written}

@@ -1,11 +1,12 @@
 -- `float_lists::surfaces::derivative` meets its contract. Assumes nothing.
 use denote.Ref.{now}
 use Prim.Native.Nat.{_-_}
-use Rattle.derivatives.specs.Answer.{surfaceDerivative}
-use Rattle.float_lists.specs.Lists.{surface, toSurface}
 use Rattle.calculus.specs.Surface.{derivativeBy}
 use Rattle.given.proofs.Admission.{one-refused, one-worked}
 use borrow.Author.Needs.{needs}
+use Rattle.calculus.specs.JetKind.{differentiated}
+use Rattle.given.specs.Lists.{output, input}
+use Rattle.derivatives.specs.Answer.{surfaces}
 use Rattle.float_lists.proofs.surfaces.derivative.Statement.{statement}
 use Rattle.float_lists.proofs.surfaces.derivative.Tie as tie
 
@@ -17,7 +18,7 @@ returns c = let s = c .before .before .before .before .args in
     let n = s .a-order in
     let a = now (s .a) in
     let out = now (s .out) in
-    one-refused surface toSurface (n - 1) (surfaceDerivative (derivativeBy (s .by))) n a out
+    one-refused (input surfaces) (output surfaces) (n - 1) (differentiated surfaces (derivativeBy (s .by))) n a out
     (c .before .lowered .ensures) (c .if1 .taken)
 
 surface-requires : tie.Need-surface-requires
@@ -37,7 +38,7 @@ returns-2 c = let s = c .before .before .before .before .before .before .before 
     let n = s .a-order in
     let a = now (s .a) in
     let out = now (s .out) in
-    one-worked surface toSurface (n - 1) (surfaceDerivative (derivativeBy (s .by))) n a out
+    one-worked (input surfaces) (output surfaces) (n - 1) (differentiated surfaces (derivativeBy (s .by))) n a out
     (c .before .before .before .before .before .before .before .lowered .ensures) (c .before .before .before .before .before .before .if1 .left) (c .before .before .before .before .before .surface .ensures) (c .before .before .before .before .derived .ensures) (c .before .before .surface2 .ensures)
 
 pub derivative-spec : {M : Type 1} → statement M
