@@ -8,9 +8,7 @@ use replay_text::first_floats;
 use replay_text::float_at;
 use replay_text::float_list;
 use replay_text::floats_part;
-use replay_text::next_float_lists;
-use replay_text::next_size_lists;
-use replay_text::next_word;
+use replay_text::next_call;
 use replay_text::same_floats;
 use replay_text::size_at;
 
@@ -272,16 +270,12 @@ fn info(
 }
 
 pub fn next_case(op: u64) -> bool {
-    let wanted = next_word();
     let mut n = [0usize; 64];
-    let mut n_ends = [0usize; 12];
-    next_size_lists(&mut n, &mut n_ends);
     let mut l = [0.0f64; 2048];
     let mut ends = [0usize; 12];
-    next_float_lists(&mut l, &mut ends);
     let mut w = [0.0f64; 1024];
     let mut w_ends = [0usize; 12];
-    next_float_lists(&mut w, &mut w_ends);
+    let wanted = next_call(&mut n, &mut l, &mut ends, &mut w, &mut w_ends);
     match op {
         0x608 => contacts(wanted, &n, &l, &ends, &w, &w_ends),
         0x609 => info(wanted, &n, &l, &ends, &w, &w_ends),

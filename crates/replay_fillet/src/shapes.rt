@@ -3,7 +3,6 @@ use crate::inputs::next_circle;
 use crate::inputs::next_fillet;
 use booleans::both;
 use derivatives::ParameterCurve;
-use derivatives::VectorCurveDerivatives;
 use replay_text::float_at;
 use replay_text::next_float;
 use replay_text::next_floats;
@@ -11,6 +10,7 @@ use replay_text::next_size;
 use replay_text::refusal_met;
 use replay_text::size_met;
 use rolling_ball_fillet::CenterContactDers;
+use vector_derivatives::VectorCurveDerivatives;
 use vectors::VectorAnswer;
 
 fn close(x: f64, y: f64, tolerance: f64) -> bool {

@@ -428,6 +428,28 @@ pub fn call_met(wanted: u64, refusal: u8, same: bool) -> bool {
     both((refusal as u64) == wanted, same)
 }
 
+// A call over floats as a case gives it: the refusal wanted, then the orders, the lists given, and what the lists lent for the answer hold at the end.
+pub fn next_call(
+    orders: &mut [usize],
+    given: &mut [f64],
+    ends: &mut [usize],
+    held: &mut [f64],
+    held_ends: &mut [usize],
+) -> u64 {
+    let wanted = next_word();
+    let mut order_ends = [0usize; 12];
+    next_size_lists(orders, &mut order_ends);
+    next_float_lists(given, ends);
+    next_float_lists(held, held_ends);
+    wanted
+}
+
+// What a call met that is lent one list of n places.
+pub fn list_met(wanted: u64, refusal: u8, out: &[f64], held: &[f64], n: usize) -> bool {
+    let same = same_floats(floats_part(out, 0, n), floats_part(held, 0, n));
+    call_met(wanted, refusal, same)
+}
+
 // ---- groups of cases
 
 // Cases under one label, of 89 bytes and a line end: how many there are, are done, and differ. No group is without a case.

@@ -5,14 +5,14 @@ use booleans::both;
 use derivatives::CurveDerivatives;
 use derivatives::ParameterCurve;
 use derivatives::SurfaceDerivatives;
-use derivatives::VectorCurveDerivatives;
-use derivatives::VectorSurfaceDerivatives;
 use replay_text::first_floats;
 use replay_text::float_at;
 use replay_text::floats_part;
 use replay_text::next_float;
 use replay_text::next_size;
 use replay_text::refusal_met;
+use vector_derivatives::VectorCurveDerivatives;
+use vector_derivatives::VectorSurfaceDerivatives;
 
 // One float of a list becomes infinite; none past its end.
 fn spoil(l: &mut [f64], at: usize) {

@@ -12,85 +12,10 @@ Inv-loop l₀ ends₀ n at₀ i₀ l ends at i = (i ≤ length ends₀) × (at �
 abbrev μ-loop : tie.MeasureT-loop
 μ-loop l₀ ends₀ n at₀ i₀ l ends at i = length ends₀ - i
 
-next-size-requires : tie.Need-next-size-requires Inv-loop μ-loop
-next-size-requires c κs = search needs
-
-loop-holds : tie.Need-loop-holds Inv-loop μ-loop
-loop-holds c = search needs
-
-mul-ends : tie.Need-mul-ends Inv-loop μ-loop
-mul-ends c = search needs
-
-slice-write-ends : tie.Need-slice-write-ends Inv-loop μ-loop
-slice-write-ends c = search needs
-
-same-length : tie.Need-same-length Inv-loop μ-loop
-same-length c = search needs
-
-same-length-2 : tie.Need-same-length-2 Inv-loop μ-loop
-same-length-2 c = search needs
-
-returns : tie.Need-returns Inv-loop μ-loop
-returns c = search needs
-
-mul-next-floats : tie.Need-mul-next-floats Inv-loop μ-loop
-mul-next-floats c = search needs
-
-sub-next-floats : tie.Need-sub-next-floats Inv-loop μ-loop
-sub-next-floats c = search needs
-
-part-next-floats-start : tie.Need-part-next-floats-start Inv-loop μ-loop
-part-next-floats-start c = search needs
-
-part-next-floats-end : tie.Need-part-next-floats-end Inv-loop μ-loop
-part-next-floats-end c = search needs
-
-next-floats-requires : tie.Need-next-floats-requires Inv-loop μ-loop
-next-floats-requires c κs = search needs
-
-add-at : tie.Need-add-at Inv-loop μ-loop
-add-at c = search needs
-
-add-i : tie.Need-add-i Inv-loop μ-loop
-add-i c = search needs
-
-loop-less : tie.Need-loop-less Inv-loop μ-loop
-loop-less c = search needs
-
-loop-again : tie.Need-loop-again Inv-loop μ-loop
-loop-again c = search needs
-
-same-length-3 : tie.Need-same-length-3 Inv-loop μ-loop
-same-length-3 c = search needs
-
-same-length-4 : tie.Need-same-length-4 Inv-loop μ-loop
-same-length-4 c = search needs
-
-returns-2 : tie.Need-returns-2 Inv-loop μ-loop
-returns-2 c = search needs
-
 pub next-float-lists-spec : {M : Type 1} → statement M
 next-float-lists-spec =
     tie.close
-    (tie.spec
-    Inv-loop
-    μ-loop
-    next-size-requires
-    loop-holds
-    mul-ends
-    slice-write-ends
-    same-length
-    same-length-2
-    returns
-    mul-next-floats
-    sub-next-floats
-    part-next-floats-start
-    part-next-floats-end
-    next-floats-requires
-    add-at
-    add-i
-    loop-less
-    loop-again
-    same-length-3
-    same-length-4
-    returns-2)
+    (tie.spec Inv-loop μ-loop
+    (λ c κs. search needs) (λ c. search needs) (λ c. search needs) (λ c. search needs) (λ c. search needs) (λ c. search needs) (λ c. search needs)
+    (λ c. search needs) (λ c. search needs) (λ c. search needs) (λ c. search needs) (λ c κs. search needs) (λ c. search needs) (λ c. search needs)
+    (λ c. search needs) (λ c. search needs) (λ c. search needs) (λ c. search needs) (λ c. search needs))

@@ -12,57 +12,9 @@ Inv-loop l₀ n i₀ l i = (i ≤ length l₀) × (length l ≡ length l₀)
 abbrev μ-loop : tie.MeasureT-loop
 μ-loop l₀ n i₀ l i = length l₀ - i
 
-next-size-requires : tie.Need-next-size-requires Inv-loop μ-loop
-next-size-requires c κs = search needs
-
-loop-holds : tie.Need-loop-holds Inv-loop μ-loop
-loop-holds c = search needs
-
-same-length : tie.Need-same-length Inv-loop μ-loop
-same-length c = search needs
-
-returns : tie.Need-returns Inv-loop μ-loop
-returns c = search needs
-
-next-whole-requires : tie.Need-next-whole-requires Inv-loop μ-loop
-next-whole-requires c κs = search needs
-
-mul-t4 : tie.Need-mul-t4 Inv-loop μ-loop
-mul-t4 c = search needs
-
-slice-set-from-l : tie.Need-slice-set-from-l Inv-loop μ-loop
-slice-set-from-l c = search needs
-
-add-i : tie.Need-add-i Inv-loop μ-loop
-add-i c = search needs
-
-loop-less : tie.Need-loop-less Inv-loop μ-loop
-loop-less c = search needs
-
-loop-again : tie.Need-loop-again Inv-loop μ-loop
-loop-again c = search needs
-
-same-length-2 : tie.Need-same-length-2 Inv-loop μ-loop
-same-length-2 c = search needs
-
-returns-2 : tie.Need-returns-2 Inv-loop μ-loop
-returns-2 c = search needs
-
 pub next-wholes-spec : {M : Type 1} → statement M
 next-wholes-spec =
     tie.close
-    (tie.spec
-    Inv-loop
-    μ-loop
-    next-size-requires
-    loop-holds
-    same-length
-    returns
-    next-whole-requires
-    mul-t4
-    slice-set-from-l
-    add-i
-    loop-less
-    loop-again
-    same-length-2
-    returns-2)
+    (tie.spec Inv-loop μ-loop
+    (λ c κs. search needs) (λ c. search needs) (λ c. search needs) (λ c. search needs) (λ c κs. search needs) (λ c. search needs) (λ c. search needs)
+    (λ c. search needs) (λ c. search needs) (λ c. search needs) (λ c. search needs) (λ c. search needs))
