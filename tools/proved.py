@@ -20,13 +20,13 @@ BEGIN, END = "<!-- public functions -->", "<!-- end -->"
 COUNT = re.compile(r"(?<=<!-- lines -->).*?(?=<!-- end of lines -->)", re.S)
 TEST_TOOLS = "replay_"
 
-ENTRIES = ["whole", "partitions", "exact", "roads", "vectors", "derivatives", "rolling_ball_fillet", "parts_text"]
+ENTRIES = ["whole", "partitions", "exact", "roads", "vectors", "derivatives", "vector_derivatives", "rolling_ball_fillet", "parts_text"]
 BORDER = ["capi_exact", "capi_roads", "capi_floats", "capi_vectors", "capi_fillet", "bench_carry"]
-ARITHMETIC = ["booleans", "calculus", "exact_formulas", "exact_carry", "ieee", "ieee_vectors", "formulas", "vector_formulas", "vector_surface_formulas", "rodrigues",
-              "contacts", "partials"]
+ARITHMETIC = ["booleans", "calculus", "orders", "exact_formulas", "exact_carry", "ieee", "ieee_vectors", "formulas", "vector_formulas", "vector_surface_formulas", "float_carry",
+              "rodrigues", "surface_info", "contacts", "partials"]
 BORDER_PARTS = ["given", "exact_lists", "float_lists", "fillet_lists"]  # what the crates of the border share
 REFUSING_NUMBERS = ["whole", "partitions"]  # entries that arithmetic may stand on: they refuse by what is formed
-NO_CODE = ["figures"]
+NO_CODE = ["part_counts", "figures"]
 
 # What the crates of entries expose beside answers, and why it has no number to give.
 NUMBERLESS = {
