@@ -76,7 +76,7 @@ def matrix(call, faults, what='', pairs=None, met=first_checked, skip=lambda few
         write(changed, few, met(few))
 
 
-def order_fault(place, at, where, kind=None, width=1, bad=21):
+def order_fault(place, at, where, kind=None, width=1, bad=21, touches=None):
     """An order above 20; alone, its list has the entries of that order."""
 
     def change(call, alone):
@@ -84,7 +84,7 @@ def order_fault(place, at, where, kind=None, width=1, bad=21):
         if alone and kind:
             wanted = width * count(kind, bad)
             call.lists[at] = (call.lists[at] * wanted)[:wanted]
-    return Fault(1, where, 'order ' + where, change)
+    return Fault(1, where, touches or 'order ' + where, change)
 
 
 def count_fault(at, where, more=False):
@@ -462,6 +462,9 @@ def fillet(name):
         if item == 'jet':
             kind = 'surface' if where in ('s0', 's1') else 'curve'
             faults.append(order_fault(at_size, at_list, where, kind, shapes[where]))
+            if where == 'center':
+                # the record's order, which ends at 19
+                faults.append(order_fault(at_size, at_list, 'center 20', kind, shapes[where], 20, 'order center'))
             at_size += 1
         # floats that go in by themselves have no count
         if ',' not in where and not (name == 'vder_info' and where == 'angle'):

@@ -60,19 +60,19 @@ contactsInto n circle feet normals edge radius surface0 surface1 out =
     (contactsGiven n (length (out .0)) (length (out .1 .0)) (length (out .1 .1 .0)) (length (out .1 .1 .1 .0)) (length (out .1 .1 .1 .1)))) out
     (deliverContacts (centerContactAnswer (filletOf normals edge radius surface0 surface1) (circleWith circle feet) n) out)
 
--- ---- these five jets, handed over
+-- ---- these five jets, handed over: the centre's order ends at 19, as the contacts have one more
 abbrev pub dersGiven : (center contact0 contact1 uv0 uv1 : Listed) → ℕ
 dersGiven center contact0 contact1 uv0 uv1 =
-    first (vectorCurveGiven (center .0) (length (center .1))) (first (vectorCurveGiven (contact0 .0) (length (contact0 .1)))
+    first (orderGiven (center .0 + 1)) (first (vectorCurveGiven (center .0) (length (center .1))) (first (vectorCurveGiven (contact0 .0) (length (contact0 .1)))
     (first (vectorCurveGiven (contact1 .0) (length (contact1 .1))) (first (parameterGiven (uv0 .0) (length (uv0 .1)))
-    (parameterGiven (uv1 .0) (length (uv1 .1))))))
+    (parameterGiven (uv1 .0) (length (uv1 .1)))))))
 
 -- ---- the axis, the angle and its cosine, from these jets and the radius', which with the contacts has one order more than the centre
 unfoldable pub vderInfoInto : (center contact0 contact1 uv0 uv1 radius : Listed) → Float → Three → ℕ × Three
 vderInfoInto center contact0 contact1 uv0 uv1 radius t out =
     let n = center .0 in
-    admitted (first (dersGiven center contact0 contact1 uv0 uv1) (first (curveGiven (radius .0) (length (radius .1))) (first (orderGiven (n + 1))
-    (first (vectorCurveGiven n (length (out .0))) (first (curveGiven n (length (out .1 .0))) (countGiven 1 (length (out .1 .1)))))))) out
+    admitted (first (dersGiven center contact0 contact1 uv0 uv1) (first (curveGiven (radius .0) (length (radius .1)))
+    (first (vectorCurveGiven n (length (out .0))) (first (curveGiven n (length (out .1 .0))) (countGiven 1 (length (out .1 .1))))))) out
     (deliverInfo (vderInfoAnswer (dersOf center contact0 contact1 uv0 uv1) (jetOfList curves (radius .0) (radius .1)) t) out)
 
 -- ---- the partials, from these jets, the axis' and the angle's

@@ -141,6 +141,37 @@ fn given_ders(
     given::first(a, given::first(b, given::first(c, de)))
 }
 
+// That test of a record that is handed over, and of its order.
+fn given_record(
+    center_order: usize,
+    center: usize,
+    contact0_order: usize,
+    contact0: usize,
+    contact1_order: usize,
+    contact1: usize,
+    uv0_order: usize,
+    uv0: usize,
+    uv1_order: usize,
+    uv1: usize,
+) -> u8
+    ensures { λ r. ⌜ r ≡ first (orderGiven («center_order» + 1)) (first (vectorCurveGiven «center_order» center) (first (vectorCurveGiven «contact0_order» contact0) (first (vectorCurveGiven «contact1_order» contact1) (first (parameterGiven «uv0_order» uv0) (parameterGiven «uv1_order» uv1))))) ⌝ }
+{
+    let k = given::order_sum(center_order, 1);
+    let d = given_ders(
+        center_order,
+        center,
+        contact0_order,
+        contact0,
+        contact1_order,
+        contact1,
+        uv0_order,
+        uv0,
+        uv1_order,
+        uv1,
+    );
+    given::first(k, d)
+}
+
 // That test's number, then the axis' and the angle's jets, and the list for one vector.
 fn given_partial(
     ders: u8,
@@ -168,15 +199,14 @@ fn given_info(
     angle: usize,
     cosine: usize,
 ) -> u8
-    ensures { λ r. ⌜ r ≡ first ders (first (curveGiven «radius_order» radius) (first (orderGiven (n + 1)) (first (vectorCurveGiven n axis) (first (curveGiven n angle) (countGiven 1 cosine))))) ⌝ }
+    ensures { λ r. ⌜ r ≡ first ders (first (curveGiven «radius_order» radius) (first (vectorCurveGiven n axis) (first (curveGiven n angle) (countGiven 1 cosine)))) ⌝ }
 {
     let r = given::curve(radius_order, radius);
-    let k = given::order_sum(n, 1);
     let a = given::vector_curve(n, axis);
     let b = given::curve(n, angle);
     let c = given::count(1, cosine);
     let abc = given::first(a, given::first(b, c));
-    given::first(ders, given::first(r, given::first(k, abc)))
+    given::first(ders, given::first(r, abc))
 }
 
 fn on_info(
@@ -202,7 +232,7 @@ fn on_info(
 ) -> u8
     ensures { λ r. ⌜ _≡_ {A = ℕ × List Float} (r, now (out .exit)) (partialInto (partialBy op) («center_order», now (center .entry)) («contact0_order», now (contact0 .entry)) («contact1_order», now (contact1 .entry)) («uv0_order», now (uv0 .entry)) («uv1_order», now (uv1 .entry)) («axis_order», now (axis .entry)) («angle_order», now (angle .entry)) u s c (now (out .entry))) ⌝ }
 {
-    let g = given_ders(
+    let g = given_record(
         center_order,
         center.len(),
         contact0_order,
@@ -379,7 +409,7 @@ pub extern "C" fn sugamdely_vder_info(
 ) -> u8
     ensures { λ r. ⌜ _≡_ {A = ℕ × Three} (r, (now («axis_out» .exit), (now («angle_out» .exit), now («cosine_out» .exit)))) (vderInfoInto («center_order», now (center .entry)) («contact0_order», now (contact0 .entry)) («contact1_order», now (contact1 .entry)) («uv0_order», now (uv0 .entry)) («uv1_order», now (uv1 .entry)) («radius_order», now (radius .entry)) angle (now («axis_out» .entry), (now («angle_out» .entry), now («cosine_out» .entry)))) ⌝ }
 {
-    let g = given_ders(
+    let g = given_record(
         center_order,
         center.len(),
         contact0_order,

@@ -19,7 +19,7 @@ use Rattle.calculus.specs.JetKind.{tested, above20}
 use Rattle.derivatives.specs.declared.CurveDerivatives.{CurveDerivatives}
 use Rattle.contacts.proofs.Untouched.{origins}
 use Rattle.rolling_ball_fillet.specs.Center.{radii, refusedContacts, centerContacts, jetsAbove20, beyond, short, finiteGiven, returnedContacts, centerContactAnswer}
-use Rattle.rolling_ball_fillet.specs.PartialAnswer.{beyond as infoBeyond, short as infoShort, finiteGiven as infoGiven, refusedInfo, vderInfo, returnedInfo, vderInfoAnswer, infoAbove20, shortInfo, finiteInputs, partialAnswer}
+use Rattle.rolling_ball_fillet.specs.PartialAnswer.{beyond as pastInfo, short as infoShort, finiteGiven as infoGiven, refusedInfo, vderInfo, returnedInfo, vderInfoAnswer, infoBeyond, shortInfo, finiteInputs, partialAnswer}
 use Rattle.partials.specs.Pairs.{orderOf}
 use Rattle.rolling_ball_fillet.specs.SubDer.{partialBy, fromContacts, finiteFloats, byEdge}
 use Rattle.rolling_ball_fillet.specs.declared.ContactCircle.{ContactCircle}
@@ -53,15 +53,15 @@ module _ (d : CenterContactDers) (r : CurveDerivatives) (angle : Float) where
   abbrev n : ℕ
   n = d .«center_ders» .order
 
-  pub info-asked : {b1 b2 b3 : Bool} → infoBeyond d r n ≡ b1 → infoShort d r (suc n) ≡ b2 → infoGiven d r angle n ≡ b3 →
+  pub info-asked : {b1 b2 b3 : Bool} → pastInfo d r ≡ b1 → infoShort d r (suc n) ≡ b2 → infoGiven d r angle n ≡ b3 →
       tested refusedInfo b1 b2 b3 (returnedInfo (vderInfo d (curveNumbers (r .entries)) angle n) n) ≡ vderInfoAnswer d r angle
-  info-asked = as-tested refusedInfo (returnedInfo (vderInfo d (curveNumbers (r .entries)) angle n) n) (infoBeyond d r n) (infoShort d r (suc n)) (infoGiven d r angle n)
+  info-asked = as-tested refusedInfo (returnedInfo (vderInfo d (curveNumbers (r .entries)) angle n) n) (pastInfo d r) (infoShort d r (suc n)) (infoGiven d r angle n)
 
-pub partial-asked : (p : EdgePartial) (i : VderInfo) (u s c : Float) {b1 b2 b3 : Bool} → infoAbove20 i ≡ b1 → shortInfo i (orderOf p) ≡ b2 →
+pub partial-asked : (p : EdgePartial) (i : VderInfo) (u s c : Float) {b1 b2 b3 : Bool} → infoBeyond i ≡ b1 → shortInfo i (orderOf p) ≡ b2 →
     finiteInputs i (orderOf p) u s c ≡ b3 →
     tested Refused b1 b2 b3 (returnedVector (partialBy p i u s c)) ≡ partialAnswer (partialBy p) (orderOf p) i u s c
 partial-asked p i u s c =
-    as-tested Refused (returnedVector (partialBy p i u s c)) (infoAbove20 i) (shortInfo i (orderOf p)) (finiteInputs i (orderOf p) u s c)
+    as-tested Refused (returnedVector (partialBy p i u s c)) (infoBeyond i) (shortInfo i (orderOf p)) (finiteInputs i (orderOf p) u s c)
 
 pub edge-asked : (p : EdgePartial) (f : RollingBallFilletSurface) (cc : ContactCircle) (angle u s c : Float) {b2 b3 : Bool} → short f (suc (orderOf p)) ≡ b2 →
     (finiteGiven f cc (suc (orderOf p)) && finiteFloats angle u s c) ≡ b3 →

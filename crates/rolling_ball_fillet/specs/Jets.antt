@@ -25,5 +25,9 @@ cutDers d n = record {
 abbrev pub contactsAbove20 : CenterContactDers → Bool
 contactsAbove20 d = ltb 20 (d .«contact0_ders» .order) || ltb 20 (d .«contact1_ders» .order) || ltb 20 (d .«uv0_ders» .order) || ltb 20 (d .«uv1_ders» .order)
 
+-- a record that is handed in has its centre's order, up to 19, since its contacts have one more
+abbrev pub recordBeyond : CenterContactDers → Bool
+recordBeyond d = ltb 19 (d .«center_ders» .order) || contactsAbove20 d
+
 abbrev pub shortContacts : CenterContactDers → ℕ → Bool
 shortContacts d n = ltb (d .«contact0_ders» .order) n || ltb (d .«contact1_ders» .order) n || ltb (d .«uv0_ders» .order) n || ltb (d .«uv1_ders» .order) n

@@ -16,7 +16,7 @@ use Rattle.derivatives.specs.declared.CurveDerivatives.{CurveDerivatives}
 use Rattle.partials.specs.AxisAngle.{axisAngle}
 use Rattle.partials.specs.declared.AxisAngle.{AxisAngle}
 use Rattle.rolling_ball_fillet.specs.Center.{finiteContacts}
-use Rattle.rolling_ball_fillet.specs.Jets.{noDers, cutDers, contactsAbove20, shortContacts}
+use Rattle.rolling_ball_fillet.specs.Jets.{noDers, cutDers, recordBeyond, shortContacts}
 use Rattle.rolling_ball_fillet.specs.declared.CenterContactDers.{CenterContactDers}
 use Rattle.rolling_ball_fillet.specs.declared.VderInfo.{VderInfo}
 use Rattle.rolling_ball_fillet.specs.declared.VderInfoAnswer.{VderInfoAnswer}
@@ -50,8 +50,8 @@ abbrev pub returnedInfo : VderInfoAnswer → ℕ → VderInfoAnswer
 returnedInfo a n = cond (eqb (a .refusal) 0) (cond (finiteInfo (a .info) n && finite (a .cosine)) a (refusedInfo 10)) a
 
 -- the tests before the work: the contacts, their parameters and the radius have the order n + 1 or more, and are finite up to it
-abbrev pub beyond : CenterContactDers → CurveDerivatives → ℕ → Bool
-beyond d r n = ltb 19 n || contactsAbove20 d || ltb 20 (r .order)
+abbrev pub beyond : CenterContactDers → CurveDerivatives → Bool
+beyond d r = recordBeyond d || ltb 20 (r .order)
 
 abbrev pub short : CenterContactDers → CurveDerivatives → ℕ → Bool
 short d r k = shortContacts d k || ltb (r .order) k
@@ -62,11 +62,11 @@ finiteGiven d r angle n = finiteContacts d n && finiteUpTo curves r (suc n) && f
 abbrev pub vderInfoAnswer : CenterContactDers → CurveDerivatives → Float → VderInfoAnswer
 vderInfoAnswer d r angle =
     let n = d .«center_ders» .order in
-    tested refusedInfo (beyond d r n) (short d r (suc n)) (finiteGiven d r angle n) (returnedInfo (vderInfo d (curveNumbers (r .entries)) angle n) n)
+    tested refusedInfo (beyond d r) (short d r (suc n)) (finiteGiven d r angle n) (returnedInfo (vderInfo d (curveNumbers (r .entries)) angle n) n)
 
 -- ---- partials, worked at the order k
-abbrev pub infoAbove20 : VderInfo → Bool
-infoAbove20 i = ltb 20 (i .«cc_ders» .«center_ders» .order) || contactsAbove20 (i .«cc_ders») || ltb 20 (i .«axis_ders» .order) || ltb 20 (i .«angle_ders» .order)
+abbrev pub infoBeyond : VderInfo → Bool
+infoBeyond i = recordBeyond (i .«cc_ders») || ltb 20 (i .«axis_ders» .order) || ltb 20 (i .«angle_ders» .order)
 
 abbrev pub shortInfo : VderInfo → ℕ → Bool
 shortInfo i k =
@@ -76,4 +76,4 @@ abbrev pub finiteInputs : VderInfo → ℕ → (u s c : Float) → Bool
 finiteInputs i k u s c = finiteInfo i k && finite u && finite s && finite c
 
 abbrev pub partialAnswer : (VderInfo → (u s c : Float) → Vector3) → ℕ → VderInfo → (u s c : Float) → VectorAnswer
-partialAnswer partial k i u s c = tested Refused (infoAbove20 i) (shortInfo i k) (finiteInputs i k u s c) (returnedVector (partial i u s c))
+partialAnswer partial k i u s c = tested Refused (infoBeyond i) (shortInfo i k) (finiteInputs i k u s c) (returnedVector (partial i u s c))

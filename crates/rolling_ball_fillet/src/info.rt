@@ -1,7 +1,7 @@
 // The tests before axis and angle are worked out and before they are used, and on what is returned.
 ghost use mathlib.Core.Path.{_≡_};
 ghost use Prim.Native.Nat.{_<_};
-ghost use Rattle.rolling_ball_fillet.specs.PartialAnswer.{beyond as beyondOf, short as shortOf, finiteGiven, infoAbove20, shortInfo, finiteInfo, finiteInputs, returnedInfo};
+ghost use Rattle.rolling_ball_fillet.specs.PartialAnswer.{beyond as beyondOf, short as shortOf, finiteGiven, infoBeyond, shortInfo, finiteInfo, finiteInputs, returnedInfo};
 use crate::CenterContactDers;
 use crate::VderInfo;
 use crate::VderInfoAnswer;
@@ -13,13 +13,11 @@ use booleans::both;
 use booleans::either;
 use derivatives::CurveDerivatives;
 
-// To work at the order n: whether it is above 19, or an order of the contacts or of the radius above 20; whether one is below k; whether what is
-// read is finite.
-pub fn beyond(d: CenterContactDers, r: CurveDerivatives, n: usize) -> bool
-    ensures { λ x. ⌜ x ≡ beyondOf d r n ⌝ }
+// To work at the order n: whether the record or the radius has an order too high; whether one is below k; whether what is read is finite.
+pub fn beyond(d: CenterContactDers, r: CurveDerivatives) -> bool
+    ensures { λ x. ⌜ x ≡ beyondOf d r ⌝ }
 {
-    let contacts = either(19 < n, jets::above_20_contacts(d));
-    either(contacts, 20 < r.order)
+    either(jets::beyond(d), 20 < r.order)
 }
 
 pub fn short(d: CenterContactDers, r: CurveDerivatives, k: usize) -> bool
@@ -36,16 +34,14 @@ pub fn finite_given(d: CenterContactDers, r: CurveDerivatives, angle: f64, n: us
     both(jets, ieee::is_finite(angle))
 }
 
-// To use axis and angle at the order k: whether an order is above 20; whether one is too low; whether what is read is finite.
-pub fn above_20_info(i: VderInfo) -> bool
-    ensures { λ r. ⌜ r ≡ infoAbove20 i ⌝ }
+// To use axis and angle at the order k: whether an order is too high; whether one is too low; whether what is read is finite.
+pub fn beyond_info(i: VderInfo) -> bool
+    ensures { λ r. ⌜ r ≡ infoBeyond i ⌝ }
 {
     let d = i.cc_ders;
-    let center = d.center_ders;
     let a = i.axis_ders;
     let t = i.angle_ders;
-    let contacts = either(20 < center.order, jets::above_20_contacts(d));
-    let axis = either(contacts, 20 < a.order);
+    let axis = either(jets::beyond(d), 20 < a.order);
     either(axis, 20 < t.order)
 }
 

@@ -5,7 +5,7 @@ ghost use Rattle.calculus.specs.Array.{curveArray};
 ghost use Rattle.ieee_vectors.specs.Vectors.{positiveZero};
 ghost use Rattle.formulas.specs.Numbers.{curveNumbers};
 ghost use Rattle.vector_formulas.specs.Vector.{vectorNumbers, vectorSurfaceNumbers, finiteVectorSurface};
-ghost use Rattle.rolling_ball_fillet.specs.Jets.{noDers, cutDers, contactsAbove20, shortContacts};
+ghost use Rattle.rolling_ball_fillet.specs.Jets.{noDers, cutDers, contactsAbove20, recordBeyond, shortContacts};
 ghost use Rattle.derivatives.specs.Answer.{parameters, curves};
 ghost use Rattle.calculus.specs.JetKind.{finiteUpTo, cut};
 ghost use Rattle.vector_derivatives.specs.Answer.{vectorCurves};
@@ -133,7 +133,7 @@ pub fn cut_ders(d: CenterContactDers, n: usize) -> CenterContactDers
 }
 
 // Whether an order of the contacts or their parameters is above 20, or below n.
-pub fn above_20_contacts(d: CenterContactDers) -> bool
+fn above_20_contacts(d: CenterContactDers) -> bool
     ensures { λ r. ⌜ r ≡ contactsAbove20 d ⌝ }
 {
     let a = d.contact0_ders;
@@ -143,6 +143,14 @@ pub fn above_20_contacts(d: CenterContactDers) -> bool
     let ab = either(20 < a.order, 20 < b.order);
     let abu = either(ab, 20 < u.order);
     either(abu, 20 < v.order)
+}
+
+// Whether the record's order, its centre's, is above 19, or another above 20.
+pub fn beyond(d: CenterContactDers) -> bool
+    ensures { λ r. ⌜ r ≡ recordBeyond d ⌝ }
+{
+    let center = d.center_ders;
+    either(19 < center.order, above_20_contacts(d))
 }
 
 pub fn short_contacts(d: CenterContactDers, n: usize) -> bool

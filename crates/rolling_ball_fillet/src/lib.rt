@@ -151,7 +151,7 @@ impl CenterContactDers {
     {
         let center = self.center_ders;
         let n = center.order;
-        if info::beyond(self, rders, n) {
+        if info::beyond(self, rders) {
             return axis_angle::refused(1);
         }
         let k = n + 1;

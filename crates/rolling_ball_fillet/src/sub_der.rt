@@ -49,7 +49,7 @@ pub fn partial_answer(p: EdgePartial, i: VderInfo, u: f64, s: f64, c: f64) -> Ve
     ensures { λ r. ⌜ r ≡ partialAnswer (partialBy p) (orderOf p) i u s c ⌝ }
 {
     let n = partials::order(p);
-    if info::above_20_info(i) {
+    if info::beyond_info(i) {
         return VectorAnswer::Refused(1);
     }
     if info::short_info(i, n) {

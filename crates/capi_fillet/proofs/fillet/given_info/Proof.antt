@@ -9,9 +9,6 @@ use Rattle.capi_fillet.proofs.fillet.given_info.Tie as tie
 curve-requires : tie.Need-curve-requires
 curve-requires c κs = search needs
 
-order-sum-requires : tie.Need-order-sum-requires
-order-sum-requires c κs = search needs
-
 vector-curve-requires : tie.Need-vector-curve-requires
 vector-curve-requires c κs = search needs
 
@@ -33,13 +30,10 @@ first-requires-3 c κs = search needs
 first-requires-4 : tie.Need-first-requires-4
 first-requires-4 c κs = search needs
 
-first-requires-5 : tie.Need-first-requires-5
-first-requires-5 c κs = search needs
-
 returns : tie.Need-returns
-returns c = let s = c .before .before .before .before .before .before .before .before .before .before .args in
-    c .first5 .ensures
-    ∙ ap (λ (k : ℕ). first (s .ders) k) (c .before .first4 .ensures ∙ ap₂ first (c .before .before .before .before .before .before .before .before .before .curve .ensures) (c .before .before .first3 .ensures ∙ ap₂ first (c .before .before .before .before .before .before .before .before .order-sum .ensures) (c .before .before .before .first2 .ensures ∙ ap₂ first (c .before .before .before .before .before .before .before .vector-curve .ensures) (c .before .before .before .before .first .ensures ∙ ap₂ first (c .before .before .before .before .before .before .curve2 .ensures) (c .before .before .before .before .before .count .ensures)))))
+returns c = let s = c .before .before .before .before .before .before .before .before .args in
+    c .first4 .ensures
+    ∙ ap (λ (k : ℕ). first (s .ders) k) (c .before .first3 .ensures ∙ ap₂ first (c .before .before .before .before .before .before .before .curve .ensures) (c .before .before .first2 .ensures ∙ ap₂ first (c .before .before .before .before .before .before .vector-curve .ensures) (c .before .before .before .first .ensures ∙ ap₂ first (c .before .before .before .before .before .curve2 .ensures) (c .before .before .before .before .count .ensures))))
 
 pub given-info-spec : {M : Type 1} → statement M
-given-info-spec = tie.close (tie.spec curve-requires order-sum-requires vector-curve-requires curve-requires-2 count-requires first-requires first-requires-2 first-requires-3 first-requires-4 first-requires-5 returns)
+given-info-spec = tie.close (tie.spec curve-requires vector-curve-requires curve-requires-2 count-requires first-requires first-requires-2 first-requires-3 first-requires-4 returns)

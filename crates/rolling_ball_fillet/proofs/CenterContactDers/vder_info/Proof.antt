@@ -15,7 +15,7 @@ use Rattle.rolling_ball_fillet.proofs.CenterContactDers.vder_info.State
 use Rattle.rolling_ball_fillet.proofs.CenterContactDers.vder_info.Tie as tie
 
 -- ---- what is known once a test is passed
-near : (c : tie.Else1) → let a = c .before .before .before .args in beyond (a .self) (a .rders) (a .self .«center_ders» .order) ≡ false
+near : (c : tie.Else1) → let a = c .before .before .before .args in beyond (a .self) (a .rders) ≡ false
 near c = sym (c .before .beyond .ensures) ∙ c .if1 .left
 
 within : (c : tie.Else1) → c .before .before .before .args .self .«center_ders» .order ≤ 19

@@ -3,17 +3,14 @@ use borrow.Author.Needs.{needs}
 use Rattle.rolling_ball_fillet.proofs.info.beyond.Statement.{statement}
 use Rattle.rolling_ball_fillet.proofs.info.beyond.Tie as tie
 
-above-20-contacts-requires : tie.Need-above-20-contacts-requires
-above-20-contacts-requires c κs = search needs
+beyond-requires : tie.Need-beyond-requires
+beyond-requires c κs = search needs
 
 either-requires : tie.Need-either-requires
 either-requires c κs = search needs
-
-either-requires-2 : tie.Need-either-requires-2
-either-requires-2 c κs = search needs
 
 returns : tie.Need-returns
 returns c = cc
 
 pub beyond-spec : {M : Type 1} → statement M
-beyond-spec = tie.close (tie.spec above-20-contacts-requires either-requires either-requires-2 returns)
+beyond-spec = tie.close (tie.spec beyond-requires either-requires returns)

@@ -16,13 +16,13 @@ small c = omega (arith, c .order .ensures, order-small (c .before .args .p))
 order-requires : tie.Need-order-requires
 order-requires c κs = search needs
 
-above-20-info-requires : tie.Need-above-20-info-requires
-above-20-info-requires c κs = search needs
+beyond-info-requires : tie.Need-beyond-info-requires
+beyond-info-requires c κs = search needs
 
 returns : tie.Need-returns
 returns c =
     let a = c .before .before .before .args in
-    partial-asked (a .p) (a .i) (a .u) (a .s) (a .c) (sym (c .before .above-20-info .ensures) ∙ c .if1 .taken) refl refl
+    partial-asked (a .p) (a .i) (a .u) (a .s) (a .c) (sym (c .before .beyond-info .ensures) ∙ c .if1 .taken) refl refl
 
 short-info-requires : tie.Need-short-info-requires
 short-info-requires c κs = omega (arith, small (c .before .before))
@@ -31,7 +31,7 @@ returns-2 : tie.Need-returns-2
 returns-2 c =
     let a = c .before .before .before .before .before .args in
     let n = c .before .before .before .before .order .ensures in
-    partial-asked (a .p) (a .i) (a .u) (a .s) (a .c) (sym (c .before .before .before .above-20-info .ensures) ∙ c .before .before .if1 .left)
+    partial-asked (a .p) (a .i) (a .u) (a .s) (a .c) (sym (c .before .before .before .beyond-info .ensures) ∙ c .before .before .if1 .left)
     (sym (c .before .short-info .ensures ∙ ap (shortInfo (a .i)) n) ∙ c .if2 .taken) refl
 
 finite-inputs-requires : tie.Need-finite-inputs-requires
@@ -49,8 +49,8 @@ returns-3 c =
     let n = c .before .before .before .before .before .before .before .order .ensures in
     let inputs = c .before .before .finite-inputs .ensures ∙ ap (λ (k : ℕ). finiteInputs (a .i) k (a .u) (a .s) (a .c)) n in
     c .vector-from .ensures ∙ vector-from inputs (c .before .partial .ensures)
-    ∙ partial-asked (a .p) (a .i) (a .u) (a .s) (a .c) (sym (c .before .before .before .before .before .before .above-20-info .ensures) ∙ c .before .before .before .before .before .if1 .left)
+    ∙ partial-asked (a .p) (a .i) (a .u) (a .s) (a .c) (sym (c .before .before .before .before .before .before .beyond-info .ensures) ∙ c .before .before .before .before .before .if1 .left)
     (sym (c .before .before .before .before .short-info .ensures ∙ ap (shortInfo (a .i)) n) ∙ c .before .before .before .if2 .left) refl
 
 pub partial-answer-spec : {M : Type 1} → statement M
-partial-answer-spec = tie.close (tie.spec order-requires above-20-info-requires returns short-info-requires returns-2 finite-inputs-requires partial-requires vector-from-requires returns-3)
+partial-answer-spec = tie.close (tie.spec order-requires beyond-info-requires returns short-info-requires returns-2 finite-inputs-requires partial-requires vector-from-requires returns-3)
