@@ -17,4 +17,6 @@ pub mod runs;
 pub mod standins;
 
 #[cfg(test)]
+mod differences;
+#[cfg(test)]
 mod tests;

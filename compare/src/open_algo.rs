@@ -94,6 +94,12 @@ pub fn sub_center_contacts_ders(fillet: &Fillet, circle: ContactCircle, n: usize
     fillet.sub_center_contacts_ders(circle, &radius, n)
 }
 
+/// As the source's contact curve calls it: with a radius of order n.
+pub fn contact_curve_ders(fillet: &Fillet, circle: ContactCircle, n: usize) -> CenterContactDers {
+    let radius = fillet.radius.derivatives(n, circle.t);
+    fillet.sub_center_contacts_ders(circle, &radius, n)
+}
+
 /// Jets of the axis and the angle, and the clamped cosine.
 #[derive(Clone, Copy, Debug)]
 pub struct AxisAngle {

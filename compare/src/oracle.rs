@@ -436,6 +436,14 @@ pub fn sub_center_contacts_ders(given: &Given, n: usize) -> Option<Contacts> {
     })
 }
 
+/// The same with a radius of order n, as the source's contact curve has it.
+pub fn contact_curve_ders(given: &Given, n: usize) -> Option<Contacts> {
+    attempt(|| {
+        let (fillet, circle) = fillet(given);
+        contacts_lists(&open::contact_curve_ders(&fillet, circle, n))
+    })
+}
+
 /// What the source keeps for both surfaces after `m` steps of `der_routine` at order n, and the centre's jet then.
 pub fn surface_infos(given: &Given, n: usize, m: usize) -> Option<([Along; 2], Vec<f64>)> {
     attempt(|| {

@@ -487,7 +487,7 @@ pub(super) fn fillet() -> Vec<Operation> {
 
 /// The same operation on jets of other orders: longer ones, which are cut to the orders that it works at (`needs`, from the centre's order), too short
 /// or too high ones, and lists of the wrong length. The jets come first among its items, the centre's before the others.
-fn of_other_orders(base: Operation, forms: Vec<Form>, highest: usize, needs: impl Fn(usize) -> Vec<usize> + Copy + 'static) -> Operation {
+fn of_other_orders(base: Operation, forms: Vec<Form>, keeps_center: bool, needs: impl Fn(usize) -> Vec<usize> + Copy + 'static) -> Operation {
     let count = forms.len();
     let made = base.random;
     Operation {
@@ -504,7 +504,7 @@ fn of_other_orders(base: Operation, forms: Vec<Form>, highest: usize, needs: imp
                     let mut reader = Reader::new(&items[2 * k..]);
                     let mut jet = reader.jet(*form);
                     // The centre's order says at which the axis is worked out: it is left as it is there.
-                    match random.below(if k == 0 && highest < 20 { 1 } else { 40 }) {
+                    match random.below(if k == 0 && keeps_center { 1 } else { 40 }) {
                         1..=8 if jet.order < 20 => {
                             jet.order += 1;
                             let more = if random.below(4) == 0 { vec![random.not_finite(); form.width] } else { random.floats(form.width) };
@@ -516,6 +516,7 @@ fn of_other_orders(base: Operation, forms: Vec<Form>, highest: usize, needs: imp
                         }
                         10 => jet.list.push(0.0),
                         11 => (jet.order, jet.list) = (21, vec![1.0; form.length(21)]),
+                        12 => (jet.order, jet.list) = (20, vec![1.0; form.length(20)]),
                         _ => {}
                     }
                     items.splice(2 * k..2 * k + 2, jet.items());
@@ -528,7 +529,7 @@ fn of_other_orders(base: Operation, forms: Vec<Form>, highest: usize, needs: imp
             let jets: Vec<Jet> = forms.iter().map(|form| reader.jet(*form)).collect();
             let needs = needs(jets[0].order.min(20));
             let short = jets.iter().zip(&needs).any(|(jet, order)| jet.shorter(*order));
-            let refusal = first(&[(1, jets[0].order > highest || jets.iter().any(Jet::too_high)), (2, jets.iter().any(Jet::miscounted) || short)]);
+            let refusal = first(&[(1, jets[0].order > 19 || jets.iter().any(Jet::too_high)), (2, jets.iter().any(Jet::miscounted) || short)]);
             if refusal != 0 {
                 return Answer::refused(refusal);
             }
@@ -542,9 +543,9 @@ fn of_other_orders(base: Operation, forms: Vec<Form>, highest: usize, needs: imp
 pub(super) fn added() -> Vec<Operation> {
     let info = [&CONTACT_FORMS[..], &[curve(3), curve(1)]].concat();
     vec![
-        of_other_orders(vder_info(), [&CONTACT_FORMS[..], &[curve(1)]].concat(), 19, |n| vec![n, n + 1, n + 1, n + 1, n + 1, n + 1]),
-        of_other_orders(partial("derivative_v", 1, oracle::derivative_v), info.clone(), 20, |_| vec![1, 2, 2, 2, 2, 1, 1]),
-        of_other_orders(partial("derivative_uv", 1, oracle::derivative_uv), info.clone(), 20, |_| vec![1, 2, 2, 2, 2, 1, 1]),
-        of_other_orders(partial("derivative_vv", 2, oracle::derivative_vv), info, 20, |_| vec![2, 3, 3, 3, 3, 2, 2]),
+        of_other_orders(vder_info(), [&CONTACT_FORMS[..], &[curve(1)]].concat(), true, |n| vec![n, n + 1, n + 1, n + 1, n + 1, n + 1]),
+        of_other_orders(partial("derivative_v", 1, oracle::derivative_v), info.clone(), false, |_| vec![1, 2, 2, 2, 2, 1, 1]),
+        of_other_orders(partial("derivative_uv", 1, oracle::derivative_uv), info.clone(), false, |_| vec![1, 2, 2, 2, 2, 1, 1]),
+        of_other_orders(partial("derivative_vv", 2, oracle::derivative_vv), info, false, |_| vec![2, 3, 3, 3, 3, 2, 2]),
     ]
 }
