@@ -8,7 +8,7 @@
 
    REFUSALS. A function returns 0 where it has answered, or the number of its refusal:
 
-     1   an order above 20 (above 19 for n of sugamdely_sub_center_contacts_ders, and for the centre of sugamdely_vder_info)
+     1   an order above 20 (above 19 for n of sugamdely_sub_center_contacts_ders, and for the centre of a record of five jets)
      2   an order asked or needed exceeds a jet's; a list, or an output, of the wrong length; the derivative of a jet of order 0
      3   part lists: len 0 or above the order; a list whose parts are not positive and nonincreasing; a walk that holds no list of its walk
      4   a recipe with no jet or more than 4, with no step or more than 12, with an operation above 3, or with a step that names itself or a
@@ -38,7 +38,18 @@
      normals           of surface 0, then of surface 1: 6
 
    A jet is its order and its list side by side (a_order, a, a_len). Orders are 0 to 20. An output has exactly the length of its answer:
-   "out of 3" below says that out_len is 3. */
+   "out of 3" below says that out_len is 3.
+
+   THE PROCESSOR. Floats are worked under the caller's rounding mode and flags; no call looks at these or changes them. What the contracts say holds
+   under round to nearest, with subnormal numbers kept (neither flush-to-zero nor denormals-are-zero) and exceptions masked: as a program starts, unless it is
+   linked with -ffast-math, which sets both flags. With them (1e-310)/(1e-310) is 0, or is refused 7, and the root of 1e-310 is a subnormal number; rounding to
+   zero answers 2^1023 times 2, which is refused 10 (bench/environment.c shows these). Nothing traps, unless the caller has unmasked exceptions. Whole numbers
+   and part lists do not depend on it.
+
+   THREADS. No call keeps anything from one to the next, so any number of threads may call at once, each with outputs of its own.
+
+   STACK. The most that was seen, in bytes (bench/stack.c measures it): partials of the fillet 130,000; centre and contacts 118,000; recipes and roads 91,000;
+   jets of vectors 70,000; exact jets 24,000; jets of floats 22,000; axis, angle and partials of given jets 20,000; part lists 3,600; the rest less. */
 #ifndef SUGAMDELY_H
 #define SUGAMDELY_H
 
@@ -202,7 +213,10 @@ uint8_t sugamdely_matrix3_inverse(const double *m, size_t m_len, double *out, si
 /* m times v: out of 3 */
 uint8_t sugamdely_matrix3_image(const double *m, size_t m_len, const double *v, size_t v_len, double *out, size_t out_len);
 
-/* ---- The fillet. s and c are the sine and cosine of angle times u, from the caller. Refusals 5, 10 and those named. */
+/* ---- The fillet. s and c are the sine and cosine of angle times u, from the caller. Refusals 5, 10 and those named.
+   Presumed, and not checked: the normals are S_u x S_v, normalised; the centre is each contact point plus the radius times the normal there; s and c belong
+   to one angle; the jets belong to one place of the edge, and the feet are the parameters of the contact points. Where one of these does not hold the numbers
+   are the formulas' still, but no fillet's. */
 
 /* Rodrigues' rotation, derived x, y, z times by the components of the axis and n times by the angle: out of 9. */
 uint8_t sugamdely_rot_der_n(size_t x, size_t y, size_t z, size_t n, const double *axis, size_t axis_len, double s, double c, double *out, size_t out_len);
@@ -228,7 +242,7 @@ uint8_t sugamdely_vder_info(
     size_t uv1_order, const double *uv1, size_t uv1_len, size_t radius_order, const double *radius, size_t radius_len, double angle,
     double *axis_out, size_t axis_out_len, double *angle_out, size_t angle_out_len, double *cosine_out, size_t cosine_out_len);
 /* The partials (0,1), (1,1) and (0,2) of the fillet from those jets, at the share u of the arc: out of 3. The first two need order 1 of the
-   centre, axis and angle, the last order 2; the contacts and their parameters one more. */
+   centre, axis and angle, the last order 2; the contacts and their parameters one more. The centre's order is 19 or less. */
 uint8_t sugamdely_derivative_v(
     size_t center_order, const double *center, size_t center_len, size_t contact0_order, const double *contact0, size_t contact0_len,
     size_t contact1_order, const double *contact1, size_t contact1_len, size_t uv0_order, const double *uv0, size_t uv0_len,
@@ -245,8 +259,9 @@ uint8_t sugamdely_derivative_vv(
     size_t uv1_order, const double *uv1, size_t uv1_len, size_t axis_order, const double *axis, size_t axis_len,
     size_t angle_order, const double *angle, size_t angle_len, double u, double s, double c, double *out, size_t out_len);
 /* The partial of the fillet, m times by u and n times by v: out of 3. Served are (m, 0) with m up to 20, (0,1), (1,1) and (0,2); others
-   are refused 11. (0,1) and (1,1) need jets of order 2, (0,2) of order 3, (m,0) of none. angle is the angle's entry 0 for the last three;
-   (m,0) takes the circle's. Refusals 6 and 7. */
+   are refused 11. (0,1) and (1,1) need jets of order 2, (0,2) of order 3, and what is above is cut off and does not count for 5. (m,0) needs none, yet
+   cuts nothing: every float handed in counts for 5, up to each jet's own order. angle is the angle's entry 0 for the last three; (m,0) takes the
+   circle's. Refusals 6 and 7. */
 uint8_t sugamdely_sub_der_mn(
     size_t m, size_t n, const double *circle, size_t circle_len, const double *feet, size_t feet_len, const double *normals, size_t normals_len,
     size_t edge_order, const double *edge, size_t edge_len, size_t radius_order, const double *radius, size_t radius_len,

@@ -332,42 +332,7 @@ fn pieces_of_the_fillet_agree() {
     }
 }
 
-// Where the source and the public formula part: README.md lists each of these with a small input.
-
-const MINUS: f64 = -0.0;
-const TWO_52: f64 = 4503599627370496.0;
-
-#[test]
-fn products_and_carries_give_no_minus_zero() {
-    assert_bits(&curve_combinatorial_derivatives(Product::Floats, &[MINUS], &[1.0]).unwrap(), &[0.0]);
-    assert_bits(&surface_combinatorial_derivatives(Product::Floats, &[MINUS], &[1.0]).unwrap(), &[0.0]);
-    // The carried entry 0 is a copy; the others are sums from zero.
-    assert_bits(&composite_derivatives(Kind::Floats, &[MINUS; 3], &[0.0, 0.0, 1.0, 1.0]).unwrap(), &[MINUS, 0.0]);
-}
-
-#[test]
-fn quotients_of_curves_and_surfaces_part() {
-    // Entry 0 of a curve is (x - 0 * w) / w, of a surface (x - (0 + 0 * w)) / w.
-    assert_bits(&curve_rational_derivatives(Kind::Floats, &[MINUS], &[-1.0]).unwrap(), &[MINUS]);
-    assert_bits(&surface_rational_derivatives(Kind::Floats, &[MINUS], &[-1.0]).unwrap(), &[0.0]);
-    // The sum is formed first, then subtracted: (2^53 - 2^53) - 1 in turn would be -1.
-    let (x, w) = ([1.0, TWO_52 + 1.0, 2.0 * TWO_52], [1.0, 1.0, 1.0]);
-    assert_bits(&curve_rational_derivatives(Kind::Floats, &x, &w).unwrap(), &[1.0, TWO_52, 0.0]);
-    // The coefficient multiplies the denominator first: 0 * (1e308 * 2) is no number.
-    assert!(curve_rational_derivatives(Kind::Floats, &[0.0; 3], &[1.0, 1.0e308, 0.0]).unwrap()[2].is_nan());
-}
-
-#[test]
-fn norms_of_curves_and_surfaces_part() {
-    // |x| for x = 1 + 2^27 t + t^2 / 2: 1 by terms, 0 by two sums.
-    let vectors = [[1.0, 0.0, 0.0], [134217728.0, 0.0, 0.0], [1.0, 0.0, 0.0]];
-    assert_bits(&curve_absolute_derivatives(&vectors.concat()).unwrap(), &[1.0, 134217728.0, 1.0]);
-    let surface = surface_by(2, 3, |i, j, k| if j == 0 { vectors[i][k] } else { 0.0 });
-    assert_bits(&surface_absolute_derivatives(&surface).unwrap(), &[1.0, 0.0, 0.0, 134217728.0, 0.0, 0.0]);
-    // A length whose square leaves the range.
-    assert_bits(&curve_absolute_derivatives(&[1.0e-200, 0.0, 0.0]).unwrap(), &[0.0]);
-    assert_bits(&curve_absolute_derivatives(&[1.0e200, 0.0, 0.0]).unwrap(), &[f64::INFINITY]);
-}
+// More of where the source and the public formula part; differences.rs has the rows of docs/DIFFERENCES.md.
 
 #[test]
 fn multiplicity_takes_any_list() {
@@ -379,36 +344,11 @@ fn multiplicity_takes_any_list() {
 }
 
 #[test]
-fn the_angle_plus_quarter_turns_is_not_the_turned_pair() {
-    use std::f64::consts::PI;
-    // What the unpatched line gives at angle 0 and one quarter turn; the rule gives (1, -0).
-    assert_eq!((0.0 + PI / 2.0 * 1.0).sin_cos(), (1.0, 6.123233995736766e-17));
-    assert_bits(&rot_der_n([0, 0, 0, 1], &[0.0; 3], 0.0, 1.0).unwrap(), &[0.0; 9]);
-}
-
-#[test]
-fn partials_by_u_keep_what_lies_along_the_axis() {
-    // A point on the axis stands still, but each derivative of the circle gives it again.
-    let circle = [0.0, 0.0, 0.0, 0.0, 0.0, 1.0, 1.0, 0.0, 0.0, 1.0, 0.0, 0.0, 0.0];
-    assert_eq!(contact_circle_derivative_n(&circle, 1, 0.0, 1.0).unwrap(), [0.0, 0.0, 1.0]);
-    // The derivative of the rotation itself has no such part.
-    assert_eq!(rot_der_n([0, 0, 0, 1], &[0.0, 0.0, 1.0], 0.0, 1.0).unwrap()[6..], [0.0, 0.0, 0.0]);
-}
-
-#[test]
 fn a_growing_radius_enters_with_a_plus() {
     let centre = |inward: bool| sub_center_contacts_ders(&crate::inputs::two_planes(0.0, &[1.0, 1.0, 0.0], inward), 1).unwrap().center;
     assert_eq!(centre(false), [0.0, 1.0, 1.0, 1.0, 1.0, 1.0]);
     // Tangency asks for (1, -1, -1).
     assert_eq!(centre(true), [0.0, -1.0, -1.0, 1.0, 1.0, 1.0]);
-}
-
-#[test]
-fn contact_jets_end_in_a_zero() {
-    let contacts = sub_center_contacts_ders(&crate::inputs::two_planes(0.0, &[1.0, 1.0], false), 0).unwrap();
-    assert_eq!(contacts.center.len(), 3);
-    assert_eq!(contacts.contact0, [0.0, 1.0, 0.0, 0.0, 0.0, 0.0]);
-    assert_eq!(contacts.uv0, [0.0, 1.0, 0.0, 0.0]);
 }
 
 #[test]
@@ -424,21 +364,6 @@ fn the_given_normal_is_used_at_entry_0_only() {
 }
 
 #[test]
-fn the_cosine_is_clamped_from_above_only() {
-    let contacts = |p0: [f64; 3], p1: [f64; 3]| Contacts {
-        center: vec![0.0; 3],
-        contact0: [p0, [0.0; 3]].concat(),
-        contact1: [p1, [0.0; 3]].concat(),
-        uv0: vec![0.0; 4],
-        uv1: vec![0.0; 4],
-    };
-    let below = vder_info(&contacts([2.0, 0.0, 0.0], [-2.0, 1.0, 0.0]), &[1.0, 0.0], 0.5).unwrap();
-    assert_eq!((below.cosine, below.angle), (-4.0, vec![0.5]));
-    let no_number = vder_info(&contacts([1.0e200, 0.0, 0.0], [-1.0e200, 1.0e-300, 0.0]), &[1.0e200, 0.0], 0.5).unwrap();
-    assert_eq!((no_number.cosine, no_number.axis), (1.0, vec![0.0, 0.0, 1.0]));
-}
-
-#[test]
 fn zero_determinants_and_divisors_are_seen() {
     let mut given = crate::inputs::two_planes(0.0, &[1.0, 1.0, 0.0], false);
     given.normals.copy_within(0..3, 3);
@@ -446,12 +371,6 @@ fn zero_determinants_and_divisors_are_seen() {
     // At n = 0 no determinant is formed.
     assert!(sub_center_contacts_ders(&given, 0).is_some() && refused() == 0);
     assert_eq!((curve_rational_derivatives(Kind::Floats, &[4.0], &[0.0]), refused()), (Some(vec![f64::INFINITY]), 7));
-}
-
-#[test]
-fn repeated_products_are_not_squared_powers() {
-    let x = 1.1;
-    assert_ne!(crate::standins::pair::power(x, 4), (x * x) * (x * x));
 }
 
 // Runs.
