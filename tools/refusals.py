@@ -508,6 +508,12 @@ def fillet(name):
         for m in (0, 1, 20):
             answered(stored(name, 0, lambda o: o[:2] == [m, 0]), 'order %d' % m)
         write(overflowing(stored(name, 0, lambda o: o[:2] == [1, 0])), ['10 (1,0)'], 10)
+        # along the edge longer jets are cut, and what is cut off does not count; along the arc nothing is cut
+        for m, n, what, met in ((0, 1, '5 above the order needed, (0,1)', 0), (1, 0, '5 edge of order 4, (1,0)', 5)):
+            base = stored(name, 0, lambda o: o[:2] == [m, n])
+            base.orders[2] = 4
+            base.lists[3] = (base.lists[3] + [0.0] * 12)[:12] + [0.0, 0.0, NAN]
+            write(base, [what], met)
     else:
         matrix(stored(name, 0, lambda o: name != 'sub_center_contacts_ders' or o[0] == 1), faults, '', some(faults))
     served = {'sub_center_contacts_ders': (6, 7, 10), 'sub_der_mn': (6, 7, 10), 'vder_info': (7, 10), 'rot_der_n': (10,), 'from_axis_angle': (10,),
