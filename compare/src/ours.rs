@@ -201,7 +201,13 @@ fn roads() -> Work {
         let (orders, entries, steps) = (reader.wholes(), reader.signed(), reader.wholes());
         let ((n, c), order) = (reader.given_exact(), reader.whole());
         let road = |call: Road| {
-            called([bounded(order) + 1], |[out]| call(&orders, &entries, &steps, n, &c, order, out)).map(|[out]| out)
+            let onto = |out: &mut [i64]| call(&orders, &entries, &steps, n, &c, order, out);
+            // Above 20 no length is due of the output, and any is refused alike.
+            if order > 20 {
+                let refusals = [0, 1, 22].map(|length| onto(&mut vec![0; length]));
+                return Err(if refusals[0] != 0 && refusals == [refusals[0]; 3] { refusals[0] } else { TAKEN });
+            }
+            called([bounded(order) + 1], |[out]| onto(out)).map(|[out]| out)
         };
         let (first, second) = (road(ffi::build_then_carry), road(ffi::carry_then_build));
         if first.is_ok() && second != first && second != Err(9) {

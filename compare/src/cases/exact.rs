@@ -408,9 +408,6 @@ impl Recipe {
         (1..=4).contains(&inputs) && (1..=12).contains(&steps) && self.steps.chunks(3).enumerate().all(names)
     }
 
-    /// At most four jets and twelve steps, of known operations.
-    fn fits(&self) -> bool { self.jets.len() <= 4 && self.steps.len() <= 36 && self.steps.chunks(3).all(|step| step[0] < 4) }
-
     /// The smallest order of the inputs.
     fn order(&self) -> usize { self.jets.iter().map(|jet| jet.order).min().unwrap_or(0) }
 
@@ -486,21 +483,25 @@ fn roads() -> Operation {
             let mut reader = Reader::new(items);
             let (refusal, recipe) = Recipe::read(&mut reader, true);
             let (c_order, c, order) = (reader.whole(), reader.signed(), reader.whole());
-            // The lists are tested first, and 4 for what a recipe cannot hold; an order that exceeds a jet's is met by the carry.
+            // The lists are tested first; an order asked is met by the carry, and 4 by the recipe.
             let refusal = match refusal {
                 1 => 1,
-                _ if c_order > 20 || order > 20 => 1,
+                _ if c_order > 20 => 1,
                 2 => 2,
                 _ if c.len() != 2 * c_order + 2 => 2,
-                _ if !recipe.fits() => 4,
                 _ => 0,
             };
-            let along = |a: &Exact| if a.order.min(c_order) < order { Err(2) } else { carried(a, &c, order) };
+            let along = |a: &Exact| match order {
+                21.. => Err(1),
+                _ if a.order.min(c_order) < order => Err(2),
+                _ => carried(a, &c, order),
+            };
             let run = |road: &dyn Fn() -> Result<Exact, u8>| outcome(if refusal == 0 { road() } else { Err(refusal) });
             let first = run(&|| along(&recipe.build()?));
             let second = run(&|| {
-                let jets = recipe.jets.iter().map(along).collect::<Result<_, u8>>()?;
-                Recipe { jets, steps: recipe.steps.clone() }.build()
+                // A fifth jet has no place in a recipe, and is not carried.
+                let jets = recipe.jets.iter().take(4).map(along).collect::<Result<_, u8>>()?;
+                if recipe.counted() { Recipe { jets, steps: recipe.steps.clone() }.build() } else { Err(4) }
             });
             Answer { refusal: 0, items: [first, second].concat() }
         }),
