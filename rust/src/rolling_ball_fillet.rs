@@ -124,7 +124,7 @@ pub struct RollingBallFilletSurface {
     pub normal1: Vector3,
 }
 
-/// How the ball's centre, its two contact points and their parameters move along the edge: the centre to order n, the others to order n + 1 with
+/// How the ball's centre, its two contact points and their parameters move along the edge: the centre to order n, 0 to 19, the others to order n + 1 with
 /// a last entry of zero.
 #[derive(Clone, Debug, PartialEq)]
 pub struct CenterContactDers {
@@ -184,6 +184,7 @@ impl RollingBallFilletSurface {
     /// The partial derivative m times by u and n times by v, at the share `u` of the arc; `s` and `c` are the sine and cosine of angle · u.
     ///
     /// Served are (m, 0) with m up to 20, (0, 1), (1, 1) and (0, 2). `angle` is that at the place for the last three; (m, 0) takes the circle's.
+    /// (0, 1) and (1, 1) need jets of order 2, (0, 2) of order 3, and longer ones are cut. (m, 0) needs none and cuts none: every float of them is to be finite.
     #[allow(clippy::too_many_arguments)]
     pub fn sub_der_mn(&self, m: usize, n: usize, u: f64, circle: &ContactCircle, angle: f64, s: f64, c: f64) -> Result<Vector3, Refusal> {
         vector(|out| {
