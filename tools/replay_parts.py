@@ -4,8 +4,11 @@
 Run in the repository's root:  python3 tools/replay_parts.py
 
 It writes crates/replay_parts/stdin and crates/replay_parts/stdout. Nothing here is taken from the library: part_lists.py finds the part lists and
-counts them. Byte 255 ends each input. Each text stands twice: once for the input whole, once for the input byte by byte.
+counts them. Byte 255 ends each input. Each text stands twice: once for the input whole, once for the input byte by byte. Then a line says after how
+many bytes the answer is settled: what was read then begins no input of two numbers.
 """
+import re
+
 from part_lists import multiplicity, part_lists, stirling
 
 
@@ -16,6 +19,15 @@ def text(order, len_):
 
 def refused(c):
     return b"refused %d\n" % c
+
+
+# what an input of two numbers can begin with: of separators, a number, separators, a number, separators, any of the later may still be missing
+BEGINNING = re.compile(rb"[ \r\n]*([0-9]+([ \r\n]+([0-9]+[ \r\n]*)?)?)?")
+
+
+def settled(given):
+    longest = BEGINNING.match(given).end()
+    return b"settled after %d\n" % (longest + 1) if longest < len(given) else b"open\n"
 
 
 CASES = [(b"4 2", b"4 3 1\n3 2 2\ntotal 7\n")]
@@ -44,7 +56,11 @@ for bad in [
 ]:
     CASES.append((bad, refused(2)))
 
+# how endless inputs begin: numbers or words settle the answer soon, separators or digits never do
+for endless, answer in [(b"4\n" * 100, refused(2)), (b"y\n" * 100, refused(2)), (b"\n" * 100, refused(2)), (b"4" * 100, refused(2)), (b"4 2" + b"\n" * 100, text(4, 2))]:
+    CASES.append((endless, answer))
+
 with open("crates/replay_parts/stdin", "wb") as f:
     f.write(b"".join(given + b"\xff" for given, _ in CASES))
 with open("crates/replay_parts/stdout", "wb") as f:
-    f.write(b"".join(answer + answer for _, answer in CASES))
+    f.write(b"".join(answer + answer + settled(given) for given, answer in CASES))

@@ -1,4 +1,7 @@
 // Reads an order and a len from standard input, and writes their part lists, each after its multiplicity, and the total of the multiplicities.
+ghost use mathlib.Core.Path.{_≡_};
+ghost use mathlib.Core.Bool.{false};
+ghost use Rattle.parts_text.specs.Reading.{settled};
 use libc::STDIN_FILENO;
 use libc::STDOUT_FILENO;
 use parts_text::Reading;
@@ -9,8 +12,10 @@ struct Fed {
     more: bool,
 }
 
-// An input that cannot be read is no pair of numbers, whatever came before.
-fn feed_some(state: Reading) -> Fed {
+// One read, made only while the answer is open. An input that cannot be read is no pair of numbers, whatever came before.
+fn feed_some(state: Reading) -> Fed
+    requires { ⌜ settled state ≡ false ⌝ }
+{
     let mut buffer = [0u8; 4096];
     let got = libc::read(STDIN_FILENO, &mut buffer);
     if got < 0 {
@@ -33,11 +38,15 @@ fn feed_some(state: Reading) -> Fed {
     }
 }
 
-// A proved loop has to end, and nothing says that an input does. So the loop counts its turns down, from a number that no run uses up.
+// The input is read to its end, or until the answer is settled. A proved loop has to end, and nothing says that an input does or comes to be settled. So
+// the loop counts its turns down, from a number that no run uses up.
 fn feed_all() -> Reading {
     let mut state = parts_text::start();
     let mut turns = u64::MAX;
     while turns > 0 {
+        if parts_text::is_settled(state) {
+            return state;
+        }
         let fed = feed_some(state);
         state = fed.state;
         if !fed.more {

@@ -17,7 +17,7 @@ use Rattle.parts_text.proofs.Fed.{fed-append}
 use Rattle.parts_text.proofs.Puts.{decimal-one, decimal-more}
 
 -- ---- numbers above 20 behave alike
-either : {C : Type 0} (a b : ℕ) → (a ≤ b → C) → (b < a → C) → C
+pub either : {C : Type 0} (a b : ℕ) → (a ≤ b → C) → (b < a → C) → C
 either a b f g = elim (decLe a b) [ yes h ↦ f h | no h ↦ g (omega arith) ]
 
 order-above : (a b : ℕ) → 20 < a → answer a b ≡ refusedLine 1

@@ -1,5 +1,6 @@
--- what is printed is what the whole input says, in however many pieces it was fed; and inputs with what is printed for them
+-- what is printed is what the whole input says, in however many pieces it was fed; when it need not be read on; inputs with what is printed for them
 pub mod Laws
+pub mod Settled
 pub mod Examples
 -- what the functions need: the steps of a reading, texts that are written, their room, and the walk whose lines they are
 pub mod Fed

@@ -1,5 +1,6 @@
 -- The input read byte by byte, in bounded memory: numbers above 20 are kept as 21. That what a reading says at the end is what is printed for the
 -- whole input is proved (proofs/Laws.antt). Assumes nothing.
+use mathlib.Core.Bool.{Bool, true, false}
 use mathlib.Core.List.{List, [], _∷_}
 use Prim.Native.Nat.{ℕ, _+_, _*_, min}
 use Rattle.parts_text.specs.declared.input.Kind.{Kind}
@@ -46,3 +47,12 @@ finished (AfterOrder v) = refusedLine 2
 finished (InLen v w) = answer v w
 finished (AfterLen v w) = answer v w
 finished Malformed = refusedLine 2
+
+-- whether nothing that follows can change what is printed; that it is so of these readings, and of no other, is proved (proofs/Settled.antt)
+abbrev pub settled : Reading → Bool
+settled Before = false
+settled (InOrder v) = false
+settled (AfterOrder v) = false
+settled (InLen v w) = false
+settled (AfterLen v w) = false
+settled Malformed = true

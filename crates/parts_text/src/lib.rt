@@ -2,7 +2,7 @@
 ghost use mathlib.Core.Path.{_≡_};
 ghost use lib.ListN.{length};
 ghost use Rattle.parts_text.specs.Printed.{printed, written};
-ghost use Rattle.parts_text.specs.Reading.{fed, finished};
+ghost use Rattle.parts_text.specs.Reading.{fed, finished, settled};
 
 mod input;
 mod out;
@@ -36,6 +36,21 @@ pub fn feed(state: Reading, bytes: &[u8]) -> Reading
         i += 1;
     }
     s
+}
+
+// Whether the answer is settled: nothing that follows can change what is reported, so that the input need not be read on. It is so of a malformed input
+// alone: a number may get more digits, and after two numbers a third may come or not.
+pub fn is_settled(state: Reading) -> bool
+    ensures { λ r. ⌜ r ≡ settled state ⌝ }
+{
+    match state {
+        Reading::Before => false,
+        Reading::InOrder(_) => false,
+        Reading::AfterOrder(_) => false,
+        Reading::InLen(_, _) => false,
+        Reading::AfterLen(_, _) => false,
+        Reading::Malformed => true,
+    }
 }
 
 // The text of what was read stands at the front of `out`, and the answer is its length. The longest text has 2134 bytes.

@@ -21,5 +21,5 @@ write-inputs-spec =
     tie.close
     (tie.spec Inv-loop μ-loop
     (λ c. search needs) (λ c. search needs) (λ c. search needs) (λ c. search needs) (λ c. search needs) (λ c κs. search needs) (λ c. search needs)
-    (λ c. search needs) (λ c. search needs) (λ c κs. search needs) (λ c. search needs) (λ c. search needs) (λ c. search needs) loop-again
-    (λ c. search needs))
+    (λ c. search needs) (λ c. search needs) (λ c κs. search needs) (λ c. search needs) (λ c. search needs) (λ c. search needs) (λ c κs. search needs)
+    (λ c. search needs) (λ c. search needs) (λ c. search needs) loop-again (λ c. search needs))
