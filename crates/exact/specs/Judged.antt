@@ -1,5 +1,5 @@
--- An answer by histories: the verdict on all that was formed and divided, in the order of work, and the integers' own values where it is 0.
--- Assumes nothing.
+-- An answer by histories: the verdict on all that was formed and divided, in the order of work, and the integers' own values where it is 0. Entries of a
+-- quotient repeat what the entries before them took; that has stood in the list before, and changes no verdict. Assumes nothing.
 use mathlib.Core.List.{List, [], _∷_, _++_}
 use Prim.Native.Nat.{ℕ, zero, suc}
 use lib.IntN.{ℤ}

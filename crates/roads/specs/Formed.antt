@@ -1,5 +1,6 @@
 -- The numbers that the second road forms, over the integers, which have no bound: each call's entries in the order of work, with what each took.
--- A jet that is handed on is given numbers: what they took is not counted again. Assumes nothing.
+-- The list has every number formed, and is no log of the work: an entry of a quotient lists what an entry before it took again at each use, and a
+-- coefficient stands at each use. A jet that is handed on is given numbers: what they took is not counted again. Assumes nothing.
 use mathlib.Core.List.{List, [], _∷_, _++_}
 use Prim.Native.Nat.{ℕ, suc}
 use lib.IntN.{ℤ}
@@ -41,7 +42,7 @@ unfoldable pub stepsTake : ℕ → (ℕ → ℕ → ℤ) → ℕ → List Step �
 stepsTake n jet-of m [] = []
 stepsTake n jet-of m (s ∷ ss) = formedBy (stepWith s jet-of) n ++ stepsTake n (with jet-of m (λ i. stepWith s jet-of i .value)) (suc m) ss
 
--- all numbers that the second road forms, in the order of work
+-- all numbers that the second road forms, some of them more than once
 abbrev pub numbersFormed : SurfaceRecipe → ParameterCurve → ℕ → List ℤ
 numbersFormed r c n =
     let inputs = take (r .inputs) (r .surfaces) in

@@ -1,5 +1,6 @@
 -- Whole numbers with their history: arithmetic has no bound, and each operation records the number that it forms, and each division its
--- two numbers before. The verdict on a history is the refusal of the first event that is refused, and 0 where none is. Assumes nothing.
+-- two numbers before. The verdict on a history is the refusal of the first event that is refused, and 0 where none is. A history is all that a number
+-- rests on, and no log of the work: a number that is used twice brings its history twice, and a coefficient is recorded at each use. Assumes nothing.
 use mathlib.Core.Bool.{Bool, true, false, cond}
 use mathlib.Core.List.{List, [], _∷_, _++_}
 use Prim.Native.Nat.{ℕ, zero, suc}
@@ -67,7 +68,7 @@ tracedOver = then quotZ (λ x y. divides x y ∷ (forms (quotZ x y) ∷ []))
 abbrev pub tracedOfNat : ℕ → Traced
 tracedOfNat n = record { value = pos n; history = forms (pos n) ∷ [] }
 
--- the numbers that a history forms, in their order
+-- the numbers that a history forms, in its order, each as often as it stands there
 unfoldable pub numbers : List Event → List ℤ
 numbers [] = []
 numbers (forms z ∷ es) = z ∷ numbers es

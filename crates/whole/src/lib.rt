@@ -118,7 +118,7 @@ pub fn div(a: i64, b: i64) -> Whole
     }
 }
 
-// On numbers that may be refused already: the first refusal is passed on.
+// On numbers that may be refused already: the first refusal is passed on, whatever its number is.
 pub fn plus(x: Whole, y: Whole) -> Whole
     ensures { λ r. ⌜ r ≡ plus x y ⌝ }
 {
