@@ -1,4 +1,4 @@
--- `orders::far_at` meets its contract. Assumes nothing.
+-- `orders::above_20_at` meets its contract. Assumes nothing.
 use mathlib.Core.Bool.{Bool, _||_}
 use lib.Dec.{ltb}
 use mathlib.Core.Path.{ap, _∙_}

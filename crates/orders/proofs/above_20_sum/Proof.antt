@@ -1,4 +1,4 @@
--- `orders::far_sum` meets its contract. Assumes nothing.
+-- `orders::above_20_sum` meets its contract. Assumes nothing.
 use borrow.Author.Tests.{lt-ltb}
 use borrow.Author.Needs.{needs}
 use mathlib.Core.Path.{refl, sym}

@@ -1,4 +1,4 @@
--- `orders::far_sum_at` meets its contract. Assumes nothing.
+-- `orders::above_20_sum_at` meets its contract. Assumes nothing.
 use mathlib.Core.Bool.{_||_}
 use mathlib.Core.Path.{ap₂, _∙_}
 use borrow.Author.Needs.{needs}
