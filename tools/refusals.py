@@ -337,25 +337,67 @@ def recipes(name):
         def asked(c, alone):
             c.orders[1], c.lent = 3, [count('curve', 3)]
         faults += [order_fault(0, 1, 'c', 'curve', 2), order_fault(1, None, 'n'), count_fault(1, 'c'), Fault(2, 'asked', 'order n', asked)]
-    no_room = {'4 five inputs', '4 13 steps', '4 operation'}
 
     def skip(few):
-        """Without an input no entries are due. Whether the carries of a recipe that the lists have no room for come first is not said."""
-        places = {str(f) for f in few}
-        return '4 no input' in places and any(f.number == 2 and f.where != 'asked' for f in few) or (
-            name == 'carry_then_build' and places & {'9', '2 asked'} and places & no_room)
+        """Without an input no entries are due."""
+        return {'4 no input'} < {str(f) for f in few} and any(f.where.startswith('entries') for f in few)
 
     def met(few):
-        """A road is its calls in turn: the first works the recipe before it carries, the second carries the inputs before it works the recipe."""
-        numbers, places = {f.number for f in few}, {str(f) for f in few}
-        if '4 no input' not in places and name == 'carry_then_build' and 9 in numbers and numbers <= {4, 7, 8, 9}:
-            return 9
-        if '2 asked' in places and (name == 'build_then_carry' or '4 no input' in places) and numbers & {4, 7, 8, 9}:
-            return max(numbers)
-        return first_checked(few)
+        """What the lists need to be jets comes first. A road is then its calls in turn: the first works the recipe before it carries, the second carries
+        every input, if there is one, before it works the recipe. The list lent counts where its length is known: an order up to 20 is asked, or for a
+        recipe there is an input."""
+        places = {str(f) for f in few}
+        carries = [f for f in few if str(f) in ('1 n', '2 asked') or name == 'carry_then_build' and f.number == 9]
+        lists = [f for f in few if f.number <= 2 and f not in carries]
+        recipe = [f for f in few if f.number > 2 and f not in carries]
+        if '1 n' in places or not roads and '4 no input' in places:
+            lists = [f for f in lists if str(f) != '2 lent']
+        if '4 no input' in places:
+            carries = []
+        stages = [lists, carries, recipe] if name == 'carry_then_build' else [lists, recipe, carries]
+        return first_checked(next(stage for stage in stages if stage))
     matrix(call(2, whole_sample), faults, met=met, skip=skip)
     for order in (0, 1, 20):
         answered(call(order, lambda n: [1] + [0] * (n - 1)), 'order %d' % order)
+
+    def case(what, numbers, orders, entries, steps, n=2, lent=None, c=(0, 0, 3, 0, 0, 0)):
+        """numbers has what is met by a recipe alone, by the first road and by the second."""
+        least = count(kind, min(orders, default=0))
+        given = [n + 1 if roads else least] if lent is None else [lent]
+        lists = [[x for jet in entries for x in jet]] + ([list(c)] if roads else [])
+        number = numbers[['build_then_carry', 'carry_then_build'].index(name) + 1 if roads else 0]
+        write(Call(name, [len(c) // 2 - 1, n] if roads else [], lists, given, [orders, steps]), [what], number)
+    good, zero, low = whole_sample(count(kind, 2)), [0] * count(kind, 2), [1]
+    high = [1] + [0] * (count(kind, 2) - 2) + [WHOLE_LARGE]
+    product = [2, 0, 1]
+    # a fifth jet has no place in a recipe: its list is tested, and it is not carried
+    for what, numbers, fifth in [('4, the fifth too low', (4, 4, 4), (0, low)), ('4, the fifth large', (4, 4, 4), (2, high)),
+                                 ('1 the fifth', (1, 1, 1), (21, low))]:
+        case(what, numbers, [2] * 4 + [fifth[0]], [good] * 4 + [fifth[1]], product)
+    case('4, the fourth too low', (4, 4, 2), [2, 2, 2, 0, 2], [good] * 3 + [low, good], product)
+    # an operation that there is not is the recipe's to refuse, before a step is worked
+    for what, steps in [('4 largest operation', [2**64 - 1, 0, 1]), ('4 second operation, 7 before it', [3, 0, 1, 4, 0, 1]),
+                        ('4 operation of the last of 12', [0, 0, 1] * 11 + [4, 0, 1]), ('4 operation of the 13th', [0, 0, 1] * 12 + [4, 0, 1])]:
+        case(what, (4, 4, 4), [2, 2], [good, zero], steps)
+    if not roads:
+        for lent in (0, 1, 7):
+            case('4 no input, lent %d' % lent, (4, 4, 4), [], [], product, lent=lent)
+        return
+    one = [0, 0, 0]
+    case('13 steps + 2 asked, order 0', (0, 4, 2), [0], [[1]], one * 13, 1, c=[0, 0, 3, 0])
+    case('five inputs + 2 asked, order 0', (0, 4, 2), [0] * 5, [[1]] * 5, one, 1, c=[0, 0, 3, 0])
+    case('13 steps + 9 of the carry', (0, 4, 9), [1], [[0, 0, WHOLE_LARGE]], one * 13, 1, c=[0, 0, 3, 0])
+    case('no step + 1 n, order 0', (0, 4, 1), [0], [[1]], [], 21)
+    case('operation + 2 asked', (0, 4, 2), [2, 2], [good, good], [4, 0, 1], 3)
+    case('operation + 9 of the first carry', (0, 4, 9), [1, 1], [[0, 0, WHOLE_LARGE], [0, 0, 1]], [4, 0, 1], 1)
+    case('operation + 9 of the second carry', (0, 4, 9), [1, 1], [[0, 0, 1], [0, 0, WHOLE_LARGE]], [0, 0, 1, 4, 0, 1], 1)
+    # where an order above 20 is asked, no length is due of the list lent
+    for lent in (0, 1, 21, 22, 23):
+        case('1 n, lent %d' % lent, (0, 1, 1), [2, 2], [good, good], product, 21, lent)
+        case('1 n + 4 later, lent %d' % lent, (0, 4, 1), [2, 2], [good, good], [0, 5, 1], 21, lent)
+        case('1 n + 4 no input, lent %d' % lent, (0, 4, 4), [], [], product, 21, lent)
+    case('1 largest n', (0, 1, 1), [2, 2], [good, good], product, 2**64 - 1, 3)
+    case('1 largest n + 7', (0, 7, 1), [2, 2], [good, zero], [3, 0, 1], 2**64 - 1, 3)
 
 
 # Part lists: what is lent at the end is given, for a walk is lent as it stands.

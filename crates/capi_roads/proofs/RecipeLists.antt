@@ -1,20 +1,22 @@
 -- The loops of a recipe's lists. Assumes nothing.
-use mathlib.Core.Path.{_≡_, refl, ap, _∙_}
-use mathlib.Core.Bool.{Bool, true, false, cond}
+use mathlib.Core.Path.{_≡_, ap, _∙_}
+use mathlib.Core.Bool.{false, cond}
 use mathlib.Core.List.{List, [], _∷_}
-use Prim.Native.Nat.{ℕ, zero, suc, _+_, _-_, _*_, _≤_, _<_}
+use Prim.Native.Nat.{ℕ, zero, suc, _+_, _-_, _≤_, _<_, min}
 use native.Mathlib.Nat.{not-suc-le-zero, le-of-suc-le-suc}
 use native.Mathlib.Numerals.{add-one}
 use native.Mathlib.Omega.{arith}
 use lib.Dec.{ltb}
 use lib.ListN.{length, getD, take}
 use lib.Seq.{take-all}
-use borrow.Author.Tests.{lt-ltb, le-ltb, eq-eqb, ne-eqb, ltb-false}
+use borrow.Author.Tests.{le-ltb, eq-eqb, ne-eqb, ltb-false}
+use Rattle.calculus.specs.Array.{filled}
 use Rattle.calculus.specs.Orders.{someAbove20}
+use Rattle.calculus.proofs.LoopFilling.{CurveStored, stored-all}
 use Rattle.roads.proofs.Inputs.{then-true}
 use Rattle.given.specs.Given.{countGiven}
 use Rattle.capi_roads.specs.declared.recipe_steps.Jets.{Jets}
-use Rattle.capi_roads.specs.Recipes.{sizeOf, total, knownOperations}
+use Rattle.capi_roads.specs.Recipes.{sizeOf, total}
 
 -- ---- orders
 pub below-20 : (l : List ℕ) → someAbove20 l ≡ false → (i : ℕ) → i < length l → getD l i 0 ≤ 20
@@ -66,29 +68,18 @@ module _ (size : ℕ → ℕ) where
           let y : countGiven 0 (suc r) ≡ 2 = rw (ne-eqb (suc r) 0 (λ z. omega arith)) in
           y ∙ z
 
--- ---- the operation numbers, from the last step on
-known-suc : (l : List ℕ) (k : ℕ) → knownOperations l (suc k) ≡ cond (ltb 3 (getD l (3 * k) 0)) false (knownOperations l k)
-unfolding knownOperations
-known-suc l k = refl
-
-module _ (l : List ℕ) (i : ℕ) (p : 0 < i) where
-  known-at : knownOperations l i ≡ cond (ltb 3 (getD l (3 * (i - 1)) 0)) false (knownOperations l (i - 1))
-  known-at = let e : i ≡ suc (i - 1) = omega arith in ap (knownOperations l) e ∙ known-suc l (i - 1)
-
-  pub unknown-here : 3 < getD l (3 * (i - 1)) 0 → knownOperations l i ≡ false
-  unknown-here h = known-at ∙ ap (λ (t : Bool). cond t false (knownOperations l (i - 1))) (lt-ltb 3 (getD l (3 * (i - 1)) 0) h)
-
-  pub known-here : getD l (3 * (i - 1)) 0 ≤ 3 → knownOperations l i ≡ knownOperations l (i - 1)
-  known-here h = known-at ∙ ap (λ (t : Bool). cond t false (knownOperations l (i - 1))) (le-ltb 3 (getD l (3 * (i - 1)) 0) h)
-
-pub known-none : (l : List ℕ) (i : ℕ) → i ≤ 0 → true ≡ knownOperations l i
-unfolding knownOperations
-known-none l zero h = refl
-known-none l (suc i) h = absurd (not-suc-le-zero h)
-
 pub total-none : (size : ℕ → ℕ) (l : List ℕ) (count : ℕ) → count ≡ total size (take 0 l) + count
 unfolding total
 total-none size l count = omega arith
 
 pub within-entries : (size : ℕ → ℕ) (l : List ℕ) (i : ℕ) → i < length l → (at k m : ℕ) → at ≡ total size (take i l) → k ≡ size (getD l i 0) → m ≡ total size l → at + k ≤ m
 within-entries size l i h at k m e q t = omega (arith, total-more size l i h, total-le size l (i + 1))
+
+-- a jet among the first four is given
+pub among-four : (l : List ℕ) {count i : ℕ} → count ≡ min (length l) 4 → i < count → i < length l
+among-four l e h = omega (arith, e)
+
+-- an array of w places holds the first w of what is given
+pub first-filled : {X : Type 0} (w : ℕ) (blank : X) (g : ℕ → X) (n : ℕ) {r : List X} {m : ℕ} → CurveStored w blank blank (λ k v. v ≡ g k) m r → m ≡ min n w →
+    r ≡ filled w blank g n
+first-filled w blank g n s e = stored-all w blank blank (λ k v. v ≡ g k) g (λ k v q. q) n s (λ k l h. omega (arith, e)) (λ k l h. omega (arith, e))

@@ -1,9 +1,8 @@
--- Recipes as lists (document 01's term), and the two roads: the orders of the jets, all their lists one after the other, and three numbers a step. What is
--- given is tested for 1, 2 and 4; a count that no record can hold is refused 4 with them. Other refusals, by 4 too, are the recipe's or the road's own.
--- Assumes nothing.
-use mathlib.Core.Bool.{Bool, true, false, cond}
+-- Recipes as lists (document 01's term), and the two roads: the orders of the jets, all their lists one after the other, and three numbers a step. What the
+-- lists need to be jets is tested first, for 1 and 2; every other refusal is the recipe's or the road's own, where it comes to it. Assumes nothing.
+use mathlib.Core.Bool.{cond}
 use mathlib.Core.List.{List, [], _∷_}
-use Prim.Native.Nat.{ℕ, zero, suc, _+_, _*_, _/_, _%_}
+use Prim.Native.Nat.{ℕ, suc, _+_, _*_, _/_, _%_}
 use lib.Dec.{ltb, eqb}
 use lib.IntN.{ℤ}
 use lib.ListN.{length, getD, take, drop}
@@ -21,7 +20,7 @@ use Rattle.roads.specs.declared.SurfaceRecipe.{SurfaceRecipe}
 use Rattle.roads.specs.declared.CurveRecipe.{CurveRecipe}
 use Rattle.calculus.specs.Orders.{someAbove20, smallest}
 use Rattle.roads.specs.Roads.{builtSurface, builtCurve}
-use Rattle.given.specs.Given.{first, countGiven, listGiven, curveGiven, parameterGiven}
+use Rattle.given.specs.Given.{first, countGiven, listGiven, parameterGiven}
 use Rattle.given.specs.Lists.{deliver, admitted}
 use Rattle.capi_roads.specs.declared.recipe_steps.Jets.{Jets}
 use Rattle.capi_roads.specs.declared.recipe_steps.Jets.the-variants as jets
@@ -48,18 +47,21 @@ jetAt size read orders entries i = let n = getD orders i 0 in read n (take (size
 abbrev pub operationOf : ℕ → Operation
 operationOf n = cond (eqb n 0) Sum (cond (eqb n 1) Difference (cond (eqb n 2) Product Quotient))
 
-unfoldable pub stepAt : List ℕ → ℕ → Step
-stepAt l i = record { operation = operationOf (getD l (3 * i) 0); left = getD l (3 * i + 1) 0; right = getD l (3 * i + 2) 0 }
+-- an operation number above 3 is no operation. Such a step names 16, which no jet has, for 4 jets and 12 steps end at 15: the recipe refuses it, as any
+-- step that names a later number
+abbrev pub stepOf : ℕ → ℕ → ℕ → Step
+stepOf op left right =
+    cond (ltb 3 op) (record { operation = Sum; left = 16; right = 16 })
+    (record { operation = operationOf op; left = left; right = right })
 
--- the operation numbers of the first k steps are at most 3
-unfoldable pub knownOperations : List ℕ → ℕ → Bool
-knownOperations l zero = true
-knownOperations l (suc k) = cond (ltb 3 (getD l (3 * k) 0)) false (knownOperations l k)
+unfoldable pub stepAt : List ℕ → ℕ → Step
+stepAt l i = stepOf (getD l (3 * i) 0) (getD l (3 * i + 1) 0) (getD l (3 * i + 2) 0)
 
 abbrev pub blankStep : Step
 blankStep = record { operation = Sum; left = 0; right = 0 }
 
--- ---- the record, with zero jets of order 0 and sums of the first jet past what is given
+-- ---- the record: the counts as they are given, the first four jets and the first twelve steps; past what is given, zero jets of order 0 and sums of the
+-- first jet. So a count above 4 or 12 is the recipe's to refuse
 unfoldable pub blankCurve : CurveDerivatives
 blankCurve = curves .none
 
@@ -95,17 +97,15 @@ stepsGiven steps = countGiven 0 (length steps % 3)
 abbrev pub resultGiven : (ℕ → ℕ) → List ℕ → ℕ → ℕ
 resultGiven size orders o = cond (eqb (length orders) 0) 0 (listGiven size (smallest orders) o)
 
--- more than 4 jets, more than 12 steps, or an operation number above 3
-abbrev pub limitsGiven : ℕ → List ℕ → ℕ
-limitsGiven inputs steps = cond (ltb 4 inputs) 4 (cond (ltb 12 (length steps / 3)) 4 (cond (knownOperations steps (length steps / 3)) 0 4))
+-- the list lent for a curve of the order n asked: above 20 none is due, and the road refuses the order where it comes to its carry
+abbrev pub lentGiven : ℕ → ℕ → ℕ
+lentGiven n o = cond (ltb 20 n) 0 (countGiven (suc n) o)
 
 unfoldable pub recipeGiven : (ℕ → ℕ) → List ℕ → ℕ → List ℕ → ℕ → ℕ
-recipeGiven size orders l steps o =
-    first (listsGiven size orders l) (first (stepsGiven steps) (first (resultGiven size orders o) (limitsGiven (length orders) steps)))
+recipeGiven size orders l steps o = first (listsGiven size orders l) (first (stepsGiven steps) (resultGiven size orders o))
 
 unfoldable pub roadGiven : List ℕ → ℕ → List ℕ → ℕ → ℕ → ℕ → ℕ → ℕ
-roadGiven orders l steps m c n o =
-    first (listsGiven surfaceSize orders l) (first (stepsGiven steps) (first (parameterGiven m c) (first (curveGiven n o) (limitsGiven (length orders) steps))))
+roadGiven orders l steps m c n o = first (listsGiven surfaceSize orders l) (first (stepsGiven steps) (first (parameterGiven m c) (lentGiven n o)))
 
 -- ---- a recipe's answer, and a road's
 unfoldable pub surfaceRecipeInto : List ℕ → List ℤ → List ℕ → List ℤ → ℕ × List ℤ

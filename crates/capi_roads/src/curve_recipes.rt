@@ -2,7 +2,7 @@
 ghost use mathlib.Core.Path.{_≡_};
 ghost use mathlib.Core.Bool.{false};
 ghost use mathlib.Core.List.{List};
-ghost use Prim.Native.Nat.{ℕ, suc, _/_, _≤_};
+ghost use Prim.Native.Nat.{ℕ, suc};
 ghost use lib.IntN.{ℤ};
 ghost use lib.ListN.{length};
 ghost use Rattle.calculus.specs.Array.{filled};
@@ -16,16 +16,18 @@ use exact::CurveDerivatives;
 use exact_lists::deliver;
 use roads::CurveRecipe;
 
+// The first four curves, or all where there are fewer.
 fn read_curves(orders: &[usize], entries: &[i64]) -> [CurveDerivatives; 4]
-    requires { ⌜ (length (now orders) ≤ 4) × (someAbove20 (now orders) ≡ false) × (length (now entries) ≡ total suc (now orders)) ⌝ }
+    requires { ⌜ (someAbove20 (now orders) ≡ false) × (length (now entries) ≡ total suc (now orders)) ⌝ }
     ensures { λ r. ⌜ r ≡ filled 4 blankCurve (jetAt suc (jetOfList curves) (now (orders .entry)) (now (entries .entry))) (length (now (orders .entry))) ⌝ }
 {
     let none = exact::refused_curve(0);
     let blank = none.jet;
     let mut jets = [blank; 4];
+    let count = calculus::smaller(orders.len(), 4);
     let mut at = 0;
     let mut i = 0;
-    while i < orders.len() {
+    while i < count {
         let n = orders[i];
         let k = n + 1;
         let end = at + k;
@@ -39,16 +41,15 @@ fn read_curves(orders: &[usize], entries: &[i64]) -> [CurveDerivatives; 4]
 }
 
 fn read_recipe(orders: &[usize], entries: &[i64], steps: &[usize]) -> CurveRecipe
-    requires { ⌜ (length (now orders) ≤ 4) × (someAbove20 (now orders) ≡ false) × (length (now entries) ≡ total suc (now orders)) × (length (now steps) / 3 ≤ 12) ⌝ }
+    requires { ⌜ (someAbove20 (now orders) ≡ false) × (length (now entries) ≡ total suc (now orders)) ⌝ }
     ensures { λ r. ⌜ r ≡ curveRecipe (now (orders .entry)) (now (entries .entry)) (now (steps .entry)) ⌝ }
 {
     let curves = read_curves(orders, entries);
-    let count = steps.len() / 3;
-    let program = recipe_steps::read_steps(steps, count);
+    let program = recipe_steps::read_steps(steps);
     CurveRecipe {
         inputs: orders.len(),
         curves,
-        steps: count,
+        steps: steps.len() / 3,
         program,
     }
 }

@@ -1,13 +1,13 @@
 // The tests and the steps of a recipe, as recipes of surfaces and of curves share them. Each `requires` is met by the callers' tests.
 ghost use mathlib.Core.Path.{_≡_};
 ghost use mathlib.Core.Bool.{false, cond};
-ghost use Prim.Native.Nat.{_*_, _≤_};
+ghost use Prim.Native.Nat.{_/_};
 ghost use lib.Dec.{ltb};
 ghost use lib.ListN.{length};
 ghost use Rattle.calculus.specs.Array.{filled};
 ghost use Rattle.calculus.specs.Orders.{someAbove20};
 ghost use Rattle.given.specs.Given.{countGiven};
-ghost use Rattle.capi_roads.specs.Recipes.{sizeOf, total, operationOf, stepAt, knownOperations, blankStep, listsGiven, stepsGiven, resultGiven, limitsGiven, recipeGiven};
+ghost use Rattle.capi_roads.specs.Recipes.{sizeOf, total, operationOf, stepOf, stepAt, blankStep, listsGiven, stepsGiven, resultGiven, recipeGiven};
 use roads::Operation;
 use roads::Step;
 
@@ -64,34 +64,6 @@ pub fn given_steps(steps: &[usize]) -> u8
     given::count(0, steps.len() % 3)
 }
 
-fn known_operations(steps: &[usize], count: usize) -> bool
-    requires { ⌜ 3 * count ≤ length (now steps) ⌝ }
-    ensures { λ r. ⌜ r ≡ knownOperations (now (steps .entry)) count ⌝ }
-{
-    let mut i = count;
-    while 0 < i {
-        i -= 1;
-        let k = 3 * i;
-        if 3 < steps[k] {
-            return false;
-        }
-    }
-    true
-}
-
-pub fn given_limits(inputs: usize, steps: &[usize]) -> u8
-    ensures { λ r. ⌜ r ≡ limitsGiven inputs (now (steps .entry)) ⌝ }
-{
-    if 4 < inputs {
-        return 4;
-    }
-    let count = steps.len() / 3;
-    if 12 < count {
-        return 4;
-    }
-    if known_operations(steps, count) { 0 } else { 4 }
-}
-
 fn given_result(jets: Jets, orders: &[usize], count: usize) -> u8
     ensures { λ r. ⌜ r ≡ resultGiven (sizeOf jets) (now (orders .entry)) count ⌝ }
 {
@@ -112,8 +84,7 @@ pub fn given_recipe(jets: Jets, orders: &[usize], l: usize, steps: &[usize], out
     let p = given_lists(jets, orders, l);
     let q = given_steps(steps);
     let o = given_result(jets, orders, out);
-    let f = given_limits(orders.len(), steps);
-    given::first(p, given::first(q, given::first(o, f)))
+    given::first(p, given::first(q, o))
 }
 
 fn operation_of(n: usize) -> Operation
@@ -131,9 +102,28 @@ fn operation_of(n: usize) -> Operation
     Operation::Quotient
 }
 
-pub fn read_steps(steps: &[usize], count: usize) -> [Step; 12]
-    requires { ⌜ (count ≤ 12) × (3 * count ≤ length (now steps)) ⌝ }
-    ensures { λ r. ⌜ r ≡ filled 12 blankStep (stepAt (now (steps .entry))) count ⌝ }
+// A number above 3 is no operation: such a step names the number 16, which no jet has.
+fn step_of(operation: usize, left: usize, right: usize) -> Step
+    ensures { λ r. ⌜ r ≡ stepOf operation left right ⌝ }
+{
+    if 3 < operation {
+        return Step {
+            operation: Operation::Sum,
+            left: 16,
+            right: 16,
+        };
+    }
+    let operation = operation_of(operation);
+    Step {
+        operation,
+        left,
+        right,
+    }
+}
+
+// The first twelve steps, or all where there are fewer.
+pub fn read_steps(steps: &[usize]) -> [Step; 12]
+    ensures { λ r. ⌜ r ≡ filled 12 blankStep (stepAt (now (steps .entry))) (length (now (steps .entry)) / 3) ⌝ }
 {
     let blank = Step {
         operation: Operation::Sum,
@@ -141,19 +131,16 @@ pub fn read_steps(steps: &[usize], count: usize) -> [Step; 12]
         right: 0,
     };
     let mut program = [blank; 12];
+    let count = calculus::smaller(steps.len() / 3, 12);
     let mut i = 0;
     while i < count {
         let k = 3 * i;
         let l = k + 1;
         let m = k + 2;
-        let operation = operation_of(steps[k]);
+        let operation = steps[k];
         let left = steps[l];
         let right = steps[m];
-        program[i] = Step {
-            operation,
-            left,
-            right,
-        };
+        program[i] = step_of(operation, left, right);
         i += 1;
     }
     program

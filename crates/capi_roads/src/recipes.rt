@@ -3,7 +3,7 @@
 ghost use mathlib.Core.Path.{_≡_};
 ghost use mathlib.Core.Bool.{false};
 ghost use mathlib.Core.List.{List};
-ghost use Prim.Native.Nat.{ℕ, _/_, _≤_};
+ghost use Prim.Native.Nat.{ℕ};
 ghost use lib.IntN.{ℤ};
 ghost use lib.ListN.{length};
 ghost use Rattle.calculus.specs.Array.{filled};
@@ -11,7 +11,7 @@ ghost use Rattle.calculus.specs.Orders.{someAbove20};
 ghost use Rattle.calculus.specs.JetKind.{jetOfList};
 ghost use Rattle.exact.specs.Answer.{surfaces};
 ghost use Rattle.roads.specs.Roads.{buildThenCarry, carryThenBuild};
-ghost use Rattle.capi_roads.specs.Recipes.{surfaceSize, total, jetAt, blankSurface, surfaceRecipe, roadGiven, surfaceRecipeInto, roadInto};
+ghost use Rattle.capi_roads.specs.Recipes.{surfaceSize, total, jetAt, blankSurface, surfaceRecipe, lentGiven, roadGiven, surfaceRecipeInto, roadInto};
 use crate::recipe_steps;
 use crate::recipe_steps::Jets;
 use exact::ParameterCurve;
@@ -19,8 +19,18 @@ use exact::SurfaceDerivatives;
 use exact_lists::deliver;
 use roads::SurfaceRecipe;
 
-// The test of a recipe, of a curve of the order m with c numbers, of an order n asked, and of the list for a curve of it. Whether the jets have the
-// order n the road itself finds, where it comes to the carry.
+// The list lent for a curve of the order n asked. Above 20 there is none, and the road itself refuses the order.
+fn given_lent(n: usize, out: usize) -> u8
+    ensures { λ r. ⌜ r ≡ lentGiven n out ⌝ }
+{
+    if 20 < n {
+        return 0;
+    }
+    given::count(n + 1, out)
+}
+
+// The test of the lists of the surfaces, of the steps and of a curve of the order m with c numbers, and of the one lent. Whether there is a recipe, and
+// whether the jets have the order n, the road itself finds, where it comes to it.
 fn given_road(
     orders: &[usize],
     l: usize,
@@ -35,21 +45,22 @@ fn given_road(
     let p = recipe_steps::given_lists(Jets::Surfaces, orders, l);
     let q = recipe_steps::given_steps(steps);
     let g = given::parameter(m, c);
-    let o = given::curve(n, out);
-    let f = recipe_steps::given_limits(orders.len(), steps);
-    given::first(p, given::first(q, given::first(g, given::first(o, f))))
+    let o = given_lent(n, out);
+    given::first(p, given::first(q, given::first(g, o)))
 }
 
+// The first four surfaces, or all where there are fewer.
 fn read_surfaces(orders: &[usize], entries: &[i64]) -> [SurfaceDerivatives; 4]
-    requires { ⌜ (length (now orders) ≤ 4) × (someAbove20 (now orders) ≡ false) × (length (now entries) ≡ total surfaceSize (now orders)) ⌝ }
+    requires { ⌜ (someAbove20 (now orders) ≡ false) × (length (now entries) ≡ total surfaceSize (now orders)) ⌝ }
     ensures { λ r. ⌜ r ≡ filled 4 blankSurface (jetAt surfaceSize (jetOfList surfaces) (now (orders .entry)) (now (entries .entry))) (length (now (orders .entry))) ⌝ }
 {
     let none = exact::refused_surface(0);
     let blank = none.jet;
     let mut jets = [blank; 4];
+    let count = calculus::smaller(orders.len(), 4);
     let mut at = 0;
     let mut i = 0;
-    while i < orders.len() {
+    while i < count {
         let n = orders[i];
         let k = calculus::surface_count(n);
         let end = at + k;
@@ -63,16 +74,15 @@ fn read_surfaces(orders: &[usize], entries: &[i64]) -> [SurfaceDerivatives; 4]
 }
 
 fn read_recipe(orders: &[usize], entries: &[i64], steps: &[usize]) -> SurfaceRecipe
-    requires { ⌜ (length (now orders) ≤ 4) × (someAbove20 (now orders) ≡ false) × (length (now entries) ≡ total surfaceSize (now orders)) × (length (now steps) / 3 ≤ 12) ⌝ }
+    requires { ⌜ (someAbove20 (now orders) ≡ false) × (length (now entries) ≡ total surfaceSize (now orders)) ⌝ }
     ensures { λ r. ⌜ r ≡ surfaceRecipe (now (orders .entry)) (now (entries .entry)) (now (steps .entry)) ⌝ }
 {
     let surfaces = read_surfaces(orders, entries);
-    let count = steps.len() / 3;
-    let program = recipe_steps::read_steps(steps, count);
+    let program = recipe_steps::read_steps(steps);
     SurfaceRecipe {
         inputs: orders.len(),
         surfaces,
-        steps: count,
+        steps: steps.len() / 3,
         program,
     }
 }

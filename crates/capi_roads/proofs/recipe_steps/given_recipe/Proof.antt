@@ -13,21 +13,15 @@ given-steps-requires c κs = search needs
 given-result-requires : tie.Need-given-result-requires
 given-result-requires c κs = search needs
 
-given-limits-requires : tie.Need-given-limits-requires
-given-limits-requires c κs = search needs
-
 first-requires : tie.Need-first-requires
 first-requires c κs = search needs
 
 first-requires-2 : tie.Need-first-requires-2
 first-requires-2 c κs = search needs
 
-first-requires-3 : tie.Need-first-requires-3
-first-requires-3 c κs = search needs
-
 returns : tie.Need-returns
 unfolding recipeGiven
 returns c = cc
 
 pub given-recipe-spec : {M : Type 1} → statement M
-given-recipe-spec = tie.close (tie.spec given-lists-requires given-steps-requires given-result-requires given-limits-requires first-requires first-requires-2 first-requires-3 returns)
+given-recipe-spec = tie.close (tie.spec given-lists-requires given-steps-requires given-result-requires first-requires first-requires-2 returns)

@@ -13,11 +13,8 @@ given-steps-requires c κs = search needs
 parameter-requires : tie.Need-parameter-requires
 parameter-requires c κs = search needs
 
-curve-requires : tie.Need-curve-requires
-curve-requires c κs = search needs
-
-given-limits-requires : tie.Need-given-limits-requires
-given-limits-requires c κs = search needs
+given-lent-requires : tie.Need-given-lent-requires
+given-lent-requires c κs = search needs
 
 first-requires : tie.Need-first-requires
 first-requires c κs = search needs
@@ -28,12 +25,9 @@ first-requires-2 c κs = search needs
 first-requires-3 : tie.Need-first-requires-3
 first-requires-3 c κs = search needs
 
-first-requires-4 : tie.Need-first-requires-4
-first-requires-4 c κs = search needs
-
 returns : tie.Need-returns
 unfolding roadGiven
 returns c = cc
 
 pub given-road-spec : {M : Type 1} → statement M
-given-road-spec = tie.close (tie.spec given-lists-requires given-steps-requires parameter-requires curve-requires given-limits-requires first-requires first-requires-2 first-requires-3 first-requires-4 returns)
+given-road-spec = tie.close (tie.spec given-lists-requires given-steps-requires parameter-requires given-lent-requires first-requires first-requires-2 first-requires-3 returns)
