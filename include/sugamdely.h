@@ -12,7 +12,7 @@
      2   an order asked or needed exceeds a jet's; a list, or an output, of the wrong length; the derivative of a jet of order 0
      3   part lists: len 0 or above the order; a list whose parts are not positive and nonincreasing; a walk that holds no list of its walk
      4   a recipe with no jet or more than 4, with no step or more than 12, with an operation above 3, or with a step that names itself or a
-         later number
+         later number; on a road, where it comes to its recipe
      5   a float handed in is not finite, used or not; entries above the order worked at do not count
      6   a determinant is zero
      7   a division by zero is due
@@ -21,7 +21,8 @@
      10  a float that would be returned is not finite
      11  a pair of orders that is not served
 
-   They are tested as 1, 2, 3, 4, 11, 5; then 6 to 9 at the first operation that meets one; 10 last. On a refusal no output is changed.
+   They are tested as 1, 2, 3, 4, 11, 5; then 6 to 9 at the first operation that meets one; 10 last. A road (sugamdely_build_then_carry,
+   sugamdely_carry_then_build) refuses as its calls do, in their order. On a refusal no output is changed.
    1 and 2 are possible wherever an order or a list is given; the comments below name the others.
 
    LISTS. A list is a pointer, then how many numbers stand there; it is not read or written past them. The outputs come last. An output
@@ -117,9 +118,13 @@ uint8_t sugamdely_exact_composite_derivatives(size_t a_order, const int64_t *a, 
 
 uint8_t sugamdely_recipe_surfaces(const size_t *orders, size_t orders_len, const int64_t *entries, size_t entries_len, const size_t *steps, size_t steps_len, int64_t *out, size_t out_len);
 uint8_t sugamdely_recipe_curves(const size_t *orders, size_t orders_len, const int64_t *entries, size_t entries_len, const size_t *steps, size_t steps_len, int64_t *out, size_t out_len);
-/* The recipe of surfaces is built and then carried along the parameter curve c to order n; or every surface is carried, and the recipe is
-   built of the curves. n must not exceed any order. Out of n + 1. Where the first is answered, the second has the same answer or is
-   refused 9. */
+/* The two roads. The recipe of surfaces is built and then carried along the parameter curve c to order n; or every surface is carried, and
+   the recipe is built of the curves. n must not exceed any order. Out of n + 1. Where the first is answered, the second has the same answer
+   or is refused 9.
+   First it is tested whether the lists are jets (1 of each jet's order, 2 of each length). Then a road refuses as its calls do, in their
+   order: the first tests the recipe (4) and works its steps before it carries; the second carries each surface, of more than 4 the first 4,
+   before it tests the recipe. So n above 20 (1), or above a jet's order (2), is met where the road comes to its carry; with n above 20 no
+   length is due of out. */
 uint8_t sugamdely_build_then_carry(const size_t *orders, size_t orders_len, const int64_t *entries, size_t entries_len, const size_t *steps, size_t steps_len, size_t c_order, const int64_t *c, size_t c_len, size_t n, int64_t *out, size_t out_len);
 uint8_t sugamdely_carry_then_build(const size_t *orders, size_t orders_len, const int64_t *entries, size_t entries_len, const size_t *steps, size_t steps_len, size_t c_order, const int64_t *c, size_t c_len, size_t n, int64_t *out, size_t out_len);
 

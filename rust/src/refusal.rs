@@ -2,7 +2,8 @@ use std::fmt;
 
 /// Why a call has no answer.
 ///
-/// They are tested in the order 1, 2, 3, 4, 11, 5; then 6 to 9 at the first operation that meets one; 10 last.
+/// They are tested in the order 1, 2, 3, 4, 11, 5; then 6 to 9 at the first operation that meets one; 10 last. A road ([`crate::roads`]) refuses
+/// as its calls do, in their order.
 ///
 /// ```
 /// use sugamdely::{whole, Refusal};

@@ -2,6 +2,10 @@
 //!
 //! It is proved that both ways give the same jet: where [`SurfaceRecipe::build_then_carry`] is answered, [`SurfaceRecipe::carry_then_build`] has
 //! the same answer, or forms a number outside 64 bits and is refused [`Refusal::OutOfRange`].
+//!
+//! A road is the sequence of its calls, and the first refusal ends it: the first road tests the recipe ([`Refusal::NoRecipe`]) and works its steps
+//! before it carries, the second carries the surfaces before it tests the recipe. An order above 20, or above that of a jet, is met where the road
+//! comes to its carry.
 
 use crate::derivatives::Jet;
 use crate::exact::{CurveDerivatives, ParameterCurve, SurfaceDerivatives};
@@ -31,6 +35,7 @@ pub struct Step {
 /// ```
 /// use sugamdely::exact::{ParameterCurve, SurfaceDerivatives};
 /// use sugamdely::roads::{Operation, Step, SurfaceRecipe};
+/// use sugamdely::Refusal;
 ///
 /// let surface = SurfaceDerivatives::new(2, &[5, 3, 6, 2, 4, 1])?;
 /// let curve = ParameterCurve::new(&[[0, 0], [1, 2], [2, 1]])?;
@@ -39,7 +44,12 @@ pub struct Step {
 /// let first = recipe.build_then_carry(&curve, 2)?;
 /// assert_eq!(first.entries(), [25, 80, 608]);
 /// assert_eq!(recipe.carry_then_build(&curve, 2)?, first);
-/// # Ok::<(), sugamdely::Refusal>(())
+///
+/// // the first road has no recipe to build, and the second no jet of order 21 to carry
+/// let empty = SurfaceRecipe { steps: vec![], ..recipe };
+/// assert_eq!(empty.build_then_carry(&curve, 21), Err(Refusal::NoRecipe));
+/// assert_eq!(empty.carry_then_build(&curve, 21), Err(Refusal::OrderAbove20));
+/// # Ok::<(), Refusal>(())
 /// ```
 #[derive(Clone, Debug, PartialEq)]
 pub struct SurfaceRecipe {
@@ -114,12 +124,13 @@ impl SurfaceRecipe {
     /// The result of the last step.
     pub fn build(&self) -> Result<SurfaceDerivatives, Refusal> { self.lists().build(ffi::recipe_surfaces) }
 
-    /// The first road: builds the surface, then carries it along the curve to an order.
+    /// The first road: builds the surface, then carries it along the curve to an order. What the recipe refuses comes before what the carry does.
     pub fn build_then_carry(&self, curve: &ParameterCurve, order: usize) -> Result<CurveDerivatives, Refusal> {
         self.lists().carry(ffi::build_then_carry, curve, order)
     }
 
-    /// The second road: carries every surface along the curve, used or not, then builds with the curves.
+    /// The second road: carries every surface along the curve, used or not, then builds with the curves. What a carry refuses comes before what the
+    /// recipe does; of more than 4 surfaces, which make no recipe, the first 4 are carried.
     pub fn carry_then_build(&self, curve: &ParameterCurve, order: usize) -> Result<CurveDerivatives, Refusal> {
         self.lists().carry(ffi::carry_then_build, curve, order)
     }

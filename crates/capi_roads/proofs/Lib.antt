@@ -1,3 +1,4 @@
 pub mod RecipeLists
 pub mod RecipeChecks
 pub mod RoadsMeet
+pub mod Methods

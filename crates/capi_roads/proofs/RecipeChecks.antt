@@ -4,7 +4,6 @@ use mathlib.Core.Bool.{Bool, true, false, cond}
 use mathlib.Core.List.{List}
 use Prim.Native.Nat.{ℕ, suc}
 use native.Mathlib.Nat.{suc-ne-zero}
-use lib.ListN.{length}
 use Rattle.calculus.specs.Orders.{someAbove20}
 use Rattle.given.proofs.Admission.{one-fits, count-fits}
 use Rattle.capi_roads.specs.Recipes.{surfaceSize, total, listsGiven, recipeGiven, roadGiven}

@@ -4,7 +4,7 @@ use mathlib.Core.Path.{_≡_, refl, sym, ap, _∙_}
 use mathlib.Core.Bool.{Bool, true, false, cond}
 use mathlib.Core.List.{List, [], _∷_, _++_}
 use mathlib.Core.Logic.{⊎-elim}
-use Prim.Native.Nat.{ℕ, zero, suc, _-_, _≤_, _<_}
+use Prim.Native.Nat.{ℕ, zero, suc, _-_, _<_}
 use native.Mathlib.Nat.{eq-or-lt-of-le, le-of-suc-le-suc, suc-ne-zero}
 use native.Mathlib.Omega.{arith}
 use lib.Dec.{ltb, eqb}
@@ -26,47 +26,11 @@ use Rattle.roads.specs.declared.Step.{Step}
 use Rattle.roads.specs.Recipe.{with, namesEarlier, worked}
 use Rattle.roads.specs.Roads.{surfaceSteps, curveSteps}
 use Rattle.roads.specs.Formed.{formedBy, carriedWith, stepWith, stepsTake}
-use Rattle.roads.proofs.Meeting.{alongNumbers, alongJet, Meets, Orders, result-order, along-within, step-answer, step-meets}
+use Rattle.roads.proofs.Meeting.{alongNumbers, alongJet, Meets, Orders, along-within, step-answer, step-meets}
 
 -- the tests on two lists of events, one after the other
 pub every-two : (h k : List Event) → every inRange (numbers (h ++ k)) ≡ cond (every inRange (numbers h)) (every inRange (numbers k)) false
 every-two h k = ap (every inRange) (numbers-append h k) ∙ every-append inRange (numbers h) (numbers k)
-
--- ---- jets in hand
-module _ {X : Type 0} (jet-of : ℕ → X) (m : ℕ) (x : X) where
-  with-new : with jet-of m x m ≡ x
-  with-new = ap (λ (t : Bool). cond t x (jet-of m)) (eq-eqb m m refl)
-
-  with-old : (i : ℕ) → i < m → with jet-of m x i ≡ jet-of i
-  with-old i l = ap (λ (t : Bool). cond t x (jet-of i)) (ne-eqb i m (λ e. omega arith))
-
--- ---- the result of the steps on surfaces of the order k has the order k
-module _ {k : ℕ} (high : k ≤ 20) where
-  order-goes-on : (s : Step) (ss : List Step) (jet-of : ℕ → SurfaceDerivatives) (m : ℕ) → ((i : ℕ) → i < m → jet-of i .order ≡ k) → s .left < m → s .right < m →
-      let a = surfaceSteps .apply (s .operation) (jet-of (s .left)) (jet-of (s .right)) in
-      (((i : ℕ) → i < suc m → with jet-of m (a .jet) i .order ≡ k) → worked surfaceSteps (with jet-of m (a .jet)) (suc m) ss .refusal ≡ 0 →
-      worked surfaceSteps (with jet-of m (a .jet)) (suc m) ss .jet .order ≡ k) →
-      (x : ℕ) → a .refusal ≡ x → byVerdict refusedSurface x (worked surfaceSteps (with jet-of m (a .jet)) (suc m) ss) .refusal ≡ 0 →
-      byVerdict refusedSurface x (worked surfaceSteps (with jet-of m (a .jet)) (suc m) ss) .jet .order ≡ k
-  order-goes-on s ss jet-of m h l r next zero e f =
-      next (λ i b. ⊎-elim
-      (λ q. ap (λ (x : ℕ). with jet-of m a (x) .order) q ∙ ap (λ (x : SurfaceDerivatives). x .order) (with-new jet-of m a) ∙ result-order high (s .operation) (jet-of (s .left)) (jet-of (s .right)) (h (s .left) l) (h (s .right) r) e)
-      (λ q. ap (λ (x : SurfaceDerivatives). x .order) (with-old jet-of m a i q) ∙ h i q) (eq-or-lt-of-le (le-of-suc-le-suc b))) f
-    where
-      a : SurfaceDerivatives
-      a = surfaceSteps .apply (s .operation) (jet-of (s .left)) (jet-of (s .right)) .jet
-  order-goes-on s ss jet-of m h l r next (suc x) e f = absurd (suc-ne-zero x f)
-
-  pub steps-order : (ss : List Step) (jet-of : ℕ → SurfaceDerivatives) (m : ℕ) → 0 < m → ((i : ℕ) → i < m → jet-of i .order ≡ k) → namesEarlier m ss ≡ true →
-      worked surfaceSteps jet-of m ss .refusal ≡ 0 → worked surfaceSteps jet-of m ss .jet .order ≡ k
-  unfolding worked namesEarlier
-  steps-order [] jet-of m p h e r = h (m - 1) (omega arith)
-  steps-order (s ∷ ss) jet-of m p h e r =
-      let f = both-true (ltb (s .left) m) (cond (ltb (s .right) m) (namesEarlier (suc m) ss) false) e in
-      let g = both-true (ltb (s .right) m) (namesEarlier (suc m) ss) (f .1) in
-      let a = surfaceSteps .apply (s .operation) (jet-of (s .left)) (jet-of (s .right)) in
-      order-goes-on s ss jet-of m h (ltb-true (s .left) m (f .0)) (ltb-true (s .right) m (g .0))
-      (λ hs r. steps-order ss (with jet-of m (a .jet)) (suc m) (omega arith) hs (g .1) r) (a .refusal) refl r
 
 module _ (c : ParameterCurve) (k n : ℕ) (o : Orders c k n) where
   -- the first road, from what the steps answer on the surfaces

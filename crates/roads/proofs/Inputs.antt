@@ -81,10 +81,10 @@ at-map f (x ∷ l) zero d e h = refl
 at-map f (x ∷ l) (suc i) d e h = at-map f l i d e (omega arith)
 
 -- the smallest order is at most 20
-pub smallest-20 : (l : List SurfaceDerivatives) → smallest (map (surfaces .order) l) ≤ 20
+pub smallest-20 : (l : List ℕ) → smallest l ≤ 20
 unfolding smallest
 smallest-20 [] = le-refl 20
-smallest-20 (s ∷ l) = omega (arith, min-le-right (s .order) (smallest (map (surfaces .order) l)), smallest-20 l)
+smallest-20 (n ∷ l) = omega (arith, min-le-right n (smallest l), smallest-20 l)
 
 -- ---- along the curve c, up to the order n: every input
 module _ (c : ParameterCurve) (k n : ℕ) (hc : c .order ≤ 20) (lc : n ≤ c .order) where

@@ -7,6 +7,8 @@ pub mod Operations
 pub mod Meeting
 pub mod Induction
 pub mod Inputs
+-- the orders of what is answered
+pub mod Answered
 -- the loops of the functions
 pub mod Tests
 pub mod Working

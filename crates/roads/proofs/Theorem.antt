@@ -4,7 +4,7 @@
 use mathlib.Core.Path.{_≡_, refl, sym, ap, ap₂, _∙_}
 use mathlib.Core.Bool.{Bool, true, false, cond}
 use mathlib.Core.List.{List, map}
-use Prim.Native.Nat.{ℕ, zero, suc}
+use Prim.Native.Nat.{ℕ, suc}
 use native.Mathlib.Nat.{suc-ne-zero, min-eq-left}
 use native.Mathlib.Omega.{arith}
 use lib.IntN.{ℤ}
@@ -28,7 +28,8 @@ use Rattle.roads.specs.Roads.{surfaceSteps, curveSteps, builtSurface, bu
 use Rattle.exact.specs.Answer.{surfaces, curves}
 use Rattle.roads.specs.Formed.{carriedWith, carriesTake, stepsTake, numbersFormed}
 use Rattle.roads.proofs.Meeting.{alongJet, Orders, carried-value}
-use Rattle.roads.proofs.Induction.{steps-order, steps-met, every-two}
+use Rattle.roads.proofs.Induction.{steps-met, every-two}
+use Rattle.roads.proofs.Answered.{two-calls, surfaces-keep, steps-order}
 use Rattle.roads.proofs.Inputs.{Counts, counts, within, at-map, smallest-20, inputs-refusal, inputs-jets, jets-above, jets-smallest}
 
 -- an answered recipe passed the checks
@@ -37,11 +38,6 @@ passed : (t u : Bool) (w : SurfaceAnswer) (f : SurfaceAnswer → CurveAnswer) �
 passed true u w f h e = absurd (suc-ne-zero 0 (sym (h 0) ∙ e))
 passed false true w f h e = (refl, refl)
 passed false false w f h e = absurd (suc-ne-zero 3 (sym (h 3) ∙ e))
-
--- an answered first road's two calls
-two-calls : (x : ℕ) (a : CurveAnswer) → byVerdict refusedCurve x a .refusal ≡ 0 → (x ≡ 0) × (a .refusal ≡ 0)
-two-calls zero a e = (refl, e)
-two-calls (suc x) a e = absurd (suc-ne-zero x e)
 
 module _ (r : SurfaceRecipe) (four : length (r .surfaces) ≡ 4) (c : ParameterCurve) (n : ℕ) where
   abbrev inputs : List SurfaceDerivatives
@@ -83,13 +79,13 @@ module _ (r : SurfaceRecipe) (four : length (r .surfaces) ≡ 4) (c : ParameterC
     count = counts (r .inputs) (r .steps) steps (checks .1)
 
     calls : (work .refusal ≡ 0) × (alongCurve (work .jet) c n .refusal ≡ 0)
-    calls = two-calls (work .refusal) (alongCurve (work .jet) c n) (sym (ap (λ (a : SurfaceAnswer). carry a .refusal) built-is) ∙ e)
+    calls = two-calls refusedCurve (λ (a : CurveAnswer). a .refusal) (λ x. refl) (work .refusal) (alongCurve (work .jet) c n) (sym (ap (λ (a : SurfaceAnswer). carry a .refusal) built-is) ∙ e)
 
     orders : Orders c k n
     orders =
         let w = within _ (work .jet .order) (c .order) n (calls .1) in
-        let o : work .jet .order ≡ k = steps-order (smallest-20 inputs) steps cut-input (r .inputs) (count .some) (λ i l. refl) (count .names) (calls .0) in
-        record { high = smallest-20 inputs; parameter = w .curve; asked = omega (arith, w .surface, o); reach = w .reach }
+        let o : work .jet .order ≡ k = steps-order surfaces-keep (smallest-20 (map (surfaces .order) inputs)) steps cut-input (r .inputs) (count .some) (λ i l. refl) (count .names) (calls .0) in
+        record { high = smallest-20 (map (surfaces .order) inputs); parameter = w .curve; asked = omega (arith, w .surface, o); reach = w .reach }
 
     length-inputs : length inputs ≡ r .inputs
     length-inputs = length-take (r .inputs) (r .surfaces) ∙ min-eq-left (omega (arith, count .four, four))
