@@ -4,7 +4,8 @@ A group is one case (tools/cases.py). Its label has the operation, the faults an
 table alone: the faults of a case are known, and the first of them in the order of its checks is met. A fault is its number and where it is: `1 a` is an
 order of 21 for the jet a, `2 a` one entry too few or too many of a, `2 lent` a place too many in the list lent, `2 asked` an order that the jet does not
 have, `5 a` a float of a that is not finite. A case without faults is answered; what its answer is, is not said here.
-Where two faults are met by the work itself (6 to 9), the case is made so that one comes first, and the label says so.
+Where two faults are met by the work itself (6 to 9), the case is made so that one comes first, and the label says so. A road meets the faults of its
+calls in their order.
 """
 import copy
 import itertools
@@ -360,44 +361,50 @@ def recipes(name):
     for order in (0, 1, 20):
         answered(call(order, lambda n: [1] + [0] * (n - 1)), 'order %d' % order)
 
-    def case(what, numbers, orders, entries, steps, n=2, lent=None, c=(0, 0, 3, 0, 0, 0)):
-        """numbers has what is met by a recipe alone, by the first road and by the second."""
-        least = count(kind, min(orders, default=0))
-        given = [n + 1 if roads else least] if lent is None else [lent]
-        lists = [[x for jet in entries for x in jet]] + ([list(c)] if roads else [])
-        number = numbers[['build_then_carry', 'carry_then_build'].index(name) + 1 if roads else 0]
-        write(Call(name, [len(c) // 2 - 1, n] if roads else [], lists, given, [orders, steps]), [what], number)
+
+def calls_in_turn(name):
+    """Recipes and roads where it shows which call comes first. met is what a recipe meets by itself (None: no such case), the first road, and the second."""
+    road = ['build_then_carry', 'carry_then_build'].index(name) + 1 if name.endswith(('carry', 'build')) else 0
+    kind = 'curve' if name == 'recipe_curves' else 'surface'
+
+    def case(what, met, orders, entries, steps, n=2, lent=None, curve=(0, 0, 3, 0, 0, 0)):
+        if met[road] is None:
+            return
+        entries = [x for jet in entries for x in jet]
+        due = n + 1 if road else count(kind, min(orders, default=0))
+        call = Call(name, [len(curve) // 2 - 1, n] if road else [], [entries, list(curve)] if road else [entries],
+                    [due if lent is None else lent], [orders, steps])
+        write(call, [what], met[road])
     good, zero, low = whole_sample(count(kind, 2)), [0] * count(kind, 2), [1]
     high = [1] + [0] * (count(kind, 2) - 2) + [WHOLE_LARGE]
-    product = [2, 0, 1]
+    add, product = [0, 0, 0], [2, 0, 1]
     # a fifth jet has no place in a recipe: its list is tested, and it is not carried
-    for what, numbers, fifth in [('4, the fifth too low', (4, 4, 4), (0, low)), ('4, the fifth large', (4, 4, 4), (2, high)),
-                                 ('1 the fifth', (1, 1, 1), (21, low))]:
-        case(what, numbers, [2] * 4 + [fifth[0]], [good] * 4 + [fifth[1]], product)
+    for what, met, order, fifth in [('4, the fifth too low', (4, 4, 4), 0, low), ('4, the fifth large', (4, 4, 4), 2, high),
+                                    ('1 the fifth', (1, 1, 1), 21, low)]:
+        case(what, met, [2] * 4 + [order], [good] * 4 + [fifth], product)
     case('4, the fourth too low', (4, 4, 2), [2, 2, 2, 0, 2], [good] * 3 + [low, good], product)
     # an operation that there is not is the recipe's to refuse, before a step is worked
     for what, steps in [('4 largest operation', [2**64 - 1, 0, 1]), ('4 second operation, 7 before it', [3, 0, 1, 4, 0, 1]),
                         ('4 operation of the last of 12', [0, 0, 1] * 11 + [4, 0, 1]), ('4 operation of the 13th', [0, 0, 1] * 12 + [4, 0, 1])]:
         case(what, (4, 4, 4), [2, 2], [good, zero], steps)
-    if not roads:
-        for lent in (0, 1, 7):
-            case('4 no input, lent %d' % lent, (4, 4, 4), [], [], product, lent=lent)
-        return
-    one = [0, 0, 0]
-    case('13 steps + 2 asked, order 0', (0, 4, 2), [0], [[1]], one * 13, 1, c=[0, 0, 3, 0])
-    case('five inputs + 2 asked, order 0', (0, 4, 2), [0] * 5, [[1]] * 5, one, 1, c=[0, 0, 3, 0])
-    case('13 steps + 9 of the carry', (0, 4, 9), [1], [[0, 0, WHOLE_LARGE]], one * 13, 1, c=[0, 0, 3, 0])
-    case('no step + 1 n, order 0', (0, 4, 1), [0], [[1]], [], 21)
-    case('operation + 2 asked', (0, 4, 2), [2, 2], [good, good], [4, 0, 1], 3)
-    case('operation + 9 of the first carry', (0, 4, 9), [1, 1], [[0, 0, WHOLE_LARGE], [0, 0, 1]], [4, 0, 1], 1)
-    case('operation + 9 of the second carry', (0, 4, 9), [1, 1], [[0, 0, 1], [0, 0, WHOLE_LARGE]], [0, 0, 1, 4, 0, 1], 1)
-    # where an order above 20 is asked, no length is due of the list lent
+    # without an input no length is due of the list lent for a recipe
+    for lent in (0, 1, 7):
+        case('4 no input, lent %d' % lent, (4, None, None), [], [], product, lent=lent)
+    # the second road comes to the recipe after its carries
+    case('13 steps + 2 asked, order 0', (None, 4, 2), [0], [low], add * 13, 1, curve=[0, 0, 3, 0])
+    case('five inputs + 2 asked, order 0', (None, 4, 2), [0] * 5, [low] * 5, add, 1, curve=[0, 0, 3, 0])
+    case('13 steps + 9 of the carry', (None, 4, 9), [1], [[0, 0, WHOLE_LARGE]], add * 13, 1, curve=[0, 0, 3, 0])
+    case('operation + 2 asked', (None, 4, 2), [2, 2], [good, good], [4, 0, 1], 3)
+    case('operation + 9 of the first carry', (None, 4, 9), [1, 1], [[0, 0, WHOLE_LARGE], [0, 0, 1]], [4, 0, 1], 1)
+    case('operation + 9 of the second carry', (None, 4, 9), [1, 1], [[0, 0, 1], [0, 0, WHOLE_LARGE]], [0, 0, 1, 4, 0, 1], 1)
+    # an order above 20 is met by the carry, and no length is due of the list lent
+    case('no step + 1 n, order 0', (None, 4, 1), [0], [low], [], 21)
     for lent in (0, 1, 21, 22, 23):
-        case('1 n, lent %d' % lent, (0, 1, 1), [2, 2], [good, good], product, 21, lent)
-        case('1 n + 4 later, lent %d' % lent, (0, 4, 1), [2, 2], [good, good], [0, 5, 1], 21, lent)
-        case('1 n + 4 no input, lent %d' % lent, (0, 4, 4), [], [], product, 21, lent)
-    case('1 largest n', (0, 1, 1), [2, 2], [good, good], product, 2**64 - 1, 3)
-    case('1 largest n + 7', (0, 7, 1), [2, 2], [good, zero], [3, 0, 1], 2**64 - 1, 3)
+        case('1 n, lent %d' % lent, (None, 1, 1), [2, 2], [good, good], product, 21, lent)
+        case('1 n + 4 later, lent %d' % lent, (None, 4, 1), [2, 2], [good, good], [0, 5, 1], 21, lent)
+        case('1 n + 4 no input, lent %d' % lent, (None, 4, 4), [], [], product, 21, lent)
+    case('1 largest n', (None, 1, 1), [2, 2], [good, good], product, 2**64 - 1, 3)
+    case('1 largest n + 7', (None, 7, 1), [2, 2], [good, zero], [3, 0, 1], 2**64 - 1, 3)
 
 
 # Part lists: what is lent at the end is given, for a walk is lent as it stands.
@@ -596,7 +603,8 @@ def fillet(name):
 
 
 KINDS = [(jets, cases.CURVES | cases.SURFACES | cases.VECTOR_CURVES | cases.VECTOR_SURFACES | cases.EXACT_CURVES | cases.EXACT_SURFACES),
-         (vectors, cases.VECTORS), (fillet, cases.FILLET), (whole_numbers, cases.WHOLE), (recipes, cases.RECIPES), (parts, cases.PARTS)]
+         (vectors, cases.VECTORS), (fillet, cases.FILLET), (whole_numbers, cases.WHOLE), (recipes, cases.RECIPES),
+         (calls_in_turn, cases.RECIPES), (parts, cases.PARTS)]
 
 
 def groups(names):
