@@ -1,2 +1,3 @@
+pub mod Rodrigues
 pub mod Rotation
 pub mod Circle

@@ -1,12 +1,13 @@
 // The matrices of Rodrigues' rotation, derived by the axis' components.
 ghost use mathlib.Core.Path.{_≡_};
-ghost use Rattle.rodrigues.specs.Rotation.{matrix as matrixOf, rodrigues as rodriguesBy, byX, byY, byZ, symmetric as symmetricOf, byAxis};
+ghost use Rattle.rodrigues.specs.Rodrigues.{nine, rodrigues as rodriguesBy, byX, byY, byZ, symmetric as symmetricOf};
+ghost use Rattle.rodrigues.specs.Rotation.{floats, threeOf, matrixOf, byAxis};
 use ieee_vectors::Matrix3;
 use ieee_vectors::Vector3;
 
 // By columns.
 fn matrix(a: f64, b: f64, c: f64, d: f64, e: f64, f: f64, g: f64, h: f64, i: f64) -> Matrix3
-    ensures { λ r. ⌜ r ≡ matrixOf a b c d e f g h i ⌝ }
+    ensures { λ r. ⌜ r ≡ matrixOf (nine a b c d e f g h i) ⌝ }
 {
     Matrix3 {
         c0: Vector3 { x: a, y: b, z: c },
@@ -17,7 +18,7 @@ fn matrix(a: f64, b: f64, c: f64, d: f64, e: f64, f: f64, g: f64, h: f64, i: f64
 
 // c·I + s·[axis]× + k·axis axisᵀ.
 fn rodrigues(axis: Vector3, s: f64, c: f64, k: f64) -> Matrix3
-    ensures { λ r. ⌜ r ≡ rodriguesBy axis s c k ⌝ }
+    ensures { λ r. ⌜ r ≡ matrixOf (rodriguesBy floats (threeOf axis) s c k) ⌝ }
 {
     matrix(
         k * axis.x * axis.x + c,
@@ -34,7 +35,7 @@ fn rodrigues(axis: Vector3, s: f64, c: f64, k: f64) -> Matrix3
 
 // Derived by one component of the axis.
 fn by_x(axis: Vector3, s: f64, k: f64) -> Matrix3
-    ensures { λ r. ⌜ r ≡ byX axis s k ⌝ }
+    ensures { λ r. ⌜ r ≡ matrixOf (byX floats (threeOf axis) s k) ⌝ }
 {
     matrix(
         2.0 * axis.x * k,
@@ -50,7 +51,7 @@ fn by_x(axis: Vector3, s: f64, k: f64) -> Matrix3
 }
 
 fn by_y(axis: Vector3, s: f64, k: f64) -> Matrix3
-    ensures { λ r. ⌜ r ≡ byY axis s k ⌝ }
+    ensures { λ r. ⌜ r ≡ matrixOf (byY floats (threeOf axis) s k) ⌝ }
 {
     matrix(
         0.0,
@@ -66,7 +67,7 @@ fn by_y(axis: Vector3, s: f64, k: f64) -> Matrix3
 }
 
 fn by_z(axis: Vector3, s: f64, k: f64) -> Matrix3
-    ensures { λ r. ⌜ r ≡ byZ axis s k ⌝ }
+    ensures { λ r. ⌜ r ≡ matrixOf (byZ floats (threeOf axis) s k) ⌝ }
 {
     matrix(
         0.0,
@@ -83,7 +84,7 @@ fn by_z(axis: Vector3, s: f64, k: f64) -> Matrix3
 
 // A symmetric matrix.
 pub fn symmetric(xx: f64, xy: f64, xz: f64, yy: f64, yz: f64, zz: f64) -> Matrix3
-    ensures { λ r. ⌜ r ≡ symmetricOf xx xy xz yy yz zz ⌝ }
+    ensures { λ r. ⌜ r ≡ matrixOf (symmetricOf xx xy xz yy yz zz) ⌝ }
 {
     matrix(xx, xy, xz, xy, yy, yz, xz, yz, zz)
 }
