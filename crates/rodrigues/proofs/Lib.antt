@@ -5,3 +5,4 @@ pub mod Entries
 pub mod ByAngle
 pub mod ByAxis
 pub mod Derivatives
+pub mod Polynomials
