@@ -54,17 +54,14 @@ module _ {R : Type 0} (C : CommRing R) (a : Three R) (s c k : R) where
   -- ---- one step
 
   module _ {t : Three R} {D : R → R} (h : Along t D) where
-    abbrev d : Derivation C D
-    d = h .rules
-
     abbrev o : D 𝟘 ≡ 𝟘
-    o = of-zero C d
+    o = of-zero C (h .rules)
 
     abbrev dd : D twice ≡ 𝟘
-    dd = of-double C d (h .of-k)
+    dd = of-double C (h .rules) (h .of-k)
 
     abbrev dn : D (neg s) ≡ 𝟘
-    dn = of-neg-zero C d (h .of-s)
+    dn = of-neg-zero C (h .rules) (h .of-s)
 
     constants : {xx xy xz yy yz zz : R} → D xx ≡ 𝟘 → D xy ≡ 𝟘 → D xz ≡ 𝟘 → D yy ≡ 𝟘 → D yz ≡ 𝟘 → D zz ≡ 𝟘 → each D (symmetric xx xy xz yy yz zz) ≡ zeros K
     constants xx xy xz yy yz zz = same-nine xx xy xz xy yy yz xz yz zz
@@ -88,18 +85,13 @@ module _ {R : Type 0} (C : CommRing R) (a : Three R) (s c k : R) where
     xy-zero = constants o (h .of-k) o o o o
 
   module _ {D : R → R} (h : Along (three 𝟙 𝟘 𝟘) D) where
+    open Along h using (rules as d, of-x as dx, of-y as dy, of-z as dz, of-s as ds, of-c as dc, of-k as dk)
+
     x-of : each D M ≡ byX K a s k
     x-of =
         let x = a .x in
         let y = a .y in
         let z = a .z in
-        let dx = h .of-x in
-        let dy = h .of-y in
-        let dz = h .of-z in
-        let ds = h .of-s in
-        let dc = h .of-c in
-        let dk = h .of-k in
-        let d = h .rules in
         same-nine
         (own-square C d ds dc dk x dx) (plus-first C d ds dc dk x y z dx dy dz) (minus-first C d ds dc dk x z y dx dz dy)
         (minus-first C d ds dc dk x y z dx dy dz) (other-square C d ds dc dk y dy) (plus-third C d ds dc dk y z x dy dz dx)
@@ -107,35 +99,30 @@ module _ {R : Type 0} (C : CommRing R) (a : Three R) (s c k : R) where
 
     xx-of : each D (byX K a s k) ≡ byXX
     xx-of =
-        let y = single-other C (h .rules) (h .of-k) (h .of-y) in
-        let z = single-other C (h .rules) (h .of-k) (h .of-z) in
-        same-nine (double-own C (h .rules) (h .of-k) (h .of-x)) y z y (o h) (h .of-s) z (dn h) (o h)
+        let y = single-other C d dk dy in
+        let z = single-other C d dk dz in
+        same-nine (double-own C d dk dx) y z y (o h) ds z (dn h) (o h)
 
     xy-of : each D (byY K a s k) ≡ byXY
     xy-of =
-        let x = single-own C (h .rules) (h .of-k) (h .of-x) in
-        let z = single-other C (h .rules) (h .of-k) (h .of-z) in
-        same-nine (o h) x (dn h) x (double-other C (h .rules) (h .of-k) (h .of-y)) z (h .of-s) z (o h)
+        let x = single-own C d dk dx in
+        let z = single-other C d dk dz in
+        same-nine (o h) x (dn h) x (double-other C d dk dy) z ds z (o h)
 
     xz-of : each D (byZ K a s k) ≡ byXZ
     xz-of =
-        let x = single-own C (h .rules) (h .of-k) (h .of-x) in
-        let y = single-other C (h .rules) (h .of-k) (h .of-y) in
-        same-nine (o h) (h .of-s) x (dn h) (o h) y x y (double-other C (h .rules) (h .of-k) (h .of-z))
+        let x = single-own C d dk dx in
+        let y = single-other C d dk dy in
+        same-nine (o h) ds x (dn h) (o h) y x y (double-other C d dk dz)
 
   module _ {D : R → R} (h : Along (three 𝟘 𝟙 𝟘) D) where
+    open Along h using (rules as d, of-x as dx, of-y as dy, of-z as dz, of-s as ds, of-c as dc, of-k as dk)
+
     y-of : each D M ≡ byY K a s k
     y-of =
         let x = a .x in
         let y = a .y in
         let z = a .z in
-        let dx = h .of-x in
-        let dy = h .of-y in
-        let dz = h .of-z in
-        let ds = h .of-s in
-        let dc = h .of-c in
-        let dk = h .of-k in
-        let d = h .rules in
         same-nine
         (other-square C d ds dc dk x dx) (plus-second C d ds dc dk x y z dx dy dz) (minus-third C d ds dc dk x z y dx dz dy)
         (minus-second C d ds dc dk x y z dx dy dz) (own-square C d ds dc dk y dy) (plus-first C d ds dc dk y z x dy dz dx)
@@ -143,29 +130,24 @@ module _ {R : Type 0} (C : CommRing R) (a : Three R) (s c k : R) where
 
     yy-of : each D (byY K a s k) ≡ byYY
     yy-of =
-        let x = single-other C (h .rules) (h .of-k) (h .of-x) in
-        let z = single-other C (h .rules) (h .of-k) (h .of-z) in
-        same-nine (o h) x (dn h) x (double-own C (h .rules) (h .of-k) (h .of-y)) z (h .of-s) z (o h)
+        let x = single-other C d dk dx in
+        let z = single-other C d dk dz in
+        same-nine (o h) x (dn h) x (double-own C d dk dy) z ds z (o h)
 
     yz-of : each D (byZ K a s k) ≡ byYZ
     yz-of =
-        let x = single-other C (h .rules) (h .of-k) (h .of-x) in
-        let y = single-own C (h .rules) (h .of-k) (h .of-y) in
-        same-nine (o h) (h .of-s) x (dn h) (o h) y x y (double-other C (h .rules) (h .of-k) (h .of-z))
+        let x = single-other C d dk dx in
+        let y = single-own C d dk dy in
+        same-nine (o h) ds x (dn h) (o h) y x y (double-other C d dk dz)
 
   module _ {D : R → R} (h : Along (three 𝟘 𝟘 𝟙) D) where
+    open Along h using (rules as d, of-x as dx, of-y as dy, of-z as dz, of-s as ds, of-c as dc, of-k as dk)
+
     z-of : each D M ≡ byZ K a s k
     z-of =
         let x = a .x in
         let y = a .y in
         let z = a .z in
-        let dx = h .of-x in
-        let dy = h .of-y in
-        let dz = h .of-z in
-        let ds = h .of-s in
-        let dc = h .of-c in
-        let dk = h .of-k in
-        let d = h .rules in
         same-nine
         (other-square C d ds dc dk x dx) (plus-third C d ds dc dk x y z dx dy dz) (minus-second C d ds dc dk x z y dx dz dy)
         (minus-third C d ds dc dk x y z dx dy dz) (other-square C d ds dc dk y dy) (plus-second C d ds dc dk y z x dy dz dx)
@@ -173,9 +155,9 @@ module _ {R : Type 0} (C : CommRing R) (a : Three R) (s c k : R) where
 
     zz-of : each D (byZ K a s k) ≡ byZZ
     zz-of =
-        let x = single-other C (h .rules) (h .of-k) (h .of-x) in
-        let y = single-other C (h .rules) (h .of-k) (h .of-y) in
-        same-nine (o h) (h .of-s) x (dn h) (o h) y x y (double-own C (h .rules) (h .of-k) (h .of-z))
+        let x = single-other C d dk dx in
+        let y = single-other C d dk dy in
+        same-nine (o h) ds x (dn h) (o h) y x y (double-own C d dk dz)
 
   -- ---- all steps
 

@@ -3,17 +3,17 @@
 -- Numbers here are those of any commutative ring with four derivations: by the axis' components x, y, z, and by the angle. A derivation keeps sums
 -- and has Leibniz's product rule (proofs/Derivation.antt); of the elements x, y, z, s, c the four know the derivatives that the table `derived`
 -- has: each component's own is 1, s' = c and c' = −s by the angle, and all others are 0. Then `derivatives` says, for all orders: every entry of
--- the formula, derived i, j and k times by x, y and z and n times by the angle, is that of the matrix `rotation i j k n`; so it is zero where
--- i + j + k is 3 or more (`third-derivatives`). proofs/Polynomials.antt has such a ring: polynomials with their formal derivatives.
--- Assumes nothing.
-use Prim.Native.Nat.{ℕ, zero, suc, _+_, _%_, _≤_}
-use mathlib.Core.Path.{_≡_, refl, sym, _∙_, ap}
+-- the formula, derived i, j and k times by x, y and z and n times by the angle, is that of the matrix `rotation i j k n`. So it is zero where
+-- i + j + k is 3 or more (`third-derivatives`); and quarter turns of s and c are their derivatives by the angle (`turned-is`).
+-- proofs/Polynomials.antt has such a ring: polynomials with their formal derivatives. Assumes nothing.
+use Prim.Native.Nat.{ℕ, _+_, _%_, _≤_}
+use mathlib.Core.Path.{_≡_, sym, _∙_, ap}
 use mathlib.Mathlib.Algebra.Ring.Defs.{CommRing}
-use Rattle.rodrigues.specs.Rodrigues.{Arithmetic, Three, Nine, three, nine, symmetric, turned, rodrigues, zeros, constant, rotation}
+use Rattle.rodrigues.specs.Rodrigues.{Arithmetic, Three, Nine, three, nine, symmetric, sineCosine, turned, rodrigues, zeros, constant, rotation}
 use Rattle.rodrigues.proofs.Orders.{third-zero}
 use Rattle.rodrigues.proofs.Ring.{laws}
-use Rattle.rodrigues.proofs.Derivation.{ring, Derivation, each, repeated, same-nine, of-one}
-use Rattle.rodrigues.proofs.ByAngle.{order, atPair, by-the-angle, constant-sine, constant-cosine, constant-k}
+use Rattle.rodrigues.proofs.Derivation.{ring, Derivation, each, repeated, same-nine}
+use Rattle.rodrigues.proofs.ByAngle.{quarter-turns, repeated-one, by-the-angle, constant-sine, constant-cosine, constant-k}
 use Rattle.rodrigues.proofs.ByAxis.{Along, by-the-axis}
 
 -- ---- Rodrigues' formula, as it is written
@@ -103,10 +103,6 @@ module _ {R : Type 0} (C : CommRing R) where
       (minus-is s c x y z) (square-is s c y) (plus-is s c y z x)
       (plus-is s c x z y) (minus-is s c y z x) (square-is s c z)
 
-  order-one : (n : ℕ) → order C n 𝟙 ≡ constant K n
-  order-one zero = refl
-  order-one (suc n) = refl
-
   module _ {D : Direction → R → R} {v : Variable → R} (h : Derives C D v) where
     -- what is derived by the angle alone, along the axis
     along : (n : ℕ) (d : Direction) (t : Three R) → D d (v X) ≡ t .x → D d (v Y) ≡ t .y → D d (v Z) ≡ t .z → D d (v Sine) ≡ 𝟘 → D d (v Cosine) ≡ 𝟘 →
@@ -124,17 +120,24 @@ module _ {R : Type 0} (C : CommRing R) where
     pub derivatives : (i j k n : ℕ) → each (partial D i j k n) (formula K (axis v) (v Sine) (v Cosine)) ≡ rotation K i j k n (axis v) (v Sine) (v Cosine)
     derivatives i j k n =
         let p = turned K n (v Sine) (v Cosine) in
+        let w = h .variables in
         ap (each (partial D i j k n)) (formula-is (axis v) (v Sine) (v Cosine))
         ∙ ap (λ (m : Nine R). each (repeated i (D by-x)) (each (repeated j (D by-y)) (each (repeated k (D by-z)) m)))
-        (by-the-angle C (h .rules by-angle) (axis v) (h .variables by-angle X) (h .variables by-angle Y) (h .variables by-angle Z) n (h .variables by-angle Sine) (h .variables by-angle Cosine) (of-one C (h .rules by-angle))
-        ∙ ap (atPair C (axis v) p) (order-one n))
+        (by-the-angle C (h .rules by-angle) (axis v) (w by-angle X) (w by-angle Y) (w by-angle Z) n (w by-angle Sine) (w by-angle Cosine))
         ∙ by-the-axis C (axis v) (p .s) (p .c) (neg (p .c) ⊕ constant K n)
-        (along n by-x (three 𝟙 𝟘 𝟘) (h .variables by-x X) (h .variables by-x Y) (h .variables by-x Z) (h .variables by-x Sine) (h .variables by-x Cosine))
-        (along n by-y (three 𝟘 𝟙 𝟘) (h .variables by-y X) (h .variables by-y Y) (h .variables by-y Z) (h .variables by-y Sine) (h .variables by-y Cosine))
-        (along n by-z (three 𝟘 𝟘 𝟙) (h .variables by-z X) (h .variables by-z Y) (h .variables by-z Z) (h .variables by-z Sine) (h .variables by-z Cosine))
+        (along n by-x (three 𝟙 𝟘 𝟘) (w by-x X) (w by-x Y) (w by-x Z) (w by-x Sine) (w by-x Cosine))
+        (along n by-y (three 𝟘 𝟙 𝟘) (w by-y X) (w by-y Y) (w by-y Z) (w by-y Sine) (w by-y Cosine))
+        (along n by-z (three 𝟘 𝟘 𝟙) (w by-z X) (w by-z Y) (w by-z Z) (w by-z Sine) (w by-z Cosine))
         i j k
 
+    -- in particular
     pub third-derivatives : (i j k n : ℕ) → 3 ≤ i + j + k → each (partial D i j k n) (formula K (axis v) (v Sine) (v Cosine)) ≡ zeros K
     third-derivatives i j k n l =
         let p = turned K n (v Sine) (v Cosine) in
         derivatives i j k n ∙ sym (third-zero K (axis v) (p .s) (p .c) (neg (p .c) ⊕ constant K n) i j k l)
+
+    pub turned-is : (n : ℕ) → sineCosine (repeated n (D by-angle) (v Sine)) (repeated n (D by-angle) (v Cosine)) ≡ turned K n (v Sine) (v Cosine)
+    turned-is n = quarter-turns C (h .rules by-angle) n (h .variables by-angle Sine) (h .variables by-angle Cosine)
+
+    pub constant-is : (n : ℕ) → repeated n (D by-angle) 𝟙 ≡ constant K n
+    constant-is = repeated-one C (h .rules by-angle)
