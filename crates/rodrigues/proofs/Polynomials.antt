@@ -2,7 +2,7 @@
 --
 -- `Polynomial` is the commutative ring that the variables X, Y, Z, Sine and Cosine generate: what zero, one, sums, products and negations make of
 -- them, equal where the laws of a commutative ring say so. These are the polynomials with whole coefficients. `formal` is the formal derivative, by
--- the rules of school; `value` puts numbers of any commutative ring for the variables. Then `derivatives-at` says, for all orders and at every
+-- the usual rules; `value` puts numbers of any commutative ring for the variables. Then `derivatives-at` says, for all orders and at every
 -- point of every commutative ring: the value of each entry of Rodrigues' formula in polynomials, formally derived, is that of the matrix
 -- `rotation i j k n` at the point. Assumes nothing.
 use Prim.Native.Nat.{ℕ, zero, suc, _%_}
@@ -10,7 +10,7 @@ use mathlib.Core.Path.{_≡_, refl, sym, _∙_, ap}
 use mathlib.Core.Bool.{Bool, true, false, cond}
 use mathlib.Core.HubSpoke.{Sp, hubSpoke→set, recHub, recSpoke}
 use mathlib.Mathlib.Algebra.Ring.Defs.{CommRing}
-use Rattle.rodrigues.specs.Rodrigues.{Arithmetic, Three, Nine, SineCosine, three, symmetric, sineCosine, same, byQuarters, turned, rodrigues, byX, byY, byZ, zeros, constant, byAxis, rotation}
+use Rattle.rodrigues.specs.Rodrigues.{Arithmetic, Three, three, symmetric, sineCosine, same, byQuarters, turned, rodrigues, byX, byY, byZ, zeros, constant, byAxis, rotation}
 use Rattle.rodrigues.proofs.Ring.{add-assoc, add-comm, zero-add, neg-add, mul-assoc, mul-comm, one-mul, add-mul, laws}
 use Rattle.rodrigues.proofs.Derivation.{ring, Derivation, each}
 use Rattle.rodrigues.proofs.Derivatives.{formula, Variable, Direction, Sine, Cosine, derived, Derives, partial, axis, derivatives}

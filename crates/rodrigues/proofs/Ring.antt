@@ -1,5 +1,5 @@
 -- The laws of a commutative ring in a form for `simp`: `simp laws` sorts sums of products. Assumes nothing.
-use mathlib.Core.Path.{_≡_, refl, sym, _∙_, ap}
+use mathlib.Core.Path.{_≡_, sym, _∙_, ap}
 use mathlib.Mathlib.Algebra.Ring.Defs.{CommRing}
 
 module _ {R : Type 0} (C : CommRing R) where

@@ -106,14 +106,14 @@ module _ {A : Type 0} (K : Arithmetic A) where
   abbrev pub byAxis : (x y z : ℕ) → Three A → (s c k : A) → Nine A
   byAxis x y z a s c k =
       let o = K .zero in
-      let d = K .times (K .two) k in
+      let double = K .times (K .two) k in
       cond (same x y z 0 0 0) (rodrigues a s c k)
       (cond (same x y z 1 0 0) (byX a s k)
       (cond (same x y z 0 1 0) (byY a s k)
       (cond (same x y z 0 0 1) (byZ a s k)
-      (cond (same x y z 2 0 0) (symmetric d o o o o o)
-      (cond (same x y z 0 2 0) (symmetric o o o d o o)
-      (cond (same x y z 0 0 2) (symmetric o o o o o d)
+      (cond (same x y z 2 0 0) (symmetric double o o o o o)
+      (cond (same x y z 0 2 0) (symmetric o o o double o o)
+      (cond (same x y z 0 0 2) (symmetric o o o o o double)
       (cond (same x y z 0 1 1) (symmetric o o o o k o)
       (cond (same x y z 1 0 1) (symmetric o o k o o o)
       (cond (same x y z 1 1 0) (symmetric o k o o o o)
