@@ -47,12 +47,15 @@ filletGiven circle feet normals edge radius surface0 surface1 =
     (first (vectorCurveGiven (edge .0) (length (edge .1))) (first (curveGiven (radius .0) (length (radius .1)))
     (first (vectorSurfaceGiven (surface0 .0) (length (surface0 .1))) (vectorSurfaceGiven (surface1 .0) (length (surface1 .1))))))))
 
--- ---- the centre, the contacts and their parameters along the edge: the centre's order is n, the others' n + 1
-abbrev pub contactsGiven : ℕ → (center contact0 contact1 uv0 uv1 : ℕ) → ℕ
-contactsGiven n center contact0 contact1 uv0 uv1 =
+-- ---- the centre, the contacts and their parameters along the edge, by orders and lengths: the centre's order ends at 19, as the others have one more
+abbrev pub fiveGiven : (n center a contact0 b contact1 c uv0 d uv1 : ℕ) → ℕ
+fiveGiven n center a contact0 b contact1 c uv0 d uv1 =
     cond (ltb 19 n) 1
-    (first (vectorCurveGiven n center) (first (vectorCurveGiven (n + 1) contact0) (first (vectorCurveGiven (n + 1) contact1)
-    (first (parameterGiven (n + 1) uv0) (parameterGiven (n + 1) uv1)))))
+    (first (vectorCurveGiven n center) (first (vectorCurveGiven a contact0) (first (vectorCurveGiven b contact1) (first (parameterGiven c uv0) (parameterGiven d uv1)))))
+
+-- lent, for the centre at the order n
+abbrev pub contactsGiven : ℕ → (center contact0 contact1 uv0 uv1 : ℕ) → ℕ
+contactsGiven n center contact0 contact1 uv0 uv1 = let k = n + 1 in fiveGiven n center k contact0 k contact1 k uv0 k uv1
 
 unfoldable pub contactsInto : ℕ → (circle feet normals : List Float) → (edge radius surface0 surface1 : Listed) → Five → ℕ × Five
 contactsInto n circle feet normals edge radius surface0 surface1 out =
@@ -60,12 +63,11 @@ contactsInto n circle feet normals edge radius surface0 surface1 out =
     (contactsGiven n (length (out .0)) (length (out .1 .0)) (length (out .1 .1 .0)) (length (out .1 .1 .1 .0)) (length (out .1 .1 .1 .1)))) out
     (deliverContacts (centerContactAnswer (filletOf normals edge radius surface0 surface1) (circleWith circle feet) n) out)
 
--- ---- these five jets, handed over: the centre's order ends at 19, as the contacts have one more
+-- ---- these five jets, handed over
 abbrev pub dersGiven : (center contact0 contact1 uv0 uv1 : Listed) → ℕ
 dersGiven center contact0 contact1 uv0 uv1 =
-    first (orderGiven (center .0 + 1)) (first (vectorCurveGiven (center .0) (length (center .1))) (first (vectorCurveGiven (contact0 .0) (length (contact0 .1)))
-    (first (vectorCurveGiven (contact1 .0) (length (contact1 .1))) (first (parameterGiven (uv0 .0) (length (uv0 .1)))
-    (parameterGiven (uv1 .0) (length (uv1 .1)))))))
+    fiveGiven (center .0) (length (center .1)) (contact0 .0) (length (contact0 .1)) (contact1 .0) (length (contact1 .1))
+    (uv0 .0) (length (uv0 .1)) (uv1 .0) (length (uv1 .1))
 
 -- ---- the axis, the angle and its cosine, from these jets and the radius', which with the contacts has one order more than the centre
 unfoldable pub vderInfoInto : (center contact0 contact1 uv0 uv1 radius : Listed) → Float → Three → ℕ × Three

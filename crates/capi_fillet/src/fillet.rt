@@ -1,13 +1,13 @@
 // The fillet. A circle is centre, axis, angle, contact point 0, contact point 1; the parameters of its contact points stand apart.
 ghost use mathlib.Core.Path.{_≡_};
 ghost use mathlib.Core.List.{List};
-ghost use Prim.Native.Nat.{ℕ, _+_};
+ghost use Prim.Native.Nat.{ℕ};
 ghost use lib.Ieee.{Float};
 ghost use Rattle.rolling_ball_fillet.specs.Partials.{derivativeV, derivativeUV, derivativeVV};
 ghost use Rattle.rolling_ball_fillet.specs.PartialAnswer.{partialAnswer};
-ghost use Rattle.given.specs.Given.{first, orderGiven, countGiven, curveGiven, parameterGiven, vectorCurveGiven, vectorSurfaceGiven};
+ghost use Rattle.given.specs.Given.{first, orderGiven, countGiven, curveGiven, vectorCurveGiven, vectorSurfaceGiven};
 ghost use Rattle.fillet_lists.specs.Delivery.{Five, Three};
-ghost use Rattle.capi_fillet.specs.Fillet.{ordersGiven, rotationInto, circleInto, contactsGiven, contactsInto, vderInfoInto, partialBy, partialInto, subDerInto};
+ghost use Rattle.capi_fillet.specs.Fillet.{ordersGiven, rotationInto, circleInto, fiveGiven, contactsGiven, contactsInto, vderInfoInto, partialBy, partialInto, subDerInto};
 use fillet_lists::records;
 use float_lists::deliver;
 use float_lists::lists;
@@ -117,7 +117,7 @@ fn given_contacts(
     given_ders(n, center, k, contact0, k, contact1, k, uv0, k, uv1)
 }
 
-// The test of the jets of the centre, the contacts and their parameters, by the orders and the lengths.
+// The test of the jets of the centre, the contacts and their parameters, by the orders and the lengths. The centre's order ends at 19.
 fn given_ders(
     center_order: usize,
     center: usize,
@@ -130,8 +130,11 @@ fn given_ders(
     uv1_order: usize,
     uv1: usize,
 ) -> u8
-    ensures { λ r. ⌜ r ≡ first (vectorCurveGiven «center_order» center) (first (vectorCurveGiven «contact0_order» contact0) (first (vectorCurveGiven «contact1_order» contact1) (first (parameterGiven «uv0_order» uv0) (parameterGiven «uv1_order» uv1)))) ⌝ }
+    ensures { λ r. ⌜ r ≡ fiveGiven «center_order» center «contact0_order» contact0 «contact1_order» contact1 «uv0_order» uv0 «uv1_order» uv1 ⌝ }
 {
+    if 19 < center_order {
+        return 1;
+    }
     let a = given::vector_curve(center_order, center);
     let b = given::vector_curve(contact0_order, contact0);
     let c = given::vector_curve(contact1_order, contact1);
@@ -139,37 +142,6 @@ fn given_ders(
     let e = given::parameter(uv1_order, uv1);
     let de = given::first(d, e);
     given::first(a, given::first(b, given::first(c, de)))
-}
-
-// That test of a record that is handed over, and of its order.
-fn given_record(
-    center_order: usize,
-    center: usize,
-    contact0_order: usize,
-    contact0: usize,
-    contact1_order: usize,
-    contact1: usize,
-    uv0_order: usize,
-    uv0: usize,
-    uv1_order: usize,
-    uv1: usize,
-) -> u8
-    ensures { λ r. ⌜ r ≡ first (orderGiven («center_order» + 1)) (first (vectorCurveGiven «center_order» center) (first (vectorCurveGiven «contact0_order» contact0) (first (vectorCurveGiven «contact1_order» contact1) (first (parameterGiven «uv0_order» uv0) (parameterGiven «uv1_order» uv1))))) ⌝ }
-{
-    let k = given::order_sum(center_order, 1);
-    let d = given_ders(
-        center_order,
-        center,
-        contact0_order,
-        contact0,
-        contact1_order,
-        contact1,
-        uv0_order,
-        uv0,
-        uv1_order,
-        uv1,
-    );
-    given::first(k, d)
 }
 
 // That test's number, then the axis' and the angle's jets, and the list for one vector.
@@ -232,7 +204,7 @@ fn on_info(
 ) -> u8
     ensures { λ r. ⌜ _≡_ {A = ℕ × List Float} (r, now (out .exit)) (partialInto (partialBy op) («center_order», now (center .entry)) («contact0_order», now (contact0 .entry)) («contact1_order», now (contact1 .entry)) («uv0_order», now (uv0 .entry)) («uv1_order», now (uv1 .entry)) («axis_order», now (axis .entry)) («angle_order», now (angle .entry)) u s c (now (out .entry))) ⌝ }
 {
-    let g = given_record(
+    let g = given_ders(
         center_order,
         center.len(),
         contact0_order,
@@ -409,7 +381,7 @@ pub extern "C" fn sugamdely_vder_info(
 ) -> u8
     ensures { λ r. ⌜ _≡_ {A = ℕ × Three} (r, (now («axis_out» .exit), (now («angle_out» .exit), now («cosine_out» .exit)))) (vderInfoInto («center_order», now (center .entry)) («contact0_order», now (contact0 .entry)) («contact1_order», now (contact1 .entry)) («uv0_order», now (uv0 .entry)) («uv1_order», now (uv1 .entry)) («radius_order», now (radius .entry)) angle (now («axis_out» .entry), (now («angle_out» .entry), now («cosine_out» .entry)))) ⌝ }
 {
-    let g = given_record(
+    let g = given_ders(
         center_order,
         center.len(),
         contact0_order,

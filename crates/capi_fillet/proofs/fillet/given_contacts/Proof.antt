@@ -1,6 +1,5 @@
 -- `capi_fillet::fillet::given_contacts` meets its contract. Assumes nothing.
-use mathlib.Core.Path.{_∙_}
-use borrow.Author.Tests.{lt-ltb, le-ltb}
+use borrow.Author.Tests.{lt-ltb}
 use borrow.Author.Needs.{needs}
 use Rattle.capi_fillet.proofs.fillet.given_contacts.Statement.{statement}
 use Rattle.capi_fillet.proofs.fillet.given_contacts.Tie as tie
@@ -15,7 +14,7 @@ given-ders-requires : tie.Need-given-ders-requires
 given-ders-requires c κs = search needs
 
 returns-2 : tie.Need-returns-2
-returns-2 c = c .given-ders .ensures ∙ rw (le-ltb 19 (c .before .before .args .n) (c .before .if1 .left))
+returns-2 c = c .given-ders .ensures
 
 pub given-contacts-spec : {M : Type 1} → statement M
 given-contacts-spec = tie.close (tie.spec returns add-k given-ders-requires returns-2)
