@@ -1,14 +1,18 @@
 -- Document 01's figures that are to be proved, in its order, each as what a public function's contract says of it. By computation; assumes nothing.
 use mathlib.Core.Path.{_≡_, refl}
-use mathlib.Core.List.{List, [], _∷_, _++_}
-use Prim.Native.Nat.{ℕ, _^_, _-_}
+use mathlib.Core.Bool.{true, false}
+use mathlib.Core.List.{List, [], _∷_, _++_, map}
+use Prim.Native.Nat.{ℕ, _^_, _+_, _-_}
 use lib.IntN.{ℤ, pos}
-use lib.ListN.{replicate}
+use lib.ListN.{take, replicate}
 use lib.Ieee.{ofBits, ofInt, add, sub, mul, div, neg, eq}
-use Rattle.partitions.specs.Parts.{total, fact, parts, lists, divide, runsFrom, runs, multiplicity}
-use Rattle.partitions.specs.Count.{counted, falls, totalCount}
-use Rattle.partitions.specs.Walk.{started}
-use Rattle.partitions.specs.declared.Count.the-variants.{Value}
+use Rattle.partitions.specs.Parts.{total, fact, parts, divide, runsFrom, runs, multiplicity}
+use Rattle.partitions.specs.Count.{counted, falls, stirling, stirlingOf}
+use Rattle.partitions.specs.Walk.{same, from, padded, started, remaining, stepped}
+use Rattle.partitions.specs.declared.Composition.{Composition}
+use Rattle.partitions.specs.declared.Count.{Count}
+use Rattle.partitions.specs.declared.Count.the-variants.{Value, Refused}
+use Rattle.partitions.proofs.Walked.{items}
 use Rattle.whole.specs.declared.Whole.the-variants as whole
 use Rattle.whole.specs.Checked.{formed, divided}
 use Rattle.calculus.specs.InTurn.{inTurn, inRows, alongList}
@@ -39,11 +43,35 @@ use Rattle.vector_formulas.specs.Vector.{vectorNorm}
 use Rattle.vector_derivatives.specs.Answer.{byNorm, vectorCurves}
 use Rattle.derivatives.specs.Answer.{curves}
 
--- ---- part lists: `CompositionIter`, `multiplicity`
+-- ---- part lists: `CompositionIter::{try_new, step}`, `multiplicity`, `stirling_number`
+
+-- what a step hands out: a list, with zeros past it; or that the walk has ended
+abbrev handsOut : List ℕ → Composition
+handsOut l = record { refusal = 0; ended = false; parts = padded l }
+
+abbrev saysEnded : Composition
+saysEnded = record { refusal = 0; ended = true; parts = replicate 20 0 }
+
+-- the counts of the lists of len parts that are handed out; and counts added, where a refusal stays one
+abbrev counts : ℕ → List Composition → List Count
+counts len = map (λ c. counted (take len (c .parts)))
+
+abbrev plus : Count → Count → Count
+plus (Value m) (Value n) = Value (m + n)
+plus (Value m) (Refused c) = Refused c
+plus (Refused c) n = Refused c
+
+unfoldable pub added : List Count → Count
+added [] = Value 0
+added (c ∷ l) = plus c (added l)
 
 -- order 5, len 2: (4,1) counts 5, (3,2) counts 10, total 15
-pub lists-5-2 : lists 5 2 ≡ (4 ∷ 1 ∷ []) ∷ (3 ∷ 2 ∷ []) ∷ []
-unfolding parts
+pub start-5-2 : started 5 2 .refusal ≡ 0
+unfolding started parts
+start-5-2 = refl
+
+pub lists-5-2 : items 3 (started 5 2 .walk) ≡ handsOut (4 ∷ 1 ∷ []) ∷ handsOut (3 ∷ 2 ∷ []) ∷ saysEnded ∷ []
+unfolding items started stepped remaining from same parts
 lists-5-2 = refl
 
 pub count-4-1 : counted (4 ∷ 1 ∷ []) ≡ Value 5
@@ -54,13 +82,21 @@ pub count-3-2 : counted (3 ∷ 2 ∷ []) ≡ Value 10
 unfolding counted falls multiplicity divide runs runsFrom total fact
 count-3-2 = refl
 
-pub total-5-2 : totalCount (lists 5 2) ≡ 15
-unfolding parts multiplicity divide runs runsFrom total fact totalCount
+pub total-5-2 : added (counts 2 (items 2 (started 5 2 .walk))) ≡ Value 15
+unfolding items started stepped remaining from same parts counted falls multiplicity divide runs runsFrom total fact added
 total-5-2 = refl
 
+pub stirling-5-2 : stirlingOf 5 2 ≡ Value 15
+unfolding stirlingOf stirling
+stirling-5-2 = refl
+
 -- order 4, len 3: (2,1,1) counts 6
-pub lists-4-3 : lists 4 3 ≡ (2 ∷ 1 ∷ 1 ∷ []) ∷ []
-unfolding parts
+pub start-4-3 : started 4 3 .refusal ≡ 0
+unfolding started parts
+start-4-3 = refl
+
+pub lists-4-3 : items 2 (started 4 3 .walk) ≡ handsOut (2 ∷ 1 ∷ 1 ∷ []) ∷ saysEnded ∷ []
+unfolding items started stepped remaining from same parts
 lists-4-3 = refl
 
 pub count-2-1-1 : counted (2 ∷ 1 ∷ 1 ∷ []) ≡ Value 6
@@ -68,8 +104,12 @@ unfolding counted falls multiplicity divide runs runsFrom total fact
 count-2-1-1 = refl
 
 -- order 20: len 20 has one list, count 1; len 21 is refused 3
-pub lists-20-20 : lists 20 20 ≡ replicate 20 1 ∷ []
-unfolding parts
+pub start-20-20 : started 20 20 .refusal ≡ 0
+unfolding started parts
+start-20-20 = refl
+
+pub lists-20-20 : items 2 (started 20 20 .walk) ≡ handsOut (replicate 20 1) ∷ saysEnded ∷ []
+unfolding items started stepped remaining from same parts
 lists-20-20 = refl
 
 pub count-ones : counted (replicate 20 1) ≡ Value 1
