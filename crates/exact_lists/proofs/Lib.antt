@@ -1,1 +1,3 @@
 pub mod Numbers
+-- what is answered is written whole
+pub mod Delivered

@@ -1,1 +1,4 @@
 pub mod Admission
+-- what is answered is written whole
+pub mod Delivered
+pub mod Answered
