@@ -45,7 +45,7 @@ use Rattle.derivatives.specs.Answer.{curves}
 
 -- ---- part lists: `CompositionIter::{try_new, step}`, `multiplicity`, `stirling_number`
 
--- what a step hands out: a list, with zeros past it; or that the walk has ended
+-- `items n w` is what n steps of the walk w hand out, one after the other: each a list, with zeros past it, or that the walk has ended
 abbrev handsOut : List ℕ → Composition
 handsOut l = record { refusal = 0; ended = false; parts = padded l }
 

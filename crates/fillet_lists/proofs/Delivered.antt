@@ -35,13 +35,9 @@ use Rattle.rolling_ball_fillet.proofs.Tests.{order-below, or-left}
 use Rattle.float_lists.proofs.Lengths.{all-written}
 use Rattle.fillet_lists.specs.Delivery.{Three, Five, deliverInfo, deliverContacts}
 use Rattle.given.proofs.Admission.{allowed}
+use Rattle.given.proofs.Delivered.{by-test}
 use Rattle.vector_derivatives.specs.Answer.{vectorCurves}
 use Rattle.derivatives.specs.Answer.{parameters, curves}
-
--- a property of an answer, by the tests that lead to it
-by-test : {A : Type 0} (P : A → Type 0) (b : Bool) (x y : A) → (b ≡ true → P x) → (b ≡ false → P y) → P (cond b x y)
-by-test P true x y f g = f refl
-by-test P false x y f g = g refl
 
 and-left : (p q : Bool) → (p && q) ≡ true → p ≡ true
 and-left true q e = refl

@@ -1,3 +1,6 @@
+-- what is answered is written whole
+pub mod Finite
 pub mod Delivered
-pub mod Lengths
 pub mod VectorsDelivered
+-- lists of single values
+pub mod Lengths
