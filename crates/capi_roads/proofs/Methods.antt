@@ -18,7 +18,7 @@ use Rattle.calculus.specs.Array.{filled}
 use Rattle.calculus.specs.Orders.{someAbove20, smallest}
 use Rattle.calculus.specs.JetKind.{JetKind, answered, fromList, jetOfList}
 use Rattle.calculus.proofs.LoopFilling.{filled-length, filled-at}
-use Rattle.calculus.proofs.Tested.{plain-is, list-is, into-worked}
+use Rattle.calculus.proofs.Tested.{plain-is, list-is}
 use Rattle.exact.specs.declared.CurveAnswer.{CurveAnswer}
 use Rattle.exact.specs.declared.ParameterCurve.{ParameterCurve}
 use Rattle.exact.specs.Answer.{surfaces, parameters, curves}
@@ -30,6 +30,7 @@ use Rattle.roads.proofs.Inputs.{at-map, smallest-20}
 use Rattle.roads.proofs.Answered.{surfaces-keep, curves-keep, built-order, first-road-order, second-road-order}
 use Rattle.given.specs.Given.{first}
 use Rattle.given.specs.Lists.{deliver, admitted}
+use Rattle.given.proofs.Delivered.{whole, delivered}
 use Rattle.given.proofs.Admission.{one-fits, rest-fits, count-fits}
 use Rattle.capi_roads.specs.Recipes.{surfaceSize, total, jetAt, stepAt, blankStep, blankSurface, blankCurve, surfaceRecipe, curveRecipe, resultGiven, lentGiven, recipeGiven, roadGiven, surfaceRecipeInto, curveRecipeInto, roadInto}
 use Rattle.capi_roads.proofs.RecipeChecks.{untaken, fit}
@@ -55,19 +56,7 @@ pub record ListsOfRoad (orders : List ℕ) (entries : List ℤ) (steps : List �
 
 -- what a caller gets of an answer: all entries of the jet, beside 0; or the refusal's number, and the list lent as it was
 abbrev pub handed : {X E J A : Type 0} → JetKind X E J A → A → List X → ℕ × List X
-handed K a out = admitted (K .refusal a) out (0, K .list (K .numbers (K .jet a)) (K .order (K .jet a)))
-
--- ---- an answer goes into a list of the length that is due
-module _ {X E J A : Type 0} (K : JetKind X E J A) (finite : (x : E) (n : ℕ) → true ≡ K .finite x n) (a : A) (out : List X) where
-  delivered : (K .refusal a ≡ 0 → (K .order (K .jet a) ≤ 20) × (length out ≡ K .count (K .order (K .jet a)))) → deliver K a out ≡ handed K a out
-  unfolding deliver
-  delivered h = by (ℕ-discrete (K .refusal a) 0)
-    where
-      by : Dec (K .refusal a ≡ 0) → deliver K a out ≡ handed K a out
-      by (yes q) =
-          let w = h q in
-          ap (admitted (K .refusal a) out) (sym (into-worked K (K .jet a) out (w .0) refl (w .1) (finite (K .numbers (K .jet a)) (K .order (K .jet a))) refl))
-      by (no q) = rw (ne-eqb (K .refusal a) 0 q)
+handed K = whole K .deliver
 
 -- ---- the jets of the lists
 module _ {E J A : Type 0} (K : JetKind ℤ E J A) (orders : List ℕ) (entries : List ℤ) {steps : List ℕ} (g : ListsOfJets (K .count) orders entries steps) (i : ℕ) (h : i < length orders) where
@@ -193,7 +182,7 @@ module _ (orders : List ℕ) (entries : List ℤ) (steps : List ℕ) (m : ℕ) (
   road-handed road h =
       let a = road recipe curve n in
       ap (λ (t : ℕ). admitted t out (deliver curves a out)) (road-tested orders entries steps m c n out g)
-      ∙ delivered curves (λ x k. refl) a out (λ e. (omega (arith, h e), g .lent (h e .1) ∙ ap suc (sym (h e .0))))
+      ∙ delivered curves n a out (record { order = λ e. h e .0; low = λ e. h e .1; finite = λ e. refl }) (λ e. g .lent (h e .1))
 
   pub build-then-carry-is : roadInto buildThenCarry orders entries steps m c n out ≡ handed curves (buildThenCarry recipe curve n) out
   build-then-carry-is = road-handed buildThenCarry (first-road-order curve n recipe)
@@ -210,24 +199,22 @@ module _ (orders : List ℕ) (entries : List ℤ) (steps : List ℕ) (out : List
   unfolding surfaceRecipeInto surfaceRecipe
   recipe-surfaces-is g =
       let r = surfaceRecipe orders entries steps in
+      let o = built-order surfaces-keep (r .inputs) (r .surfaces) (r .steps) (r .program) in
       ap (λ (t : ℕ). admitted t out (deliver surfaces (builtSurface r) out)) (recipe-tested surfaceSize orders entries steps out g)
-      ∙ delivered surfaces (λ x k. refl) (builtSurface r) out
-      (λ e.
-      let o = built-order surfaces-keep (r .inputs) (r .surfaces) (r .steps) (r .program) e in
-      let s = o .2 ∙ ap smallest (orders-are surfaces (λ n x. refl) blankSurface orders entries (g .jets) (o .1)) in
-      (omega (arith, s, smallest-20 orders), g .lent (o .0) ∙ ap surfaceSize (sym s)))
+      ∙ delivered surfaces (smallest orders) (builtSurface r) out
+      (record { order = λ e. o e .2 ∙ ap smallest (orders-are surfaces (λ n x. refl) blankSurface orders entries (g .jets) (o e .1)); low = λ e. smallest-20 orders; finite = λ e. refl })
+      (λ e. g .lent (o e .0))
 
   pub recipe-curves-is : ListsOfRecipe suc orders entries steps out →
       curveRecipeInto orders entries steps out ≡ handed curves (builtCurve (curveRecipe orders entries steps)) out
   unfolding curveRecipeInto curveRecipe
   recipe-curves-is g =
       let r = curveRecipe orders entries steps in
+      let o = built-order curves-keep (r .inputs) (r .curves) (r .steps) (r .program) in
       ap (λ (t : ℕ). admitted t out (deliver curves (builtCurve r) out)) (recipe-tested suc orders entries steps out g)
-      ∙ delivered curves (λ x k. refl) (builtCurve r) out
-      (λ e.
-      let o = built-order curves-keep (r .inputs) (r .curves) (r .steps) (r .program) e in
-      let s = o .2 ∙ ap smallest (orders-are curves (λ n x. refl) blankCurve orders entries (g .jets) (o .1)) in
-      (omega (arith, s, smallest-20 orders), g .lent (o .0) ∙ ap suc (sym s)))
+      ∙ delivered curves (smallest orders) (builtCurve r) out
+      (record { order = λ e. o e .2 ∙ ap smallest (orders-are curves (λ n x. refl) blankCurve orders entries (g .jets) (o e .1)); low = λ e. smallest-20 orders; finite = λ e. refl })
+      (λ e. g .lent (o e .0))
 
 -- ---- a step of an operation that there is not: whatever else is given, the recipe is not well formed, and so is refused 4 where the road comes to it
 names-later : (ss : List Step) (m i : ℕ) → i < length ss → m + i ≤ getD ss i blankStep .left → namesEarlier m ss ≡ false

@@ -57,7 +57,7 @@ module _ {X E J A : Type 0} (K : JetKind X E J A) (s : Made K) where
 
     pub answered-delivered : K .finite x n ≡ true → (out : List X) → length out ≡ K .count n → deliver K (answered K n x) out ≡ pair 0 (K .list x n)
     answered-delivered p out e =
-        delivered K n (answered K n x) out (fit-answered p) e
+        delivered K n (answered K n x) out (fit-answered p) (λ _. e)
         ∙ sym (allowed out (sym (s .read .refusal 0 (K .made n x))) refl (ap (pair 0) (sym entries-answered)))
 
   -- a derivative, of one order less

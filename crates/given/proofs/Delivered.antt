@@ -69,7 +69,7 @@ module _ {X E J A : Type 0} (K : JetKind X E J A) where
     pub low : K .refusal a ≡ 0 → n ≤ 20
     pub finite : K .refusal a ≡ 0 → K .finite (K .numbers (K .jet a)) n ≡ true
 
-  pub delivered : (n : ℕ) (a : A) (out : List X) → Fit n a → length out ≡ K .count n → deliver K a out ≡ whole .deliver a out
+  pub delivered : (n : ℕ) (a : A) (out : List X) → Fit n a → (K .refusal a ≡ 0 → length out ≡ K .count n) → deliver K a out ≡ whole .deliver a out
   unfolding deliver
   delivered n a out f e = go (ℕ-discrete (K .refusal a) 0)
     where
@@ -78,7 +78,7 @@ module _ {X E J A : Type 0} (K : JetKind X E J A) where
           let o = f .order z in
           let low : K .order (K .jet a) ≤ 20 = subst (λ (k : ℕ). k ≤ 20) (sym o) (f .low z) in
           ap (admitted (K .refusal a) out)
-          (sym (into-worked K (K .jet a) out low refl (e ∙ ap (K .count) (sym o)) refl (ap not (ap (K .finite (K .numbers (K .jet a))) o ∙ f .finite z))))
+          (sym (into-worked K (K .jet a) out low refl (e z ∙ ap (K .count) (sym o)) refl (ap not (ap (K .finite (K .numbers (K .jet a))) o ∙ f .finite z))))
       go (no z) = rw (ne-eqb (K .refusal a) 0 z)
 
 -- ---- functions over lists, of whatever is read off them: what they leave
@@ -136,7 +136,7 @@ module _ {X E J A F L B G H C : Type 0} (K : JetKind X E J A) (M : JetKind X F L
             let q = list-fits (M .count) n (length b) (one-fits (listGiven (M .count) n (length b)) (listGiven (R .count) (min m n) (length out)) z′) in
             let o = list-fits (R .count) (min m n) (length out) (rest-fits (listGiven (M .count) n (length b)) (listGiven (R .count) (min m n) (length out)) z′) in
             let f = subst (λ (k : ℕ). Fit R k r) (ap₂ min (list-order K rk m a (p .0) (p .1)) (list-order M rm n b (q .0) (q .1))) (fit (jetOfList K m a) (jetOfList M n b)) in
-            ap (admitted test out) (delivered R (min m n) r out f (o .1))
+            ap (admitted test out) (delivered R (min m n) r out f (λ _. o .1))
         go (no z) = rw (ne-eqb test 0 z)
 
   -- at an order k that is asked
@@ -162,7 +162,7 @@ module _ {X E J A F L B G H C : Type 0} (K : JetKind X E J A) (M : JetKind X F L
             let z1 = rest-fits (listGiven (K .count) m (length a)) rest z in
             let z2 = rest-fits (listGiven (M .count) n (length b)) asked z1 in
             let o = list-fits (R .count) k (length out) (rest-fits (orderGiven k) (listGiven (R .count) k (length out)) z2) in
-            ap (admitted test out) (delivered R k r out (fit (jetOfList K m a) (jetOfList M n b)) (o .1))
+            ap (admitted test out) (delivered R k r out (fit (jetOfList K m a) (jetOfList M n b)) (λ _. o .1))
         go (no z) = rw (ne-eqb test 0 z)
 
 -- one jet of the order n, to an answer of the order k
@@ -182,5 +182,5 @@ module _ {X E J A G H C : Type 0} (K : JetKind X E J A) (R : JetKind X G H C) (r
       go (yes z) =
           let p = list-fits (K .count) n (length a) (one-fits (listGiven (K .count) n (length a)) (listGiven (R .count) k (length out)) z) in
           let o = list-fits (R .count) k (length out) (rest-fits (listGiven (K .count) n (length a)) (listGiven (R .count) k (length out)) z) in
-          ap (admitted test out) (delivered R k r out (fit (jetOfList K n a) (list-order K rk n a (p .0) (p .1))) (o .1))
+          ap (admitted test out) (delivered R k r out (fit (jetOfList K n a) (list-order K rk n a (p .0) (p .1))) (λ _. o .1))
       go (no z) = rw (ne-eqb test 0 z)
