@@ -14,15 +14,14 @@ use borrow.Author.Tests.{lt-ltb, le-ltb}
 use Rattle.booleans.proofs.Tests.{first, second}
 use Rattle.calculus.specs.Graded.{triangle, graded}
 use Rattle.calculus.specs.Array.{filled, curveArray, surfaceArray}
-use Rattle.calculus.specs.Order.{curveEntries, surfaceEntries}
+use Rattle.calculus.specs.Order.{curveEntries}
 use Rattle.calculus.proofs.LoopFilling.{filled-at}
 use Rattle.calculus.proofs.Graded.{room-231}
 use Rattle.derivatives.specs.declared.CurveDerivatives.{CurveDerivatives}
-use Rattle.derivatives.specs.declared.SurfaceDerivatives.{SurfaceDerivatives}
 use Rattle.ieee_vectors.specs.Vectors.{positiveZero}
 use Rattle.formulas.specs.Numbers.{curveNumbers, surfaceNumbers, allFinite, finiteCurve, finiteSurface}
 use Rattle.derivatives.specs.Names.{refusedCurve, refusedSurface, madeCurve, madeSurface, returnedCurve, returnedSurface}
-use Rattle.derivatives.specs.Answer.{curves, surfaces}
+use Rattle.derivatives.specs.Answer.{curves}
 use Rattle.formulas.proofs.Finite.{same, surface-finite}
 use Rattle.calculus.proofs.Tested.{returned-as, pair, into-worked}
 use Rattle.calculus.specs.JetKind.{intoList}
@@ -64,7 +63,3 @@ less-uncut f n l =
 pub into-is : (a : CurveDerivatives) (out : List Float) → a .order ≤ 20 → length out ≡ a .order + 1 →
     finiteCurve (curveNumbers (a .entries)) (a .order) ≡ true → pair 0 (curveEntries (curveNumbers (a .entries)) (a .order)) ≡ intoList curves a out
 into-is a out h e p = into-worked curves a out h (add-one (a .order)) e refl (ap not p)
-
-pub surface-into-is : (a : SurfaceDerivatives) (out : List Float) → a .order ≤ 20 → length out ≡ triangle (suc (a .order)) →
-    finiteSurface (surfaceNumbers (a .entries)) (a .order) ≡ true → pair 0 (surfaceEntries (surfaceNumbers (a .entries)) (a .order)) ≡ intoList surfaces a out
-surface-into-is a out h e p = into-worked surfaces a out h refl e refl (ap not p)
