@@ -18,77 +18,82 @@ static int64_t exact_curve[21], exact_surface[231], exact_parameters[42], exact_
 static size_t walk[23], parts[20], four_orders[4] = {ORDER, ORDER, ORDER, ORDER};
 static const size_t steps[36] = {2, 0, 1, 0, 2, 4, 2, 3, 5, 0, 3, 6, 1, 6, 7, 3, 7, 0, 0, 8, 9, 1, 9, 10, 2, 0, 0, 0, 11, 12, 1, 12, 13, 0, 13, 14};
 
+/* What is refused may take less. */
+static void must(unsigned refusal) {
+    if (refusal != 0) printf("refused %u\n", refusal);
+}
+
 /* Each family: its calls, one after the other. */
 static void nothing(void) {}
 
 static void whole_numbers(void) {
-    sugamdely_whole_sum(1, 2, exact_out, 1);
-    sugamdely_whole_product(3, 4, exact_out, 1);
-    sugamdely_whole_quotient(12, 4, exact_out, 1);
+    must(sugamdely_whole_sum(1, 2, exact_out, 1));
+    must(sugamdely_whole_product(3, 4, exact_out, 1));
+    must(sugamdely_whole_quotient(12, 4, exact_out, 1));
 }
 
 static void part_lists(void) {
     uint64_t count;
-    sugamdely_walk_start(20, 7, walk, 23);
-    sugamdely_walk_next(walk, 23, parts, 20);
-    sugamdely_multiplicity(parts, 7, &count, 1);
-    sugamdely_stirling_number(20, 7, &count, 1);
+    must(sugamdely_walk_start(20, 7, walk, 23));
+    must(sugamdely_walk_next(walk, 23, parts, 20));
+    must(sugamdely_multiplicity(parts, 7, &count, 1));
+    must(sugamdely_stirling_number(20, 7, &count, 1));
 }
 
 static void exact_jets(void) {
-    sugamdely_exact_surface_sum(ORDER, exact_surface, 231, ORDER, exact_surface, 231, exact_out, 231);
-    sugamdely_exact_surface_combinatorial_derivatives(ORDER, exact_surface, 231, ORDER, exact_surface, 231, exact_out, 231);
-    sugamdely_exact_surface_quotient(ORDER, exact_surface, 231, ORDER, exact_surface, 231, exact_out, 231);
-    sugamdely_exact_composite_derivatives(12, exact_surface, 91, 12, exact_parameters, 26, 12, exact_out, 13);
+    must(sugamdely_exact_surface_sum(ORDER, exact_surface, 231, ORDER, exact_surface, 231, exact_out, 231));
+    must(sugamdely_exact_surface_combinatorial_derivatives(ORDER, exact_surface, 231, ORDER, exact_surface, 231, exact_out, 231));
+    must(sugamdely_exact_surface_quotient(ORDER, exact_surface, 231, ORDER, exact_surface, 231, exact_out, 231));
+    must(sugamdely_exact_composite_derivatives(12, exact_surface, 91, 12, exact_parameters, 26, 12, exact_out, 13));
 }
 
 static void recipes(void) {
-    sugamdely_recipe_surfaces(four_orders, 4, four_surfaces, 924, steps, 36, exact_out, 231);
-    sugamdely_recipe_curves(four_orders, 4, four_curves, 84, steps, 36, exact_out, 21);
+    must(sugamdely_recipe_surfaces(four_orders, 4, four_surfaces, 924, steps, 36, exact_out, 231));
+    must(sugamdely_recipe_curves(four_orders, 4, four_curves, 84, steps, 36, exact_out, 21));
 }
 
 static void roads(void) {
-    sugamdely_build_then_carry(four_orders, 4, four_surfaces, 924, steps, 36, ORDER, exact_parameters, 42, 8, exact_out, 9);
-    sugamdely_carry_then_build(four_orders, 4, four_surfaces, 924, steps, 36, ORDER, exact_parameters, 42, 8, exact_out, 9);
+    must(sugamdely_build_then_carry(four_orders, 4, four_surfaces, 924, steps, 36, ORDER, exact_parameters, 42, 8, exact_out, 9));
+    must(sugamdely_carry_then_build(four_orders, 4, four_surfaces, 924, steps, 36, ORDER, exact_parameters, 42, 8, exact_out, 9));
 }
 
 static void float_curves(void) {
-    sugamdely_curve_sum(ORDER, curve, 21, ORDER, curve, 21, out, 21);
-    sugamdely_curve_combinatorial_derivatives(ORDER, curve, 21, ORDER, curve, 21, out, 21);
-    sugamdely_curve_rational_derivatives(ORDER, curve, 21, ORDER, curve, 21, out, 21);
+    must(sugamdely_curve_sum(ORDER, curve, 21, ORDER, curve, 21, out, 21));
+    must(sugamdely_curve_combinatorial_derivatives(ORDER, curve, 21, ORDER, curve, 21, out, 21));
+    must(sugamdely_curve_rational_derivatives(ORDER, curve, 21, ORDER, curve, 21, out, 21));
 }
 
 static void float_surfaces(void) {
-    sugamdely_surface_sum(ORDER, surface, 231, ORDER, surface, 231, out, 231);
-    sugamdely_surface_combinatorial_derivatives(ORDER, surface, 231, ORDER, surface, 231, out, 231);
-    sugamdely_surface_rational_derivatives(ORDER, surface, 231, ORDER, surface, 231, out, 231);
-    sugamdely_composite_derivatives(12, surface, 91, 12, parameters, 26, 12, out, 13);
+    must(sugamdely_surface_sum(ORDER, surface, 231, ORDER, surface, 231, out, 231));
+    must(sugamdely_surface_combinatorial_derivatives(ORDER, surface, 231, ORDER, surface, 231, out, 231));
+    must(sugamdely_surface_rational_derivatives(ORDER, surface, 231, ORDER, surface, 231, out, 231));
+    must(sugamdely_composite_derivatives(12, surface, 91, 12, parameters, 26, 12, out, 13));
 }
 
 static void vector_curves(void) {
-    sugamdely_vector_curve_sum(ORDER, vectors, 63, ORDER, vectors, 63, out, 63);
-    sugamdely_curve_combinatorial_derivatives_cross(ORDER, vectors, 63, ORDER, vectors, 63, out, 63);
-    sugamdely_vector_curve_rational_derivatives(ORDER, vectors, 63, ORDER, curve, 21, out, 63);
-    sugamdely_curve_absolute_derivatives(ORDER, vectors, 63, out, 21);
+    must(sugamdely_vector_curve_sum(ORDER, vectors, 63, ORDER, vectors, 63, out, 63));
+    must(sugamdely_curve_combinatorial_derivatives_cross(ORDER, vectors, 63, ORDER, vectors, 63, out, 63));
+    must(sugamdely_vector_curve_rational_derivatives(ORDER, vectors, 63, ORDER, curve, 21, out, 63));
+    must(sugamdely_curve_absolute_derivatives(ORDER, vectors, 63, out, 21));
 }
 
 static void vector_surfaces(void) {
-    sugamdely_vector_surface_sum(ORDER, vector_surface, 693, ORDER, vector_surface, 693, out, 693);
-    sugamdely_surface_combinatorial_derivatives_cross(ORDER, vector_surface, 693, ORDER, vector_surface, 693, out, 693);
-    sugamdely_vector_surface_rational_derivatives(ORDER, vector_surface, 693, ORDER, surface, 231, out, 693);
-    sugamdely_surface_absolute_derivatives(ORDER, vector_surface, 693, out, 231);
-    sugamdely_vector_composite_derivatives(12, vector_surface, 273, 12, parameters, 26, 12, out, 39);
+    must(sugamdely_vector_surface_sum(ORDER, vector_surface, 693, ORDER, vector_surface, 693, out, 693));
+    must(sugamdely_surface_combinatorial_derivatives_cross(ORDER, vector_surface, 693, ORDER, vector_surface, 693, out, 693));
+    must(sugamdely_vector_surface_rational_derivatives(ORDER, vector_surface, 693, ORDER, surface, 231, out, 693));
+    must(sugamdely_surface_absolute_derivatives(ORDER, vector_surface, 693, out, 231));
+    must(sugamdely_vector_composite_derivatives(12, vector_surface, 273, 12, parameters, 26, 12, out, 39));
 }
 
 static void single_values(void) {
-    sugamdely_square_root(2, out, 1);
-    sugamdely_vector_cross(vectors, 3, vectors, 3, out, 3);
-    sugamdely_matrix3_inverse((double[]){2, 0, 0, 0, 3, 0, 0, 0, 4}, 9, out, 9);
+    must(sugamdely_square_root(2, out, 1));
+    must(sugamdely_vector_cross(vectors, 3, vectors, 3, out, 3));
+    must(sugamdely_matrix3_inverse((double[]){2, 0, 0, 0, 3, 0, 0, 0, 4}, 9, out, 9));
 }
 
 static void rotations(void) {
-    sugamdely_rot_der_n(1, 0, 0, 1, vectors, 3, 0.6, 0.8, out, 9);
-    sugamdely_contact_circle_derivative_n(4, circle, 13, 0.6, 0.8, out, 3);
+    must(sugamdely_rot_der_n(1, 0, 0, 1, vectors, 3, 0.6, 0.8, out, 9));
+    must(sugamdely_contact_circle_derivative_n(4, circle, 13, 0.6, 0.8, out, 3));
 }
 
 static unsigned contacts(size_t n, size_t order) {
@@ -98,26 +103,25 @@ static unsigned contacts(size_t n, size_t order) {
 }
 
 static void centre(void) {
-    if (contacts(2, 3) != 0) puts("the centre is refused");
+    must(contacts(2, 3));
 }
 
 /* These read the jets that the centre at order 2 left. */
 static void axis_and_angle(void) {
     static double axis[9], angle[3], cosine[1];
-    if (sugamdely_vder_info(2, outs[0], 9, 3, outs[1], 12, 3, outs[2], 12, 3, outs[3], 8, 3, outs[4], 8, 3, radius, 4, 1.5, axis, 9, angle, 3,
-        cosine, 1) != 0) puts("axis and angle are refused");
+    must(sugamdely_vder_info(2, outs[0], 9, 3, outs[1], 12, 3, outs[2], 12, 3, outs[3], 8, 3, outs[4], 8, 3, radius, 4, 1.5, axis, 9, angle, 3,
+        cosine, 1));
 }
 
 static void partial_of_jets(void) {
     static const double axis[9] = {1, 0, 0}, angle[3] = {1.5, 0, 0};
-    if (sugamdely_derivative_vv(2, outs[0], 9, 3, outs[1], 12, 3, outs[2], 12, 3, outs[3], 8, 3, outs[4], 8, 2, axis, 9, 2, angle, 3, 0.5, 0.6,
-        0.8, out, 3) != 0) puts("a partial is refused");
+    must(sugamdely_derivative_vv(2, outs[0], 9, 3, outs[1], 12, 3, outs[2], 12, 3, outs[3], 8, 3, outs[4], 8, 2, axis, 9, 2, angle, 3, 0.5, 0.6,
+        0.8, out, 3));
 }
 
 static void partial_of_the_fillet(void) {
     for (size_t n = 0; n < 3; n++) {
-        if (sugamdely_sub_der_mn(0, n, circle, 13, feet, 4, normals, 6, 3, edge, 12, 3, radius, 4, 3, plane0, 30, 3, plane1, 30, 1.5, 0.5, 0.6, 0.8, out, 3) != 0)
-            puts("a partial of the fillet is refused");
+        must(sugamdely_sub_der_mn(0, n, circle, 13, feet, 4, normals, 6, 3, edge, 12, 3, radius, 4, 3, plane0, 30, 3, plane1, 30, 1.5, 0.5, 0.6, 0.8, out, 3));
     }
 }
 
