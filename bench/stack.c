@@ -1,4 +1,5 @@
-/* How much stack a call takes: a family's calls run on a stack of their own that was painted before, and what is no longer painted counts.
+/* How much stack a call takes: a family's calls run on a stack of their own that was painted before, and what is no longer painted counts. Exit code 1 if a
+   family takes more than the header says.
 
    for name in exact roads floats vectors fillet; do rt staticlib capi_$name; done
    cc -O2 -Iinclude -o target/stack bench/stack.c target/staticlib/libcapi_*.a && target/stack */
@@ -18,9 +19,11 @@ static int64_t exact_curve[21], exact_surface[231], exact_parameters[42], exact_
 static size_t walk[23], parts[20], four_orders[4] = {ORDER, ORDER, ORDER, ORDER};
 static const size_t steps[36] = {2, 0, 1, 0, 2, 4, 2, 3, 5, 0, 3, 6, 1, 6, 7, 3, 7, 0, 0, 8, 9, 1, 9, 10, 2, 0, 0, 0, 11, 12, 1, 12, 13, 0, 13, 14};
 
+static int failures = 0;
+
 /* What is refused may take less. */
 static void must(unsigned refusal) {
-    if (refusal != 0) printf("refused %u\n", refusal);
+    if (refusal != 0) printf("refused %u\n", refusal), failures = 1;
 }
 
 /* Each family: its calls, one after the other. */
@@ -125,14 +128,27 @@ static void partial_of_the_fillet(void) {
     }
 }
 
+/* With what the header says that a family takes at most. */
 static const struct {
     const char *name;
     void (*calls)(void);
+    size_t said;
 } families[] = {
-    {"whole numbers", whole_numbers}, {"part lists", part_lists}, {"exact jets", exact_jets}, {"recipes", recipes}, {"roads", roads},
-    {"single floats, vectors, matrices", single_values}, {"jets of floats, curves", float_curves}, {"jets of floats, surfaces", float_surfaces},
-    {"jets of vectors, curves", vector_curves}, {"jets of vectors, surfaces", vector_surfaces}, {"rotations, circle", rotations}, {"centre and contacts", centre},
-    {"axis and angle", axis_and_angle}, {"partials of given jets", partial_of_jets}, {"partials of the fillet", partial_of_the_fillet},
+    {"whole numbers", whole_numbers, 4000},
+    {"part lists", part_lists, 4000},
+    {"exact jets", exact_jets, 24000},
+    {"recipes", recipes, 92000},
+    {"roads", roads, 92000},
+    {"single floats, vectors, matrices", single_values, 4000},
+    {"jets of floats, curves", float_curves, 22000},
+    {"jets of floats, surfaces", float_surfaces, 22000},
+    {"jets of vectors, curves", vector_curves, 70000},
+    {"jets of vectors, surfaces", vector_surfaces, 70000},
+    {"rotations, circle", rotations, 4000},
+    {"centre and contacts", centre, 118000},
+    {"axis and angle", axis_and_angle, 20000},
+    {"partials of given jets", partial_of_jets, 20000},
+    {"partials of the fillet", partial_of_the_fillet, 130000},
 };
 
 static size_t taken(void (*calls)(void)) {
@@ -168,6 +184,9 @@ int main(void) {
     plane(plane1, 3, (double[]){0, 0, 1}, 2, 0);
     size_t least = taken(nothing);
     for (size_t k = 0; k < sizeof families / sizeof *families; k++) {
-        printf("%-34s %7zu bytes\n", families[k].name, taken(families[k].calls) - least);
+        size_t bytes = taken(families[k].calls) - least;
+        printf("%-34s %7zu bytes%s\n", families[k].name, bytes, bytes > families[k].said ? ", more than the header says" : "");
+        failures |= bytes > families[k].said;
     }
+    return failures;
 }

@@ -312,10 +312,12 @@ pub fn composite_derivatives(kind: Kind, a: &[f64], uv: &[f64]) -> Option<Vec<f6
     })
 }
 
-/// The carry of a surface of vectors on jets that are there already: for measuring. It gives the list of the answer.
-pub fn timed_carry(a: &[f64], uv: &[f64]) -> impl Fn() -> Vec<f64> {
+/// The carry of a surface of vectors on jets that are there already, and nothing else: for measuring.
+pub fn timed_carry(a: &[f64], uv: &[f64]) -> impl Fn() {
     let (a, uv) = (surface::<Vector3>(a), curve::<Vector2>(uv));
-    move || curve_list(&std::hint::black_box(&a).composite_derivatives(std::hint::black_box(&uv)))
+    move || {
+        std::hint::black_box(std::hint::black_box(&a).composite_derivatives(std::hint::black_box(&uv)));
+    }
 }
 
 // Rotations.
