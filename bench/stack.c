@@ -14,7 +14,7 @@ enum { SIZE = 1 << 20, PAINT = 0xA5, ORDER = 20 };
 /* Lists of any order up to 20: entry 0 is one, and the others are small. */
 static double curve[21], vectors[63], surface[231], vector_surface[693], parameters[42], out[700], outs[5][80];
 static double circle[13] = {0, 1, 1, 1, 0, 0, 1.5, 0, 1, 0, 0, 0, 1}, feet[4] = {0, 1, 1, 0}, normals[6] = {0, 0, 1, 0, 1, 0};
-static double edge[63], plane0[693], plane1[693], radius[21];
+static double edge[63], plane0[693], plane1[693], long_plane0[693], long_plane1[693], radius[21];
 static int64_t exact_curve[21], exact_surface[231], exact_parameters[42], exact_out[231], four_surfaces[924], four_curves[84];
 static size_t walk[23], parts[20], four_orders[4] = {ORDER, ORDER, ORDER, ORDER};
 static const size_t steps[36] = {2, 0, 1, 0, 2, 4, 2, 3, 5, 0, 3, 6, 1, 6, 7, 3, 7, 0, 0, 8, 9, 1, 9, 10, 2, 0, 0, 0, 11, 12, 1, 12, 13, 0, 13, 14};
@@ -99,14 +99,15 @@ static void rotations(void) {
     must(sugamdely_contact_circle_derivative_n(4, circle, 13, 0.6, 0.8, out, 3));
 }
 
-static unsigned contacts(size_t n, size_t order) {
-    size_t count = 3 * (order + 1) * (order + 2) / 2;
-    return sugamdely_sub_center_contacts_ders(n, circle, 13, feet, 4, normals, 6, order, edge, 3 * (order + 1), order, radius, order + 1, order, plane0, count,
-        order, plane1, count, outs[0], 3 * (n + 1), outs[1], 3 * (n + 2), outs[2], 3 * (n + 2), outs[3], 2 * (n + 2), outs[4], 2 * (n + 2));
+static unsigned contacts(size_t n, const double *surface0, const double *surface1) {
+    size_t order = n + 1, count = 3 * (order + 1) * (order + 2) / 2;
+    return sugamdely_sub_center_contacts_ders(n, circle, 13, feet, 4, normals, 6, order, edge, 3 * (order + 1), order, radius, order + 1, order, surface0, count,
+        order, surface1, count, outs[0], 3 * (n + 1), outs[1], 3 * (n + 2), outs[2], 3 * (n + 2), outs[3], 2 * (n + 2), outs[4], 2 * (n + 2));
 }
 
 static void centre(void) {
-    must(contacts(2, 3));
+    must(contacts(19, long_plane0, long_plane1));
+    must(contacts(2, plane0, plane1));
 }
 
 /* These read the jets that the centre at order 2 left. */
@@ -145,7 +146,7 @@ static const struct {
     {"jets of vectors, curves", vector_curves, 70000},
     {"jets of vectors, surfaces", vector_surfaces, 70000},
     {"rotations, circle", rotations, 4000},
-    {"centre and contacts", centre, 118000},
+    {"centre and contacts", centre, 120000},
     {"axis and angle", axis_and_angle, 20000},
     {"partials of given jets", partial_of_jets, 20000},
     {"partials of the fillet", partial_of_the_fillet, 130000},
@@ -180,8 +181,11 @@ int main(void) {
     for (int k = 1; k < 231; k++) surface[k] = 0.001, vector_surface[3 * k] = 0.001;
     exact_curve[0] = exact_surface[0] = exact_parameters[2] = exact_parameters[3] = 1;
     for (int k = 0; k < 4; k++) four_surfaces[231 * k] = four_curves[21 * k] = 1;
-    plane(plane0, 3, (double[]){0, 1, 0}, 0, 1);
-    plane(plane1, 3, (double[]){0, 0, 1}, 2, 0);
+    const double p0[] = {0, 1, 0}, p1[] = {0, 0, 1};
+    plane(plane0, 3, p0, 0, 1);
+    plane(plane1, 3, p1, 2, 0);
+    plane(long_plane0, ORDER, p0, 0, 1);
+    plane(long_plane1, ORDER, p1, 2, 0);
     size_t least = taken(nothing);
     for (size_t k = 0; k < sizeof families / sizeof *families; k++) {
         size_t bytes = taken(families[k].calls) - least;

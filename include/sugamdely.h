@@ -43,13 +43,13 @@
 
    THE PROCESSOR. Floats are worked under the caller's rounding mode and flags; no call looks at these or changes them. What the contracts say holds
    under round to nearest, with subnormal numbers kept (neither flush-to-zero nor denormals-are-zero) and exceptions masked: as a program starts, unless it is
-   linked with -ffast-math, which sets both flags. With them (1e-310)/(1e-310) is 0, or is refused 7, and the root of 1e-310 is a subnormal number; rounding to
+   linked with -ffast-math, which sets both flags. (1e-310)/(1e-310) is 0 with the first, and refused 7 with both, with which the root of 1e-310 is a subnormal number; rounding to
    zero answers 2^1023 times 2, which is refused 10 (bench/environment.c shows these). Nothing traps, unless the caller has unmasked exceptions. Whole numbers
    and part lists do not depend on it.
 
    THREADS. No call keeps anything from one to the next, so any number of threads may call at once, each with outputs of its own.
 
-   STACK. The most that was seen, in bytes (bench/stack.c measures it): partials of the fillet 130,000; centre and contacts 118,000; recipes and roads 92,000;
+   STACK. The most that was seen, in bytes (bench/stack.c measures it): partials of the fillet 130,000; centre and contacts 120,000; recipes and roads 92,000;
    jets of vectors 70,000; exact jets 24,000; jets of floats 22,000; axis, angle and partials of given jets 20,000; the rest 4,000 or less. */
 #ifndef SUGAMDELY_H
 #define SUGAMDELY_H
@@ -113,8 +113,8 @@ uint8_t sugamdely_exact_composite_derivatives(size_t a_order, const int64_t *a, 
 
 /* ---- Recipes: 1 to 4 exact jets, numbered from 0, then 1 to 12 steps, numbered on from them. orders has the order of each jet, entries
    their lists one after the other, steps three numbers a step: what it does (0 sum, 1 difference, 2 product, 3 quotient), and the numbers of
-   its left and its right jet. The last step is the answer. Every step works at the smallest order among the jets, which is the answer's.
-   Refusals 4, 7, 8, 9. */
+   its left and its right jet. The last step is the answer. Every step works at the smallest order among the jets, which is the answer's;
+   without a jet no length is due of out. Refusals 4, 7, 8, 9. */
 
 uint8_t sugamdely_recipe_surfaces(const size_t *orders, size_t orders_len, const int64_t *entries, size_t entries_len, const size_t *steps, size_t steps_len, int64_t *out, size_t out_len);
 uint8_t sugamdely_recipe_curves(const size_t *orders, size_t orders_len, const int64_t *entries, size_t entries_len, const size_t *steps, size_t steps_len, int64_t *out, size_t out_len);

@@ -14,8 +14,9 @@ const ROWS: &[(&str, fn())] = &[
     ("product", products),
     ("carry", carries),
     ("curve quotient, entry 0", quotient_entry_0),
-    ("curve quotient, grouping", quotient_grouping),
+    ("curve quotient, one sum", quotient_one_sum),
     ("curve quotient, overflow", quotient_overflow),
+    ("surface quotient", surface_quotient),
     ("norm, entry 0", norm_entry_0),
     ("norm, later entries", norm_from_zero),
     ("surface norm", surface_norm),
@@ -34,6 +35,7 @@ const ROWS: &[(&str, fn())] = &[
     ("normals along the edge", normals_along),
     ("axis and angle from contacts of order n", contacts_of_order_n),
     ("axis and angle from a longer radius", longer_radius),
+    ("axis and angle from a shorter radius", shorter_radius),
     ("partials from contacts of their order", partials_of_order),
     ("a record whose centre has order 20", center_of_order_20),
     ("the angle's cosine", cosine),
@@ -162,7 +164,7 @@ fn quotient_entry_0() {
     here("surface_rational_derivatives", &of_two(&[MINUS], &[-1.0]), 0, &[0.0]);
 }
 
-fn quotient_grouping() {
+fn quotient_one_sum() {
     let two_52 = 4503599627370496.0;
     let (x, w) = ([1.0, two_52 + 1.0, 2.0 * two_52], [1.0; 3]);
     same(curve_rational_derivatives(Kind::Floats, &x, &w), &[1.0, two_52, 0.0]);
@@ -173,6 +175,18 @@ fn quotient_overflow() {
     let (x, w) = ([0.0; 3], [1.0, 1.0e308, 0.0]);
     assert!(curve_rational_derivatives(Kind::Floats, &x, &w).unwrap()[2].is_nan());
     refused_here("curve_rational_derivatives", &of_two(&x, &w), 10);
+}
+
+fn surface_quotient() {
+    let two_52 = 4503599627370496.0;
+    let along = |x: [f64; 3]| surface_by(2, 1, |i, j, _| if j == 0 { x[i] } else { 0.0 });
+    let (x, w) = (along([1.0, two_52 + 1.0, 2.0 * two_52]), along([1.0; 3]));
+    let wanted = along([1.0, two_52, 0.0]);
+    same(surface_rational_derivatives(Kind::Floats, &x, &w), &wanted);
+    here("surface_rational_derivatives", &[jet(2, &x), jet(2, &w)].concat(), 0, &wanted);
+    let (x, w) = (along([0.0; 3]), along([1.0, 1.0e308, 0.0]));
+    assert!(surface_rational_derivatives(Kind::Floats, &x, &w).unwrap()[5].is_nan());
+    refused_here("surface_rational_derivatives", &[jet(2, &x), jet(2, &w)].concat(), 10);
 }
 
 fn norm_entry_0() {
@@ -295,14 +309,15 @@ fn contact_jets() {
 }
 
 fn normals_along() {
-    let mut given = two_planes(0.0, &[1.0, 1.0, 0.0], true);
-    given.normals.iter_mut().for_each(|x| *x = -*x);
-    let along = surface_infos(&given, 1, 1).unwrap().0;
-    // The plane's first normal is given as (0, -1, 0), and its derivative comes from the cross product (0, 1, 0).
-    assert_eq!(along[0].nders[..3], [0.0, -1.0, 0.0]);
-    assert_eq!(along[0].crossders[..3], [0.0, 1.0, 0.0]);
-    let contacts = sub_center_contacts_ders(&given, 1).unwrap();
-    here("sub_center_contacts_ders", &center_at(1, &given), 0, &listed(&contacts));
+    let given = two_spheres(0.5, 3);
+    let mut against = given.clone();
+    against.normals.iter_mut().for_each(|x| *x = -*x);
+    let normals = |given: &Given| surface_infos(given, 2, 1).unwrap().0.map(|side| side.nders);
+    let ([with, _], [other, _]) = (normals(&given), normals(&against));
+    assert!(with[..3].iter().zip(&other[..3]).all(|(x, y)| *x == -*y));
+    assert!(with[3..6].iter().zip(&other[3..6]).any(|(x, y)| *x != -*y));
+    let contacts = sub_center_contacts_ders(&against, 2).unwrap();
+    here("sub_center_contacts_ders", &center_at(2, &against), 0, &listed(&contacts));
 }
 
 // Axis, angle and partials.
@@ -329,6 +344,13 @@ fn longer_radius() {
     let contacts = still(1, X, Y);
     assert_eq!(vder_info(&contacts, &[1.0, 0.0, 0.0], 0.5), None);
     here("vder_info", &info_of(&contacts, &[1.0, 0.0, 0.0], 0.5), 0, &[0.0, 0.0, 1.0, 0.5, 0.0]);
+}
+
+fn shorter_radius() {
+    let contacts = with_center(still(2, X, Y), 1);
+    let answer = vder_info(&contacts, &[1.0, 0.5], 0.5).unwrap();
+    assert_eq!((answer.axis.len(), answer.angle.len()), (6, 1));
+    refused_here("vder_info", &info_of(&contacts, &[1.0, 0.5], 0.5), 2);
 }
 
 /// Five jets of the partial (0,1) and its axis, angle and place: all stand still.
@@ -367,11 +389,14 @@ fn cosine_below() {
 }
 
 fn no_radius() {
+    let contacts = with_center(still(2, X, Y), 1);
+    let answer = vder_info(&contacts, &[0.0; 3], 0.5).unwrap();
+    assert!(answer.angle[1].is_nan() && answer.cosine == 1.0);
+    refused_here("vder_info", &info_of(&contacts, &[0.0; 3], 0.5), 7);
+    // Where only the square is zero, so is the cosine's divisor.
     let contacts = still(1, X, Y);
-    // The ratio r'/r is a number, the square is zero: zero over zero is no number, and the clamp makes it 1.
     assert_eq!(vder_info(&contacts, &[1.0e-170, 0.0], 0.5).unwrap().cosine, 1.0);
     refused_here("vder_info", &info_of(&contacts, &[1.0e-170, 0.0], 0.5), 7);
-    refused_here("vder_info", &info_of(&contacts, &[0.0, 0.0], 0.5), 7);
 }
 
 fn at_pair(m: u64, n: u64, given: &Given) -> Vec<Item> { [vec![Whole(m), Whole(n)], fillet(given), vec![Floats(vec![0.5, 0.25, 0.28, 0.96])]].concat() }

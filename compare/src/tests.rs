@@ -352,18 +352,6 @@ fn a_growing_radius_enters_with_a_plus() {
 }
 
 #[test]
-fn the_given_normal_is_used_at_entry_0_only() {
-    // Normals against the cross product of the surface's directions: their jets turn the wrong way from order 1 on.
-    let given = crate::inputs::two_spheres(0.5, 3);
-    let mut against = given.clone();
-    against.normals.iter_mut().for_each(|x| *x = -*x);
-    let normals = |given: &Given| surface_infos(given, 2, 1).unwrap().0.map(|side| side.nders);
-    let ([with, _], [other, _]) = (normals(&given), normals(&against));
-    assert!(with[..3].iter().zip(&other[..3]).all(|(x, y)| *x == -*y));
-    assert!(with[3..6].iter().zip(&other[3..6]).any(|(x, y)| *x != -*y));
-}
-
-#[test]
 fn zero_determinants_and_divisors_are_seen() {
     let mut given = crate::inputs::two_planes(0.0, &[1.0, 1.0, 0.0], false);
     given.normals.copy_within(0..3, 3);

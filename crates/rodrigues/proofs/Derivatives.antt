@@ -3,7 +3,7 @@
 -- Numbers here are those of any commutative ring with four derivations: by the axis' components x, y, z, and by the angle. A derivation keeps sums
 -- and has Leibniz's product rule (proofs/Derivation.antt); of the elements x, y, z, s, c the four know the derivatives that the table `derived`
 -- has: each component's own is 1, s' = c and c' = −s by the angle, and all others are 0. Then `derivatives` says, for all orders: every entry of
--- the formula, derived i, j and k times by x, y and z and n times by the angle, is that of the matrix `rotation i j k n`. So it is zero where
+-- the formula, derived n times by the angle, then k, j and i times by z, y and x, is that of the matrix `rotation i j k n`. So it is zero where
 -- i + j + k is 3 or more (`third-derivatives`); and quarter turns of s and c are their derivatives by the angle (`turned-is`).
 -- proofs/Polynomials.antt has such a ring: polynomials with their formal derivatives. Assumes nothing.
 use Prim.Native.Nat.{ℕ, _+_, _%_, _≤_}
@@ -68,7 +68,7 @@ pub record Derives {R : Type 0} (C : CommRing R) (D : Direction → R → R) (v 
   pub rules : (d : Direction) → Derivation C (D d)
   pub variables : (d : Direction) (q : Variable) → D d (v q) ≡ derived (ring C) v d q
 
--- i, j and k times by x, y and z and n times by the angle
+-- n times by the angle, then k, j and i times by z, y and x
 abbrev pub partial : {R : Type 0} → (Direction → R → R) → (i j k n : ℕ) → R → R
 partial D i j k n e = repeated i (D by-x) (repeated j (D by-y) (repeated k (D by-z) (repeated n (D by-angle) e)))
 
