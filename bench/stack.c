@@ -47,7 +47,7 @@ static void exact_jets(void) {
     must(sugamdely_exact_surface_sum(ORDER, exact_surface, 231, ORDER, exact_surface, 231, exact_out, 231));
     must(sugamdely_exact_surface_combinatorial_derivatives(ORDER, exact_surface, 231, ORDER, exact_surface, 231, exact_out, 231));
     must(sugamdely_exact_surface_quotient(ORDER, exact_surface, 231, ORDER, exact_surface, 231, exact_out, 231));
-    must(sugamdely_exact_composite_derivatives(12, exact_surface, 91, 12, exact_parameters, 26, 12, exact_out, 13));
+    must(sugamdely_exact_composite_derivatives(ORDER, exact_surface, 231, ORDER, exact_parameters, 42, ORDER, exact_out, 21));
 }
 
 static void recipes(void) {
@@ -56,8 +56,8 @@ static void recipes(void) {
 }
 
 static void roads(void) {
-    must(sugamdely_build_then_carry(four_orders, 4, four_surfaces, 924, steps, 36, ORDER, exact_parameters, 42, 8, exact_out, 9));
-    must(sugamdely_carry_then_build(four_orders, 4, four_surfaces, 924, steps, 36, ORDER, exact_parameters, 42, 8, exact_out, 9));
+    must(sugamdely_build_then_carry(four_orders, 4, four_surfaces, 924, steps, 36, ORDER, exact_parameters, 42, ORDER, exact_out, 21));
+    must(sugamdely_carry_then_build(four_orders, 4, four_surfaces, 924, steps, 36, ORDER, exact_parameters, 42, ORDER, exact_out, 21));
 }
 
 static void float_curves(void) {
@@ -70,7 +70,7 @@ static void float_surfaces(void) {
     must(sugamdely_surface_sum(ORDER, surface, 231, ORDER, surface, 231, out, 231));
     must(sugamdely_surface_combinatorial_derivatives(ORDER, surface, 231, ORDER, surface, 231, out, 231));
     must(sugamdely_surface_rational_derivatives(ORDER, surface, 231, ORDER, surface, 231, out, 231));
-    must(sugamdely_composite_derivatives(12, surface, 91, 12, parameters, 26, 12, out, 13));
+    must(sugamdely_composite_derivatives(ORDER, surface, 231, ORDER, parameters, 42, ORDER, out, 21));
 }
 
 static void vector_curves(void) {
@@ -85,7 +85,7 @@ static void vector_surfaces(void) {
     must(sugamdely_surface_combinatorial_derivatives_cross(ORDER, vector_surface, 693, ORDER, vector_surface, 693, out, 693));
     must(sugamdely_vector_surface_rational_derivatives(ORDER, vector_surface, 693, ORDER, surface, 231, out, 693));
     must(sugamdely_surface_absolute_derivatives(ORDER, vector_surface, 693, out, 231));
-    must(sugamdely_vector_composite_derivatives(12, vector_surface, 273, 12, parameters, 26, 12, out, 39));
+    must(sugamdely_vector_composite_derivatives(ORDER, vector_surface, 693, ORDER, parameters, 42, ORDER, out, 63));
 }
 
 static void single_values(void) {

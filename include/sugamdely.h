@@ -49,7 +49,7 @@
 
    THREADS. No call keeps anything from one to the next, so any number of threads may call at once, each with outputs of its own.
 
-   STACK. The most that was seen, in bytes (bench/stack.c measures it): partials of the fillet 130,000; centre and contacts 120,000; recipes and roads 92,000;
+   STACK. No call was seen to take more than this, in bytes (bench/stack.c measures it): partials of the fillet 130,000; centre and contacts 120,000; recipes and roads 92,000;
    jets of vectors 70,000; exact jets 24,000; jets of floats 22,000; axis, angle and partials of given jets 20,000; the rest 4,000 or less. */
 #ifndef SUGAMDELY_H
 #define SUGAMDELY_H

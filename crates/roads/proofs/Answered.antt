@@ -10,8 +10,8 @@ use lib.Dec.{ltb}
 use lib.IntN.{ℤ}
 use lib.ListN.{length, getD, take, length-take}
 use borrow.Author.Tests.{ltb-true, ltb-false, le-ltb, eq-eqb, ne-eqb}
-use Rattle.whole.specs.History.{Traced, bare, verdict, orElse}
-use Rattle.whole.proofs.History.{both-true, settle-bare}
+use Rattle.whole.specs.History.{Traced, bare, verdict}
+use Rattle.whole.proofs.History.{both-true, settle-bare, or-zero}
 use Rattle.calculus.specs.Kind.{regular, plain}
 use Rattle.calculus.specs.Carry.{compositeDerivatives}
 use Rattle.calculus.specs.declared.Operation.{Operation}
@@ -158,10 +158,6 @@ module _ (c : ParameterCurve) (n : ℕ) where
       by false false a h o e = (o e, h refl)
 
   -- carries in turn, none of which is refused
-  either : (x y : ℕ) → orElse x y ≡ 0 → (x ≡ 0) × (y ≡ 0)
-  either zero y e = (refl, e)
-  either (suc x) y e = absurd (suc-ne-zero x e)
-
   abbrev jets : List SurfaceDerivatives → List CurveDerivatives
   jets l = map (λ (a : CurveAnswer). a .jet) (map along l)
 
@@ -171,7 +167,7 @@ module _ (c : ParameterCurve) (n : ℕ) where
   carried-reach [] (suc i) h e = h
   carried-reach (s ∷ l) zero h e = h
   carried-reach (s ∷ l) (suc i) h e =
-      let t = either (along s .refusal) (firstRefusal (map along l)) e in
+      let t = or-zero (along s .refusal) (firstRefusal (map along l)) e in
       le-min (omega (arith, carry-order s (t .0) .0)) (carried-reach l i h (t .1))
 
   carried-smallest : (l : List SurfaceDerivatives) (i : ℕ) → 0 < length l → 0 < i → firstRefusal (map along l) ≡ 0 →
@@ -180,7 +176,7 @@ module _ (c : ParameterCurve) (n : ℕ) where
   carried-smallest [] i p q e = absurd (not-suc-le-zero p)
   carried-smallest (s ∷ l) zero p q e = absurd (not-suc-le-zero q)
   carried-smallest (s ∷ l) (suc i) p q e =
-      let t = either (along s .refusal) (firstRefusal (map along l)) e in
+      let t = or-zero (along s .refusal) (firstRefusal (map along l)) e in
       let o = carry-order s (t .0) in
       (ap (λ (x : ℕ). min x (smallest (map (curves .order) (take i (jets l))))) (o .0) ∙ min-eq-left (carried-reach l i (o .1) (t .1)), o .1)
 

@@ -217,7 +217,7 @@ settle-exact t e =
     ap (λ (n : ℕ). settleBy n (t .value)) (verdict-exact (t .history) e) ∙ settle-cond (every inRange (numbers (t .history))) (t .value)
 
 -- ---- what a verdict says of its history
-or-zero : (a b : ℕ) → orElse a b ≡ 0 → (a ≡ 0) × (b ≡ 0)
+pub or-zero : (a b : ℕ) → orElse a b ≡ 0 → (a ≡ 0) × (b ≡ 0)
 or-zero zero b e = (refl, e)
 or-zero (suc a) b e = absurd (omega (arith, e))
 
