@@ -15,7 +15,7 @@ import sys
 
 NAME = r"[^\s(){}\[\].;,:@\"«»`|]+"
 TOKEN = re.compile(NAME)
-DECLARED = re.compile(r"(?m)^[ \t]*(?:(?:abbrev|unfoldable)[ \t]+)?(?:pub[ \t]+)?(?:(?:data|record)[ \t]+)?(" + NAME + r")(?=[ \t]*(?:\{[^{}\n]*\}[ \t]*)*:[ \t])")
+DECLARED = re.compile(r"(?m)^[ \t]*(?:(?:abbrev|unfoldable)[ \t]+)?(?:pub[ \t]+)?(?:(?:data|record)[ \t]+)?(" + NAME + r")(?=[ \t]*(?:\{[^{}\n]*\}[ \t]*)*:\s)")
 PIECE = re.compile(r"^[a-z][A-Za-z0-9_]*$")
 CAMEL = re.compile(r"(?<=[a-z0-9])[A-Z]")
 # Where the plain spelling falls together with another name: what is written in its place.

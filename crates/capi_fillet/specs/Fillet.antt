@@ -78,9 +78,9 @@ partial_by partial.V = partial_answer derivative_v 1
 partial_by partial.Uv = partial_answer derivative_u_v 1
 partial_by partial.Vv = partial_answer derivative_v_v 2
 
-unfoldable pub partialInto :
+unfoldable pub partial_into :
     (VderInfo → (u s c : Float) → VectorAnswer) → (center contact0 contact1 uv0 uv1 axis angle : Listed) → (u s c : Float) → List Float → ℕ × List Float
-partialInto op center contact0 contact1 uv0 uv1 axis angle u s c out =
+partial_into op center contact0 contact1 uv0 uv1 axis angle u s c out =
     admitted (first (ders_given center contact0 contact1 uv0 uv1) (first (vector_curve_given axis.0 (length axis.1))
     (first (curve_given angle.0 (length angle.1)) (count_given 3 (length out))))) out
     (deliver_vector (op (info_of (ders_of center contact0 contact1 uv0 uv1) axis angle) u s c) out)

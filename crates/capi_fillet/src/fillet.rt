@@ -4,7 +4,7 @@ ghost use Rattle.rolling_ball_fillet.specs.Partials.{derivative_v, derivative_u_
 ghost use Rattle.rolling_ball_fillet.specs.PartialAnswer.{partial_answer};
 ghost use Rattle.given.specs.Given.{first, order_given, count_given, curve_given, vector_curve_given, vector_surface_given};
 ghost use Rattle.fillet_lists.specs.Delivery.{Five, Three};
-ghost use Rattle.capi_fillet.specs.Fillet.{orders_given, rotation_into, circle_into, five_given, contacts_given, contacts_into, vder_info_into, partial_by, partialInto, sub_der_into};
+ghost use Rattle.capi_fillet.specs.Fillet.{orders_given, rotation_into, circle_into, five_given, contacts_given, contacts_into, vder_info_into, partial_by, partial_into, sub_der_into};
 
 use fillet_lists::records;
 use float_lists::{deliver, lists, read};
@@ -199,7 +199,7 @@ fn on_info(
     c: f64,
     out: &mut [f64],
 ) -> u8
-    ensures { ◌≡◌ {A = ℕ × List Float} (result, out.new) (partialInto (partial_by op) (center_order, center.now) (contact0_order, contact0.now) (contact1_order, contact1.now) (uv0_order, uv0.now) (uv1_order, uv1.now) (axis_order, axis.now) (angle_order, angle.now) u s c out.old) }
+    ensures { ◌≡◌ {A = ℕ × List Float} (result, out.new) (partial_into (partial_by op) (center_order, center.now) (contact0_order, contact0.now) (contact1_order, contact1.now) (uv0_order, uv0.now) (uv1_order, uv1.now) (axis_order, axis.now) (angle_order, angle.now) u s c out.old) }
 {
     let g = given_ders(
         center_order,
@@ -441,7 +441,7 @@ pub extern "C" fn sugamdely_derivative_v(
     c: f64,
     out: &mut [f64],
 ) -> u8
-    ensures { ◌≡◌ {A = ℕ × List Float} (result, out.new) (partialInto (partial_answer derivative_v 1) (center_order, center.now) (contact0_order, contact0.now) (contact1_order, contact1.now) (uv0_order, uv0.now) (uv1_order, uv1.now) (axis_order, axis.now) (angle_order, angle.now) u s c out.old) }
+    ensures { ◌≡◌ {A = ℕ × List Float} (result, out.new) (partial_into (partial_answer derivative_v 1) (center_order, center.now) (contact0_order, contact0.now) (contact1_order, contact1.now) (uv0_order, uv0.now) (uv1_order, uv1.now) (axis_order, axis.now) (angle_order, angle.now) u s c out.old) }
 {
     on_info(
         Partial::V,
@@ -487,7 +487,7 @@ pub extern "C" fn sugamdely_derivative_uv(
     c: f64,
     out: &mut [f64],
 ) -> u8
-    ensures { ◌≡◌ {A = ℕ × List Float} (result, out.new) (partialInto (partial_answer derivative_u_v 1) (center_order, center.now) (contact0_order, contact0.now) (contact1_order, contact1.now) (uv0_order, uv0.now) (uv1_order, uv1.now) (axis_order, axis.now) (angle_order, angle.now) u s c out.old) }
+    ensures { ◌≡◌ {A = ℕ × List Float} (result, out.new) (partial_into (partial_answer derivative_u_v 1) (center_order, center.now) (contact0_order, contact0.now) (contact1_order, contact1.now) (uv0_order, uv0.now) (uv1_order, uv1.now) (axis_order, axis.now) (angle_order, angle.now) u s c out.old) }
 {
     on_info(
         Partial::Uv,
@@ -533,7 +533,7 @@ pub extern "C" fn sugamdely_derivative_vv(
     c: f64,
     out: &mut [f64],
 ) -> u8
-    ensures { ◌≡◌ {A = ℕ × List Float} (result, out.new) (partialInto (partial_answer derivative_v_v 2) (center_order, center.now) (contact0_order, contact0.now) (contact1_order, contact1.now) (uv0_order, uv0.now) (uv1_order, uv1.now) (axis_order, axis.now) (angle_order, angle.now) u s c out.old) }
+    ensures { ◌≡◌ {A = ℕ × List Float} (result, out.new) (partial_into (partial_answer derivative_v_v 2) (center_order, center.now) (contact0_order, contact0.now) (contact1_order, contact1.now) (uv0_order, uv0.now) (uv1_order, uv1.now) (axis_order, axis.now) (angle_order, angle.now) u s c out.old) }
 {
     on_info(
         Partial::Vv,

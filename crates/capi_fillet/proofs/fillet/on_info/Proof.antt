@@ -6,7 +6,7 @@ use Rattle.rolling_ball_fillet.specs.declared.VderInfo.{VderInfo}
 use Rattle.given.specs.Given.{first}
 use Rattle.float_lists.specs.Delivery.{deliver_vector}
 use Rattle.fillet_lists.specs.Records.{ders_of, info_of}
-use Rattle.capi_fillet.specs.Fillet.{partial_by, partialInto}
+use Rattle.capi_fillet.specs.Fillet.{partial_by, partial_into}
 use Rattle.given.proofs.Admission.{refused, allowed}
 use borrow.Author.Rules.{rules}
 use Rattle.capi_fillet.proofs.fillet.on_info.Statement.{statement}
@@ -19,7 +19,7 @@ given-partial-requires : tie.Need-given-partial-requires
 given-partial-requires c κs = search rules
 
 returns : tie.Need-returns
-unfolding partialInto
+unfolding partial_into
 returns c = let s = c.before.before.before.before.before.before.before.before.before.before.before.args in
     let out = s.out.now in
     refused out (c.before.given-partial.ensures ∙ ap₂ first c.before.before.given-ders.ensures refl)
@@ -41,7 +41,7 @@ same_length : tie.Need-same-length
 same_length c = search rules
 
 returns-2 : tie.Need-returns-2
-unfolding partialInto
+unfolding partial_into
 returns-2 c = let s = c.before.before.before.before.before.before.before.before.before.before.before.before.before.before.before.before.before.before.args in
     let out = s.out.now in
     allowed out (c.before.before.before.before.before.before.before.before.given-partial.ensures ∙ ap₂ first c.before.before.before.before.before.before.before.before.before.given-ders.ensures refl) c.before.before.before.before.before.before.before.if1.false
