@@ -1,4 +1,6 @@
 // The exact carry, for the program in C that times it: bench/carry.c.
+#![tactic(auto)]
+
 ghost use Rattle.std.specs.Prelude.{◌≡◌};
 ghost use Rattle.bench_carry.specs.Outcome.{carried};
 

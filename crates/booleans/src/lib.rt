@@ -1,4 +1,6 @@
 // Tests that are joined, each of them made: an `if` over two of them would need a proof of its own wherever it stands.
+#![tactic(auto)]
+
 ghost use Rattle.std.specs.Prelude.{◌≡◌, ◌&&◌, ◌||◌};
 
 // Both hold.

@@ -1,18 +1,20 @@
 // The formulas on derivatives, over any kind of number and any number of variables, and their laws: see specs/ and proofs/.
+#![tactic(auto)]
+
 ghost use Rattle.std.specs.Prelude.{◌≡◌, cond, suc, min, ltb};
 ghost use Rattle.calculus.specs.Choose.{binomial_table};
 ghost use Rattle.calculus.specs.Graded.{triangle};
 ghost use Rattle.calculus.specs.Orders.{some_above20, smallest as Smallest};
 
 // A derivative by which of a surface's parameters.
-#[derive(Drop)]
+#[derive(Clone, Copy)]
 pub enum By {
     U,
     V,
 }
 
 // What is formed of two jets.
-#[derive(Drop)]
+#[derive(Clone, Copy)]
 pub enum Operation {
     Sum,
     Difference,

@@ -12,7 +12,7 @@ use rolling_ball_fillet::VderInfo;
 use vectors::VectorAnswer;
 
 // By v, by u and v, twice by v.
-#[derive(Drop)]
+#[derive(Clone, Copy)]
 enum Partial {
     V,
     Uv,

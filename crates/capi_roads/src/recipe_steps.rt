@@ -8,7 +8,7 @@ ghost use Rattle.capi_roads.specs.Recipes.{size_of, total, operation_of, step_of
 use roads::{Operation, Step};
 
 // What a recipe is made of.
-#[derive(Drop)]
+#[derive(Clone, Copy)]
 pub enum Jets {
     Curves,
     Surfaces,

@@ -1,5 +1,7 @@
 // The ball's centre, its contact points and their parameters along the edge. NaN and infinities pass through; 6 where a determinant is zero, 7 where a
 // divisor is.
+#![tactic(auto)]
+
 ghost use Rattle.std.specs.Prelude.{◌≡◌, min};
 ghost use Rattle.contacts.specs.Center.{found as found_of, no_contacts, center_contacts};
 
@@ -11,7 +13,7 @@ mod steps;
 
 // What is known at one place of the edge: the edge, the radius and both surfaces as arrays of their derivatives; the ball's centre, and at each
 // contact point its parameters and the surface's unit normal.
-#[derive(Drop)]
+#[derive(Clone, Copy)]
 pub struct Place {
     pub edge: [f64; 63],
     pub radius: [f64; 21],
@@ -25,7 +27,7 @@ pub struct Place {
 }
 
 // The centre, the contact points and their parameters along the edge, beside 0; or zeros beside a refusal's number.
-#[derive(Drop)]
+#[derive(Clone, Copy)]
 pub struct CenterContacts {
     pub refusal: u8,
     pub center: [f64; 63],

@@ -15,7 +15,7 @@ use ieee_vectors::{Matrix2, Matrix3, Vector3};
 use surface_info::{SurfaceInfo, arrays};
 
 // The entries formed so far: of the centre, and of both surfaces.
-#[derive(Drop)]
+#[derive(Clone, Copy)]
 pub struct Formed {
     pub center: [f64; 63],
     pub info0: SurfaceInfo,

@@ -1,5 +1,7 @@
 // Jets of exact numbers: the derivatives of a curve or of a surface, each a signed 64-bit whole number. A function answers in full, or
 // refuses with a number of document 01's table. Anybody may write the fields: every function tests the orders.
+#![tactic(auto)]
+
 ghost use Rattle.std.specs.Prelude.{◌≡◌, ◌+◌, ◌≤◌};
 ghost use Rattle.calculus.specs.Graded.{index as index_of};
 ghost use Rattle.exact.specs.Answer.{curves, surfaces, parameters};
@@ -14,21 +16,21 @@ mod parameter;
 mod surface;
 
 // The derivatives of a curve, of the orders 0 to `order`.
-#[derive(Drop)]
+#[derive(Clone, Copy)]
 pub struct CurveDerivatives {
     pub order: usize,
     pub entries: [i64; 21],
 }
 
 // The derivatives of a surface: [i][j], i times by u and j times by v, stands at (i + j)(i + j + 1)/2 + i, for i + j up to `order`.
-#[derive(Drop)]
+#[derive(Clone, Copy)]
 pub struct SurfaceDerivatives {
     pub order: usize,
     pub entries: [i64; 231],
 }
 
 // The derivatives of a curve (u, v) in the parameters of a surface.
-#[derive(Drop)]
+#[derive(Clone, Copy)]
 pub struct ParameterCurve {
     pub order: usize,
     pub u: [i64; 21],
@@ -36,19 +38,19 @@ pub struct ParameterCurve {
 }
 
 // A jet beside its refusal number: 0, and zeros past the order; or the number, and the zero jet of order 0.
-#[derive(Drop)]
+#[derive(Clone, Copy)]
 pub struct CurveAnswer {
     pub refusal: u8,
     pub jet: CurveDerivatives,
 }
 
-#[derive(Drop)]
+#[derive(Clone, Copy)]
 pub struct SurfaceAnswer {
     pub refusal: u8,
     pub jet: SurfaceDerivatives,
 }
 
-#[derive(Drop)]
+#[derive(Clone, Copy)]
 pub struct ParameterAnswer {
     pub refusal: u8,
     pub jet: ParameterCurve,

@@ -1,5 +1,7 @@
 // The derivatives of a surface along a curve in its parameters, on arrays of signed 64-bit whole numbers: Faà di Bruno's formula (document 01's carry). A
 // number that leaves their range is refused. Any bits will do: an array has room for 20 orders, and an order above is cut to 20.
+#![tactic(auto)]
+
 ghost use Rattle.std.specs.Prelude.{◌≡◌, true, ◌≤◌, ◌<◌, min, length};
 ghost use Rattle.calculus.specs.Kind.{regular};
 ghost use Rattle.calculus.specs.Carry.{factors as Factors, tensor as Tensor, summand as Summand, coordinates, surface_entry, composite_derivative, composite_derivatives};

@@ -1,6 +1,8 @@
 // The formulas of sums, differences, products and quotients of jets, on arrays of signed 64-bit whole numbers: an entry that leaves their range, or
 // that a division does not give, is refused. The entries of a jet stand in the arrays as in the jets of `exact`. Any bits will do: an array has room for
 // 20 orders, and an order above is cut to 20.
+#![tactic(auto)]
+
 ghost use Rattle.std.specs.Prelude.{◌≡◌, ◌+◌, ◌-◌, ◌≤◌, min};
 ghost use Rattle.calculus.specs.Curve.{product as product_of};
 ghost use Rattle.calculus.specs.Surface.{product as surface_product_of};
@@ -16,14 +18,14 @@ mod curves;
 mod surfaces;
 
 // The entries of a curve beside their refusal number: 0, and zeros past the order; or the number, and zeros.
-#[derive(Drop)]
+#[derive(Clone, Copy)]
 pub struct CurveEntries {
     pub refusal: u8,
     pub entries: [i64; 21],
 }
 
 // Those of a surface.
-#[derive(Drop)]
+#[derive(Clone, Copy)]
 pub struct SurfaceEntries {
     pub refusal: u8,
     pub entries: [i64; 231],

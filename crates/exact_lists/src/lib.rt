@@ -1,3 +1,5 @@
 // What the functions for C and Rust over lists of whole numbers share: an answer into the list lent, which has just the length that is due.
 
+#![tactic(auto)]
+
 pub mod deliver;

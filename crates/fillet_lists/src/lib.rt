@@ -1,4 +1,6 @@
 // What the fillet's functions for C and Rust over lists stand on: its records read off lists, and its answers into the lists lent.
+#![tactic(auto)]
+
 ghost use Rattle.std.specs.Prelude.{◌≡◌, ℕ};
 ghost use Rattle.fillet_lists.specs.Delivery.{Five, deliver_contacts, Three, deliver_info};
 

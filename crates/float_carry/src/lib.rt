@@ -1,6 +1,8 @@
 // The derivatives of a surface along a curve in its parameters, on arrays of floats and of vectors: Faà di Bruno's formula (document 01's carry), each
 // operation rounded as the source rounds it. There are no refusals here: NaN and infinities pass through. An array has room for 20 orders, and an order
 // above is cut to 20.
+#![tactic(auto)]
+
 ghost use Rattle.std.specs.Prelude.{◌≡◌, ◌≤◌};
 ghost use Rattle.calculus.specs.Carry.{factors as Factors, coordinates};
 ghost use Rattle.partitions.specs.Parts.{total};

@@ -1,7 +1,7 @@
 // Which operation on vectors a function over lists works: each of these serves curves and surfaces. For jets of floats it is `calculus::Operation`.
 
 // Of two vectors, or of two jets of them.
-#[derive(Drop)]
+#[derive(Clone, Copy)]
 pub enum VectorOperation {
     Sum,
     Difference,
@@ -9,7 +9,7 @@ pub enum VectorOperation {
 }
 
 // Of a vector and a float, or of a jet of each.
-#[derive(Drop)]
+#[derive(Clone, Copy)]
 pub enum ScalarOperation {
     Multiple,
     Quotient,

@@ -1,5 +1,7 @@
 // The formulas on derivatives, on arrays of floats, each rounded as the source rounds it. There are no refusals here: NaN and infinities pass through,
 // as a function that forms many jets on its way needs it. An order above 20, for which an array has no entries, is cut to 20.
+#![tactic(auto)]
+
 ghost use Rattle.std.specs.Prelude.{◌≡◌, ◌-◌, min};
 ghost use Rattle.calculus.specs.Array.{curve_array, surface_array};
 ghost use Rattle.calculus.specs.Graded.{index as index_of};

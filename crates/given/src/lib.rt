@@ -1,4 +1,6 @@
 // The tests of what a caller hands over, before any work: 0 where it is fit, 1 for an order above 20, 2 for a list of another length.
+#![tactic(auto)]
+
 ghost use Rattle.std.specs.Prelude.{◌≡◌, ◌+◌, ◌-◌, min};
 ghost use Rattle.given.specs.Given.{first as first_of, order_given, count_given, curve_given, surface_given, parameter_given, vector_curve_given, vector_surface_given, shape_given};
 
@@ -96,7 +98,7 @@ pub fn vector_surface(n: usize, l: usize) -> u8
 }
 
 // What a list holds: a single value, or a jet.
-#[derive(Drop)]
+#[derive(Clone, Copy)]
 pub enum Shape {
     Number,
     Vector2,

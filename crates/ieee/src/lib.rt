@@ -1,5 +1,7 @@
 // Floats of 64 bits, on any bits: whether one is finite, bit patterns, and the square root of IEEE 754, worked with whole numbers.
 // `vectors::square_root` is the root that refuses.
+#![tactic(auto)]
+
 ghost use Rattle.std.specs.Prelude.{◌≡◌};
 ghost use Rattle.std.specs.Float.{binary64};
 ghost use Rattle.std.specs.Float.Ieee.{of_bits, to_bits};

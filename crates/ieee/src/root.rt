@@ -4,7 +4,7 @@ ghost use Rattle.std.specs.Float.Ieee.Positive.{positive};
 ghost use Rattle.ieee.specs.SquareRoot.{square_root, root_of};
 
 // A whole number's root, rounded down, and what its square leaves.
-#[derive(Drop)]
+#[derive(Clone, Copy)]
 pub struct WholeRoot {
     pub root: u64,
     pub rest: u64,

@@ -1,5 +1,7 @@
 // Vectors and matrices of floats by value, each operation rounded in document 01's order ("Vectors"), on any bits: a NaN or an infinity passes
 // through. The crate `vectors` has the operations that refuse; a quotient or an inverse that does not is called so.
+#![tactic(auto)]
+
 ghost use Rattle.std.specs.Prelude.{◌≡◌};
 ghost use Rattle.ieee_vectors.specs.Vectors.{sum, difference, negative, multiple, quotient, dot, dot2, cross, magnitude};
 ghost use Rattle.ieee_vectors.specs.Matrices.{determinant2, inverse2, negative2, image2, transposed, determinant3, inverse3, image3, sum3, multiple3};
@@ -7,13 +9,13 @@ ghost use Rattle.ieee_vectors.specs.Finite.{finite_vector2, finite_vector, finit
 
 use booleans::both;
 
-#[derive(Drop)]
+#[derive(Clone, Copy)]
 pub struct Vector2 {
     pub x: f64,
     pub y: f64,
 }
 
-#[derive(Drop)]
+#[derive(Clone, Copy)]
 pub struct Vector3 {
     pub x: f64,
     pub y: f64,
@@ -21,7 +23,7 @@ pub struct Vector3 {
 }
 
 // (a b; c d)
-#[derive(Drop)]
+#[derive(Clone, Copy)]
 pub struct Matrix2 {
     pub a: f64,
     pub b: f64,
@@ -30,7 +32,7 @@ pub struct Matrix2 {
 }
 
 // By its columns.
-#[derive(Drop)]
+#[derive(Clone, Copy)]
 pub struct Matrix3 {
     pub c0: Vector3,
     pub c1: Vector3,

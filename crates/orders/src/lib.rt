@@ -1,4 +1,6 @@
 // Tests of the orders that a call is given, on numbers of any size.
+#![tactic(auto)]
+
 ghost use Rattle.std.specs.Prelude.{◌≡◌, ◌||◌, ◌+◌, ltb};
 ghost use Rattle.calculus.specs.JetKind.{above20 as above20_of};
 

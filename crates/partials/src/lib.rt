@@ -1,5 +1,7 @@
 // The fillet's partial derivatives along the edge, from the derivatives of its centre, contact points, axis and angle, and those of the axis and the
 // angle; and which partials are served. NaN and infinities pass through.
+#![tactic(auto)]
+
 ghost use Rattle.std.specs.Prelude.{◌≡◌, min};
 ghost use Rattle.formulas.specs.Numbers.{curve_numbers};
 ghost use Rattle.partials.specs.Partials.{by_v, by_u_v, by_v_v};
@@ -12,14 +14,14 @@ mod angles;
 mod rotations;
 
 // The partials along the edge that are served.
-#[derive(Drop)]
+#[derive(Clone, Copy)]
 pub enum EdgePartial {
     V,
     Uv,
     Vv,
 }
 
-#[derive(Drop)]
+#[derive(Clone, Copy)]
 pub enum Decision {
     Arc,
     Edge(EdgePartial),
@@ -27,7 +29,7 @@ pub enum Decision {
 }
 
 // How the circle's axis and angle move along the edge, and the clamped cosine of the angle, beside 0; or zeros beside a refusal's number.
-#[derive(Drop)]
+#[derive(Clone, Copy)]
 pub struct AxisAngle {
     pub refusal: u8,
     pub axis: [f64; 63],

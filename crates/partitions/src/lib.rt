@@ -1,5 +1,7 @@
 // Part lists: the combinatorics of Faà di Bruno's formula. A part list of an order and a len is a nonincreasing list of len positive parts whose
 // sum is the order.
+#![tactic(auto)]
+
 ghost use Rattle.std.specs.Prelude.{◌≡◌};
 ghost use Rattle.partitions.specs.Walk.{refusal as refusal_of, blank as blank_walk, started, refused as refused_by, at_end, stepped};
 ghost use Rattle.partitions.specs.Count.{counted, factorial_of};
@@ -11,7 +13,7 @@ mod table;
 pub use table::stirling_number;
 
 // A walk over the part lists of an order and a len. Anybody may write the fields: each step tests them.
-#[derive(Drop)]
+#[derive(Clone, Copy)]
 pub struct CompositionIter {
     pub order: usize,
     pub len: usize,
@@ -20,28 +22,28 @@ pub struct CompositionIter {
 }
 
 // The start of a walk beside its refusal number.
-#[derive(Drop)]
+#[derive(Clone, Copy)]
 pub struct Started {
     pub refusal: u8,
     pub walk: CompositionIter,
 }
 
 // What a step hands out: a list, with zeros past it; or that the walk has ended; or a refusal.
-#[derive(Drop)]
+#[derive(Clone, Copy)]
 pub struct Composition {
     pub refusal: u8,
     pub ended: bool,
     pub parts: [usize; 20],
 }
 
-#[derive(Drop)]
+#[derive(Clone, Copy)]
 pub struct Stepped {
     pub item: Composition,
     pub walk: CompositionIter,
 }
 
 // A number, or the number of a refusal.
-#[derive(Drop)]
+#[derive(Clone, Copy)]
 pub enum Count {
     Value(u64),
     Refused(u8),

@@ -1,4 +1,6 @@
 // Reads an order and a len from standard input, and writes their part lists, each after its multiplicity, and the total of the multiplicities.
+#![tactic(auto)]
+
 ghost use Rattle.std.specs.Prelude.{◌≡◌, false};
 ghost use Rattle.parts_text.specs.Reading.{settled};
 
@@ -6,7 +8,7 @@ use libc::{STDIN_FILENO, STDOUT_FILENO};
 use parts_text::Reading;
 
 // What one read gives: the reading after it, and whether the input goes on.
-#[derive(Drop)]
+#[derive(Clone, Copy)]
 struct Fed {
     state: Reading,
     more: bool,

@@ -6,7 +6,7 @@ ghost use Rattle.parts_text.specs.Reading.{capped as capped_at, step as step_of,
 use crate::Reading;
 
 // What a byte of the input is.
-#[derive(Drop)]
+#[derive(Clone, Copy)]
 pub enum Kind {
     Digit(usize),
     Separator,

@@ -1,4 +1,6 @@
 // The text of the part lists of an order and a len, read and written as ASCII bytes: all the work of the program `parts`.
+#![tactic(auto)]
+
 ghost use Rattle.std.specs.Prelude.{◌≡◌, length};
 ghost use Rattle.parts_text.specs.Printed.{printed, written};
 ghost use Rattle.parts_text.specs.Reading.{fed, finished, settled};
@@ -7,7 +9,7 @@ mod input;
 mod out;
 
 // How far the input has been read: what of the order and the len has been seen. Numbers above 20 behave alike, and are kept as 21.
-#[derive(Drop)]
+#[derive(Clone, Copy)]
 pub enum Reading {
     Before,
     InOrder(usize),

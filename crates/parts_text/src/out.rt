@@ -93,7 +93,7 @@ fn put_refused(out: &mut [u8], at: usize, c: u8) -> usize
 }
 
 // The place after a line, and the number with which it begins.
-#[derive(Drop)]
+#[derive(Clone, Copy)]
 pub struct Line {
     pub end: usize,
     pub count: u64,

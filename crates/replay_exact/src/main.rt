@@ -1,4 +1,6 @@
 // Whole numbers, part lists, exact jets, and the C interface. A case begins with its family's number, or that of the operation to call (tools/cases.py).
+#![tactic(auto)]
+
 mod calls;
 mod checked;
 mod exact_curves;

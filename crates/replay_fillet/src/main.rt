@@ -1,5 +1,7 @@
 // The fillet: shapes that are known in closed form, between two planes and between two spheres, with a tapered radius; stored answers of the Rust for
 // rotations and contact circles; and the C interface. A case begins with its family's number, or that of the operation to call (tools/cases.py).
+#![tactic(auto)]
+
 mod calls;
 mod inputs;
 mod shapes;

@@ -1,4 +1,6 @@
 // Floats: square roots, jets, and the C interface. A case begins with its family's number, or that of the operation to call (tools/cases.py).
+#![tactic(auto)]
+
 mod curves;
 mod jets;
 mod surfaces;

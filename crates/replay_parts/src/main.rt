@@ -1,5 +1,7 @@
 // Writes what the program `parts` prints for each input that stands in standard input: first from the input whole, then from the input fed byte
 // by byte; and after how many bytes its answer is settled. Byte 255 ends each input (tools/replay_parts.py makes them, and says what is expected).
+#![tactic(auto)]
+
 use libc::{STDIN_FILENO, STDOUT_FILENO};
 use parts_text::Reading;
 
@@ -27,7 +29,7 @@ fn write_by_bytes(input: &[u8]) {
 }
 
 // How many bytes of an input settle its answer, if they do.
-#[derive(Drop)]
+#[derive(Clone, Copy)]
 enum Settled {
     After(usize),
     Never,

@@ -1,6 +1,8 @@
 // What the test programs read, compare and write. The input is words of 16 hexadecimal digits, each with a byte that parts it from the one after it;
 // a list is its count, then its members. Lists are read into an array that is lent, one or several after each other, cut out of it again, and
 // compared bit by bit. What a case wants stands in it after what it gives: `…_met` reads it, and says whether it is what was met.
+#![tactic(auto)]
+
 ghost use Rattle.std.specs.Prelude.{◌≡◌, ◌<◌, ◌≤◌, length};
 
 use booleans::both;
@@ -452,7 +454,7 @@ pub fn list_met(wanted: u64, refusal: u8, out: &[f64], held: &[f64], n: usize) -
 // ---- groups of cases
 
 // Cases under one label, of 89 bytes and a line end: how many there are, are done, and differ. No group is without a case.
-#[derive(Drop)]
+#[derive(Clone, Copy)]
 pub struct Group {
     pub label: [u8; 90],
     pub cases: usize,

@@ -1,5 +1,7 @@
 // Jets of vectors through the C interface, and jets of every kind from lists and into lists. A case begins with its family's number, or that of the
 // operation to call (tools/cases.py).
+#![tactic(auto)]
+
 mod lists;
 mod vector_curves;
 mod vector_surfaces;

@@ -1,5 +1,7 @@
 // Recipes, which build a jet from given ones step by step (document 01's term), and the two ways to bring a recipe of surfaces and a curve
 // in their parameters together (document 01's two roads).
+#![tactic(auto)]
+
 ghost use Rattle.std.specs.Prelude.{◌≡◌};
 ghost use Rattle.calculus.specs.Operation.{curve_operation, surface_operation};
 ghost use Rattle.exact_formulas.specs.Kinds.{checked};
@@ -16,7 +18,7 @@ mod surfaces;
 pub use calculus::Operation;
 
 // A step names two earlier jets by their numbers.
-#[derive(Drop)]
+#[derive(Clone, Copy)]
 pub struct Step {
     pub operation: Operation,
     pub left: usize,
@@ -24,7 +26,7 @@ pub struct Step {
 }
 
 // The first `inputs` of the surfaces are given, numbered from 0; the first `steps` of the program are worked, numbered on from them.
-#[derive(Drop)]
+#[derive(Clone, Copy)]
 pub struct SurfaceRecipe {
     pub inputs: usize,
     pub surfaces: [SurfaceDerivatives; 4],
@@ -33,7 +35,7 @@ pub struct SurfaceRecipe {
 }
 
 // The same over curves.
-#[derive(Drop)]
+#[derive(Clone, Copy)]
 pub struct CurveRecipe {
     pub inputs: usize,
     pub curves: [CurveDerivatives; 4],

@@ -8,7 +8,7 @@ use crate::{CurveRecipe, SurfaceRecipe, checks};
 use exact::{CurveAnswer, CurveDerivatives, ParameterCurve, SurfaceDerivatives};
 
 // The surfaces carried, or the first refusal.
-#[derive(Drop)]
+#[derive(Clone, Copy)]
 pub struct Carried {
     pub refusal: u8,
     pub curves: [CurveDerivatives; 4],

@@ -1,5 +1,7 @@
 // Rodrigues' rotation about an axis, its partial derivatives by the axis' components and by the angle, and the derivatives along an arc that it
 // turns. A NaN or an infinity passes through.
+#![tactic(auto)]
+
 ghost use Rattle.std.specs.Prelude.{◌≡◌};
 ghost use Rattle.rodrigues.specs.Rotation.{turned as turned_by, constant as constant_at, zeros, rotation as rotation_by};
 ghost use Rattle.rodrigues.specs.Circle.{power as power_of, derivative as derivative_of};
@@ -9,7 +11,7 @@ use ieee_vectors::{Matrix3, Vector3};
 mod matrices;
 
 // The sine and the cosine of an angle.
-#[derive(Drop)]
+#[derive(Clone, Copy)]
 pub struct Pair {
     pub s: f64,
     pub c: f64,

@@ -1,6 +1,8 @@
 // The fillet that a rolling ball leaves between two surfaces: its contact circle, how that turns, and the fillet's partial derivatives. Refusals: 1 where
 // an order is above 20, 2 where a jet's is too low, 5 where a float handed in is not finite, 6 where a determinant is zero, 7 where a divisor is, 10
 // where a returned float is not finite, 11 where a pair of orders is not served.
+#![tactic(auto)]
+
 ghost use Rattle.std.specs.Prelude.{◌≡◌};
 ghost use Rattle.rolling_ball_fillet.specs.Answers.{rotation_answer, finite_contact, finite_circle, derivative_answer};
 ghost use Rattle.rolling_ball_fillet.specs.Center.{center_contact_answer};
@@ -26,14 +28,14 @@ mod jets;
 mod sub_der;
 
 // Where the ball touches a surface, and the surface's parameters there.
-#[derive(Drop)]
+#[derive(Clone, Copy)]
 pub struct ContactPoint {
     pub point: Vector3,
     pub uv: Vector2,
 }
 
 // The arc of the ball's great circle from contact point 0 to contact point 1: `angle` about `axis`.
-#[derive(Drop)]
+#[derive(Clone, Copy)]
 pub struct ContactCircle {
     pub center: Vector3,
     pub axis: Vector3,
@@ -43,7 +45,7 @@ pub struct ContactCircle {
 }
 
 // The edge, both surfaces and the radius at one place of the edge, as jets, and the surfaces' unit normals there.
-#[derive(Drop)]
+#[derive(Clone, Copy)]
 pub struct RollingBallFilletSurface {
     pub edge_curve: VectorCurveDerivatives,
     pub surface0: VectorSurfaceDerivatives,
@@ -54,7 +56,7 @@ pub struct RollingBallFilletSurface {
 }
 
 // How the ball's centre, its two contact points and their parameters move along the edge.
-#[derive(Drop)]
+#[derive(Clone, Copy)]
 pub struct CenterContactDers {
     pub center_ders: VectorCurveDerivatives,
     pub contact0_ders: VectorCurveDerivatives,
@@ -63,14 +65,14 @@ pub struct CenterContactDers {
     pub uv1_ders: ParameterCurve,
 }
 
-#[derive(Drop)]
+#[derive(Clone, Copy)]
 pub struct CenterContactAnswer {
     pub refusal: u8,
     pub ders: CenterContactDers,
 }
 
 // How the circle's axis and angle move along the edge, beside its centre and contacts.
-#[derive(Drop)]
+#[derive(Clone, Copy)]
 pub struct VderInfo {
     pub cc_ders: CenterContactDers,
     pub axis_ders: VectorCurveDerivatives,
@@ -78,7 +80,7 @@ pub struct VderInfo {
 }
 
 // With the clamped cosine of the angle.
-#[derive(Drop)]
+#[derive(Clone, Copy)]
 pub struct VderInfoAnswer {
     pub refusal: u8,
     pub info: VderInfo,

@@ -1,5 +1,7 @@
 // What is known of one surface along the edge of a rolling-ball fillet: the parameters of the ball's contact point, the surface carried along them, and its
 // unit normal. NaN and infinities pass through; an order above those that the arrays have is cut.
+#![tactic(auto)]
+
 ghost use Rattle.std.specs.Prelude.{◌≡◌, suc, ◌≤◌, ◌<◌, min};
 ghost use Rattle.ieee_vectors.specs.Vectors.{plus, dot};
 ghost use Rattle.calculus.specs.Kind.{regular};
@@ -14,14 +16,14 @@ pub mod arrays;
 mod products;
 
 // The parameters of the contact point along the edge.
-#[derive(Drop)]
+#[derive(Clone, Copy)]
 pub struct Parameters {
     pub u: [f64; 21],
     pub v: [f64; 21],
 }
 
 // The surface carried along the parameters: the contact point, and the derivatives by u and by v there.
-#[derive(Drop)]
+#[derive(Clone, Copy)]
 pub struct Carried {
     pub point: [f64; 63],
     pub du: [f64; 63],
@@ -29,7 +31,7 @@ pub struct Carried {
 }
 
 // The cross product of these derivatives, its norm, and the unit normal.
-#[derive(Drop)]
+#[derive(Clone, Copy)]
 pub struct Normal {
     pub cross: [f64; 63],
     pub norm: [f64; 21],
@@ -37,7 +39,7 @@ pub struct Normal {
 }
 
 // All of it as jets along the edge, with zeros for what is not formed yet.
-#[derive(Drop)]
+#[derive(Clone, Copy)]
 pub struct SurfaceInfo {
     pub uv: Parameters,
     pub carried: Carried,

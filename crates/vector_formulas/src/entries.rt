@@ -162,7 +162,7 @@ fn norm_entry(s: &[f64; 63], q: &[f64; 21], c: &[u32; 231], m: usize) -> f64
 }
 
 // A formula with floats for its entries: of two jets of vectors, or of one.
-#[derive(Drop)]
+#[derive(Clone, Copy)]
 pub enum NumberFormula {
     Dot,
     Norm,

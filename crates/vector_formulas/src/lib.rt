@@ -1,6 +1,8 @@
 // The formulas on derivatives, on arrays of vectors, three floats an entry. There are no refusals here: NaN and infinities pass through, as a function
 // that forms many jets on its way needs it. An order above 20, for which an array has no entries, is cut to 20. The products and norms of surfaces stand
 // in vector_surface_formulas, the carry in float_carry.
+#![tactic(auto)]
+
 ghost use Rattle.std.specs.Prelude.{◌≡◌, min};
 ghost use Rattle.ieee_vectors.specs.Vectors.{multiple, quotient, dot as dot_of, cross as cross_of, positive_zero};
 ghost use Rattle.calculus.specs.Kind.{regular};
@@ -22,7 +24,7 @@ mod shift;
 mod terms;
 
 // A formula with vectors for its entries: of two jets of vectors, or of one and a jet of floats.
-#[derive(Drop)]
+#[derive(Clone, Copy)]
 pub enum VectorFormula {
     Sum,
     Difference,

@@ -95,7 +95,7 @@ fn rational_term(
 }
 
 // The formulas whose entries are formed from sums of such terms: of a and b; of a and the floats w; of w and the entries b before.
-#[derive(Drop)]
+#[derive(Clone, Copy)]
 pub enum Summed {
     Cross,
     Scaled,

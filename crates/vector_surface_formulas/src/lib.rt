@@ -1,5 +1,7 @@
 // The products, quotients and norms of surfaces of vectors, on arrays, three floats an entry; as in vector_formulas, any floats pass through, and an order above
 // 20 is cut to 20. Of an entry [m][n], m is cut to 20 and n to 20 - m.
+#![tactic(auto)]
+
 ghost use Rattle.std.specs.Prelude.{◌≡◌, ◌-◌, min};
 ghost use Rattle.ieee_vectors.specs.Vectors.{multiple, dot as dot_of, cross as cross_of, positive_zero};
 ghost use Rattle.calculus.specs.Kind.{regular};

@@ -1,5 +1,7 @@
 // Single floats, vectors and matrices as a tool maker calls their operations: a value, or a refusal. 5: an input is not finite; 6: a determinant
 // equals zero; 7: a division by zero is due; 10: a returned float is not finite. The types are those of `ieee_vectors`.
+#![tactic(auto)]
+
 ghost use Rattle.std.specs.Prelude.{◌≡◌, ◌&&◌};
 ghost use Rattle.std.specs.Float.Ieee.Scale.{finite};
 ghost use Rattle.ieee_vectors.specs.Vectors.{sum, difference, multiple, dot, cross, magnitude};
@@ -11,33 +13,33 @@ use booleans::both;
 pub use ieee_vectors::{Matrix2, Matrix3, Vector2, Vector3};
 
 // A float, or the number of a refusal.
-#[derive(Drop)]
+#[derive(Clone, Copy)]
 pub enum Real {
     Value(f64),
     Refused(u8),
 }
 
 // A vector, or the number of a refusal.
-#[derive(Drop)]
+#[derive(Clone, Copy)]
 pub enum VectorAnswer {
     Value(Vector3),
     Refused(u8),
 }
 
-#[derive(Drop)]
+#[derive(Clone, Copy)]
 pub enum Vector2Answer {
     Value(Vector2),
     Refused(u8),
 }
 
 // A matrix beside its refusal number, which is 0 where it is answered.
-#[derive(Drop)]
+#[derive(Clone, Copy)]
 pub struct Matrix2Answer {
     pub refusal: u8,
     pub matrix: Matrix2,
 }
 
-#[derive(Drop)]
+#[derive(Clone, Copy)]
 pub struct Matrix3Answer {
     pub refusal: u8,
     pub matrix: Matrix3,

@@ -1,11 +1,13 @@
 // Signed 64-bit arithmetic that answers or refuses, in every case. Refusals bear document 01's numbers: 7 a division by zero, 8 a quotient
 // that leaves a remainder, 9 a number formed outside -2^63 to 2^63 - 1. -2^63 is a number like any other.
+#![tactic(auto)]
+
 ghost use Rattle.std.specs.Prelude.{◌≡◌, ◌*◌, leb, ◌+ℤ◌, ◌-ℤ◌, ◌*ℤ◌, nat_abs};
 ghost use Rattle.whole.specs.Checked.{formed, divided, plus, minus, times, over};
 ghost use Rattle.whole.specs.Inner.{room};
 
 // An exact number, or the number of a refusal.
-#[derive(Drop)]
+#[derive(Clone, Copy)]
 pub enum Whole {
     Value(i64),
     Refused(u8),

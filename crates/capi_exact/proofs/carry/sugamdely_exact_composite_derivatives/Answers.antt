@@ -1,0 +1,20 @@
+-- `capi_exact::carry::sugamdely_exact_composite_derivatives` meets its contract. Assumes nothing.
+use mathlib.Core.Path.{ap}
+use Rattle.exact.specs.Composite.{along_curve}
+use Rattle.exact.specs.declared.SurfaceAnswer.{SurfaceAnswer}
+use Rattle.exact.specs.declared.ParameterAnswer.{ParameterAnswer}
+use Rattle.given.proofs.Admission.{asked-at, two-refused-at, two-worked-at}
+use Rattle.exact.specs.Answer.{surfaces, parameters, curves}
+use Rattle.given.specs.Lists.{output, input}
+use Rattle.capi_exact.proofs.carry.sugamdely_exact_composite_derivatives.Goals as goal
+
+pub returns-then-t-ne0 : goal.returns-then-t-ne0
+returns-then-t-ne0 c =
+    let s = c.args in
+    two-refused-at (input surfaces) (input parameters) (output curves) (λ x y. along_curve x y s.n) s.a-order s.a.now s.c-order s.c.now s.out.now s.n (asked-at _ _ _ c.order-asked.ensures c.two_at-t.ensures) c.if-t-ne0.true
+
+pub returns : goal.returns
+returns c =
+    let s = c.args in
+    two-worked-at (input surfaces) (input parameters) (output curves) (λ x y. along_curve x y s.n) s.a-order s.a.now s.c-order s.c.now s.out.now s.n
+    (asked-at _ _ _ c.order-asked.ensures c.two_at-t.ensures) c.if-t-ne0.false (ap (λ (l : SurfaceAnswer). l.jet) c.from_list-x.ensures) (ap (λ (r : ParameterAnswer). r.jet) c.from_list-y.ensures) c.composite_derivatives-r.ensures c.curve.ensures

@@ -1,0 +1,24 @@
+-- `capi_floats::curves::sugamdely_curve_derivative` meets its contract. Assumes nothing.
+use Prim.Native.Nat.{◌-◌}
+use Rattle.given.proofs.Admission.{one-refused, one-worked}
+use Rattle.calculus.specs.JetKind.{differentiated}
+use Rattle.calculus.specs.Curve.{derivative}
+use Rattle.derivatives.specs.Answer.{curves}
+use Rattle.given.specs.Lists.{output, input}
+use Rattle.capi_floats.proofs.curves.sugamdely_curve_derivative.Goals as goal
+
+pub returns-then-t-ne0 : goal.returns-then-t-ne0
+returns-then-t-ne0 c = let s = c.args in
+    let n = s.a-order in
+    let a = s.a.now in
+    let out = s.out.now in
+    one-refused (input curves) (output curves) (n - 1) (differentiated curves derivative) n a out
+    c.lowered-t.ensures c.if-t-ne0.true
+
+pub returns : goal.returns
+returns c = let s = c.args in
+    let n = s.a-order in
+    let a = s.a.now in
+    let out = s.out.now in
+    one-worked (input curves) (output curves) (n - 1) (differentiated curves derivative) n a out
+    c.lowered-t.ensures c.if-t-ne0.false c.curve-x.ensures c.derivative-r.ensures c.curve.ensures

@@ -1,0 +1,16 @@
+-- `capi_floats::values::sugamdely_matrix2_determinant` meets its contract. Assumes nothing.
+use Rattle.vectors.specs.Answers.{real_from}
+use Rattle.ieee_vectors.specs.Matrices.{determinant2}
+use Rattle.ieee_vectors.specs.Finite.{finite_matrix2}
+use Rattle.float_lists.specs.Lists.{to_float}
+use Rattle.float_lists.specs.Values.{a_matrix2}
+use Rattle.given.proofs.Admission.{one-refused, one-worked}
+use Rattle.capi_floats.proofs.values.sugamdely_matrix2_determinant.Goals as goal
+
+pub returns-then-t-ne0 : goal.returns-then-t-ne0
+returns-then-t-ne0 c = let s = c.args in
+    one-refused a_matrix2 to_float 0 (λ x. real_from (finite_matrix2 x) (determinant2 x)) 0 s.m.now s.out.now c.one-t.ensures c.if-t-ne0.true
+
+pub returns : goal.returns
+returns c = let s = c.args in
+    one-worked a_matrix2 to_float 0 (λ x. real_from (finite_matrix2 x) (determinant2 x)) 0 s.m.now s.out.now c.one-t.ensures c.if-t-ne0.false c.matrix2-x.ensures c.matrix2_determinant-r.ensures c.float.ensures

@@ -1,0 +1,15 @@
+-- `capi_roads::recipe_steps::operation_of` meets its contract. Assumes nothing.
+use borrow.Author.Tests.{eq-eqb, ne_eqb}
+use Rattle.capi_roads.proofs.recipe_steps.operation_of.Goals as goal
+
+pub returns-then-n-eq0 : goal.returns-then-n-eq0
+returns-then-n-eq0 c = rw (eq-eqb c.args.n 0 c.if-n-eq0.true)
+
+pub returns-then-n-eq1 : goal.returns-then-n-eq1
+returns-then-n-eq1 c = rw (ne_eqb c.args.n 0 c.if-n-eq0.false, eq-eqb c.args.n 1 c.if-n-eq1.true)
+
+pub returns-then-n-eq2 : goal.returns-then-n-eq2
+returns-then-n-eq2 c = rw (ne_eqb c.args.n 0 c.if-n-eq0.false, ne_eqb c.args.n 1 c.if-n-eq1.false, eq-eqb c.args.n 2 c.if-n-eq2.true)
+
+pub returns : goal.returns
+returns c = rw (ne_eqb c.args.n 0 c.if-n-eq0.false, ne_eqb c.args.n 1 c.if-n-eq1.false, ne_eqb c.args.n 2 c.if-n-eq2.false)

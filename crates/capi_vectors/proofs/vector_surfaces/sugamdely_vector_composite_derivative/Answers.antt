@@ -1,0 +1,16 @@
+-- `capi_vectors::vector_surfaces::sugamdely_vector_composite_derivative` meets its contract. Assumes nothing.
+use Rattle.vector_derivatives.specs.Composite.{vector_along_curve_at}
+use Rattle.float_lists.specs.Lists.{to_vector}
+use Rattle.given.proofs.Admission.{asked-at, two-refused-at, two-worked-at}
+use Rattle.given.specs.Lists.{input}
+use Rattle.derivatives.specs.Answer.{parameters}
+use Rattle.vector_derivatives.specs.Answer.{vector_surfaces}
+use Rattle.capi_vectors.proofs.vector_surfaces.sugamdely_vector_composite_derivative.Goals as goal
+
+pub returns-then-t-ne0 : goal.returns-then-t-ne0
+returns-then-t-ne0 c = let s = c.args in
+    two-refused-at (input vector_surfaces) (input parameters) to_vector (λ x y. vector_along_curve_at x y s.n) s.a-order s.a.now s.c-order s.c.now s.out.now s.n (asked-at _ _ _ c.order-asked.ensures c.two_at-t.ensures) c.if-t-ne0.true
+
+pub returns : goal.returns
+returns c = let s = c.args in
+    two-worked-at (input vector_surfaces) (input parameters) to_vector (λ x y. vector_along_curve_at x y s.n) s.a-order s.a.now s.c-order s.c.now s.out.now s.n (asked-at _ _ _ c.order-asked.ensures c.two_at-t.ensures) c.if-t-ne0.false c.vector_surface-x.ensures c.parameter-y.ensures c.composite_derivative-r.ensures c.vector.ensures

@@ -1,0 +1,11 @@
+-- `derivatives::curve::read` meets its contract. The invariant: the first m entries stand in the array. Assumes nothing.
+use Rattle.formulas.proofs.Curves.{CurveFilled}
+use Rattle.formulas.specs.Numbers.{curve_numbers}
+use Prim.Native.Nat.{suc, ◌-◌, ◌≤◌}
+use Rattle.derivatives.proofs.curve.read.Given as goal
+
+abbrev pub invariant-loop-m : goal.invariant-loop-m
+invariant-loop-m l = CurveFilled (curve_numbers l.list) l.m l.r × (l.m ≤ suc l.n)
+
+abbrev pub decreases-loop-m : goal.decreases-loop-m
+decreases-loop-m l = suc l.n - l.m

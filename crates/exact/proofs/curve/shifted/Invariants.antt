@@ -1,0 +1,12 @@
+-- `exact::curve::shifted` meets its contract. The invariant: the entries passed stand in the array. Assumes nothing.
+use Prim.Native.Nat.{suc, ◌-◌}
+use Rattle.calculus.specs.Curve.{derivative}
+use Rattle.exact_formulas.specs.Entries.{curve_values}
+use Rattle.exact_formulas.proofs.Progress.{CurveProgress}
+use Rattle.exact.proofs.curve.shifted.Given as goal
+
+abbrev pub invariant-loop-m : goal.invariant-loop-m
+invariant-loop-m l = CurveProgress (derivative (curve_values l.a)) l.n l.m l.r
+
+abbrev pub decreases-loop-m : goal.decreases-loop-m
+decreases-loop-m l = suc l.n - l.m

@@ -1,0 +1,34 @@
+use mathlib.Core.Path.{◌≡◌, refl, ◌∙◌, ap₂}
+use native.Mathlib.Numerals.{add-one}
+use Rattle.partitions.specs.Parts.{lists}
+use Rattle.calculus.specs.Kind.{regular}
+use Rattle.calculus.specs.InTurn.{along_list}
+use Rattle.calculus.specs.Carry.{summand, through_len, coordinates, surface_entry}
+use Rattle.exact_formulas.specs.Kinds.{checked}
+use Rattle.exact_formulas.specs.Entries.{curve_values, surface_values}
+use Prim.Native.Nat.{◌-◌}
+use native.Mathlib.Omega.{arith}
+use Rattle.exact_carry.proofs.derivative.Invariants.{through}
+use Rattle.exact_carry.proofs.derivative.Goals as goal
+
+pub loop-len-init : goal.loop-len-init
+unfolding through_len
+loop-len-init c = (refl, omega arith)
+
+pub along_lists-total-requires : goal.along_lists-total-requires
+along_lists-total-requires c = (omega arith, omega arith, omega arith)
+
+pub loop-len-preserved : goal.loop-len-preserved
+unfolding through_len
+loop-len-preserved c =
+    let s = c.args in
+    let e = summand (regular checked) 2 (coordinates (curve_values s.u.now) (curve_values s.v.now)) (surface_entry (surface_values s.entries.now)) in (
+      rw add-one (c.along_lists-total.ensures ∙ ap₂ (λ x n. along_list checked.plus x e (lists c.smaller-n.result n)) c.loop-len.invariant.0 (add-one c.loop-len.len)),
+      omega arith,
+    )
+
+pub returns : goal.returns
+returns c =
+    let s = c.args in
+    let e : c.loop-len.len ≡ c.smaller-n.result = omega arith in
+    c.loop-len.invariant.0 ∙ ap₂ (through s.entries.now s.u.now s.v.now) c.smaller-n.ensures (e ∙ c.smaller-n.ensures)

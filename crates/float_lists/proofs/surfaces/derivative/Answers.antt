@@ -1,0 +1,24 @@
+-- `float_lists::surfaces::derivative` meets its contract. Assumes nothing.
+use Prim.Native.Nat.{◌-◌}
+use Rattle.calculus.specs.Surface.{derivative_by}
+use Rattle.given.proofs.Admission.{one-refused, one-worked}
+use Rattle.calculus.specs.JetKind.{differentiated}
+use Rattle.given.specs.Lists.{output, input}
+use Rattle.derivatives.specs.Answer.{surfaces}
+use Rattle.float_lists.proofs.surfaces.derivative.Goals as goal
+
+pub returns-then-t-ne0 : goal.returns-then-t-ne0
+returns-then-t-ne0 c = let s = c.args in
+    let n = s.a-order in
+    let a = s.a.now in
+    let out = s.out.now in
+    one-refused (input surfaces) (output surfaces) (n - 1) (differentiated surfaces (derivative_by s.by)) n a out
+    c.lowered-t.ensures c.if-t-ne0.true
+
+pub returns : goal.returns
+returns c = let s = c.args in
+    let n = s.a-order in
+    let a = s.a.now in
+    let out = s.out.now in
+    one-worked (input surfaces) (output surfaces) (n - 1) (differentiated surfaces (derivative_by s.by)) n a out
+    c.lowered-t.ensures c.if-t-ne0.false c.surface-x.ensures c.derived-r.ensures c.surface.ensures

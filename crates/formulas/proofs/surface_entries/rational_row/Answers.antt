@@ -1,0 +1,23 @@
+use Rattle.calculus.proofs.LoopTerms.{one_more}
+use Rattle.calculus.specs.Rational.{surface_rational_term}
+use Rattle.calculus.specs.InTurn.{in_turn}
+use Rattle.calculus.specs.Kind.{regular}
+use native.Mathlib.Numerals.{add-one}
+use Rattle.formulas.specs.Real.{real}
+use Rattle.formulas.specs.Numbers.{surface_numbers}
+use mathlib.Core.Path.{◌≡◌, refl, ap, ◌∙◌}
+use Prim.Native.Nat.{suc, ◌-◌}
+use native.Mathlib.Omega.{arith}
+use Rattle.formulas.proofs.surface_entries.rational_row.Goals as goal
+
+pub loop-j-init : goal.loop-j-init
+unfolding in_turn
+loop-j-init c = (refl, omega arith)
+
+pub loop-j-preserved : goal.loop-j-preserved
+loop-j-preserved c = (one_more real.plus c.args.start _ c.loop-j.invariant.0 c.rational_term-t.ensures (add-one c.loop-j.j), omega arith)
+
+pub returns : goal.returns
+returns c = let s = c.args in
+    let e : c.loop-j.j ≡ suc s.n = omega arith in
+    c.loop-j.invariant.0 ∙ ap (in_turn real.plus s.start (surface_rational_term (regular real) real.over (surface_numbers s.w.now) (surface_numbers s.q.now) s.m s.n s.i)) e

@@ -1,0 +1,28 @@
+use Rattle.formulas.proofs.Curves.{numbers-none, numbers_more, numbers-all}
+use Rattle.formulas.specs.Numbers.{curve_numbers}
+use Rattle.partials.specs.AxisAngle.{turns}
+use Rattle.partials.proofs.Turning.{turn-formed}
+use native.Mathlib.Omega.{arith}
+use Prim.Native.Nat.{◌-◌}
+use mathlib.Core.Path.{sym, ◌∙◌}
+use Rattle.partials.proofs.angles.turns.Goals as goal
+
+pub loop-m-init : goal.loop-m-init
+loop-m-init c =
+    let s = c.args in
+    (numbers-none (turns (curve_numbers s.rate.now) (curve_numbers s.dot.now) (curve_numbers s.length.now)), omega arith)
+
+pub loop-m-preserved : goal.loop-m-preserved
+loop-m-preserved c =
+    let s = c.args in
+    let l = c.loop-m in
+    let rate = curve_numbers s.rate.now in
+    let dot = curve_numbers s.dot.now in
+    let length = curve_numbers s.length.now in
+    (numbers_more (turns rate dot length) c.turn-e.result l.invariant.0 (omega arith) (turn-formed rate dot length l.invariant.0 (omega arith) ∙ sym c.turn-e.ensures), omega arith)
+
+pub returns : goal.returns
+returns c =
+    let s = c.args in
+    let f = turns (curve_numbers s.rate.now) (curve_numbers s.dot.now) (curve_numbers s.length.now) in
+    numbers-all f s.n c.loop-m.invariant.0 (omega arith)

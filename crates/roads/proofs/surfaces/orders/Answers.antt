@@ -1,0 +1,9 @@
+-- `roads::surfaces::orders` meets its contract. Assumes nothing.
+use borrow.Author.Rules.{rules}
+use Rattle.exact.specs.Answer.{surfaces}
+use Rattle.roads.proofs.Tests.{four-orders}
+use Rattle.roads.specs.Roads.{surface_steps}
+use Rattle.roads.proofs.surfaces.orders.Goals as goal
+
+pub returns : goal.returns
+returns c = (four-orders surfaces.order surface_steps.blank c.args.t1 (search rules), search rules)

@@ -1,0 +1,19 @@
+-- `center_contacts` meets its contract: the order is not cut. Assumes nothing.
+use native.Mathlib.Omega.{arith}
+use mathlib.Core.Path.{ap, ◌∙◌}
+use Prim.Native.Nat.{◌≤◌, min}
+use Rattle.calculus.proofs.LoopCut.{uncut}
+use Rattle.contacts.specs.Center.{center_contacts as contacts_at}
+use Rattle.contacts.specs.declared.Place.{Place}
+use Rattle.rolling_ball_fillet.specs.Center.{placed, answered_contacts, center_contacts}
+use Rattle.rolling_ball_fillet.proofs.centers.center_contacts.Goals as goal
+
+pub returns : goal.returns
+unfolding center_contacts
+returns c =
+    let n = c.args.n in
+    let h : n ≤ 19 = omega (arith, c.requires) in
+    let p = placed c.args.f c.args.cc in
+    c.answered.ensures
+    ∙ ap (answered_contacts n)
+    (c.center_contacts.ensures ∙ ap (λ (x : Place). contacts_at x (min n 19)) c.placed-p.ensures ∙ uncut (contacts_at p) h)

@@ -1,0 +1,18 @@
+-- `vector_formulas::store` meets its contract. Assumes nothing.
+use mathlib.Core.Path.{sym, ◌∙◌}
+use Prim.Native.Nat.{◌+◌, ◌*◌}
+use native.Mathlib.Omega.{arith}
+use lib.ListN.{length}
+use borrow.Author.Tests.{le-ltb}
+use Rattle.booleans.proofs.Tests.{second}
+use Rattle.vector_formulas.specs.Vector.{put}
+use Rattle.vector_formulas.proofs.Vectors.{stored-put}
+use Rattle.vector_formulas.proofs.store.Goals as goal
+
+pub returns-then-k-a : goal.returns-then-k-a
+returns-then-k-a c = let s = c.args in
+    c.store.ensures ∙ sym (stored-put s.a.now s.k s.v (omega arith))
+
+pub returns-else-k-a : goal.returns-else-k-a
+returns-else-k-a c = let s = c.args in
+    sym (second (put s.a.now (3 * s.k) s.v) s.a.now (le-ltb (3 * s.k + 2) (length s.a.now) (omega arith)))
