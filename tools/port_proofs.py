@@ -143,7 +143,7 @@ def statements(text):
     """The file's lines in groups: a line that begins at the margin, and those below it that are set in."""
     out = []
     for line in text.split("\n"):
-        if line and not line[0].isspace() or not out:
+        if line and not line[0].isspace() and line[0] not in ")]}" or not out:
             out.append([line])
         else:
             out[-1].append(line)

@@ -30,6 +30,7 @@ down_pos none = empty
 down_pos (one h d) = more (down_pos d)
 
 pub out-pos : {v : ℕ} {l r : List ℕ} → Pos l → Out v l r → Pos r
+out-pos empty o = elim o [ ]
 out-pos (more p) here = p
 out-pos (more p) (there o) = more (out-pos p o)
 

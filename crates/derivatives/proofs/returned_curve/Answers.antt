@@ -8,8 +8,8 @@ returns-then-n-gt20 c = rw (lt-ltb 20 _ c.if-n-gt20.true) c.refused_curve.ensure
 
 pub returns-then-not-finite_curve : goal.returns-then-not-finite_curve
 returns-then-not-finite_curve c =
-    rw (le-ltb 20 _ c.if-n-gt20.false, sym c.finite_curve.ensures ∙ not-true _ c.if-not-finite_curve.true) c.refused_curve-then-not-finite_curve.ensures
+    rw (le-ltb 20 _ c.if-n-gt20.false, sym c.finite_curve.ensures ∙ c.if-not-finite_curve.true) c.refused_curve-then-not-finite_curve.ensures
 
 pub returns : goal.returns
 returns c =
-    rw (le-ltb 20 _ c.if-n-gt20.false, sym c.finite_curve.ensures ∙ not-false _ c.if-not-finite_curve.false)
+    rw (le-ltb 20 _ c.if-n-gt20.false, sym c.finite_curve.ensures ∙ c.if-not-finite_curve.false)

@@ -8,8 +8,8 @@ returns-then-n-gt20 c = rw (lt-ltb 20 _ c.if-n-gt20.true) c.refused_surface.ensu
 
 pub returns-then-not-finite_surface : goal.returns-then-not-finite_surface
 returns-then-not-finite_surface c =
-    rw (le-ltb 20 _ c.if-n-gt20.false, sym c.finite_surface.ensures ∙ not-true _ c.if-not-finite_surface.true) c.refused_surface-then-not-finite_surface.ensures
+    rw (le-ltb 20 _ c.if-n-gt20.false, sym c.finite_surface.ensures ∙ c.if-not-finite_surface.true) c.refused_surface-then-not-finite_surface.ensures
 
 pub returns : goal.returns
 returns c =
-    rw (le-ltb 20 _ c.if-n-gt20.false, sym c.finite_surface.ensures ∙ not-false _ c.if-not-finite_surface.false)
+    rw (le-ltb 20 _ c.if-n-gt20.false, sym c.finite_surface.ensures ∙ c.if-not-finite_surface.false)

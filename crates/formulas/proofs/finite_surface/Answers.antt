@@ -18,12 +18,12 @@ loop-i-init c = let m = c.smaller-m.ensures in
 
 pub returns-then-not-is_finite : goal.returns-then-not-is_finite
 returns-then-not-is_finite c = let s = c.args in
-    stop finite (curve_numbers s.a.now) (triangle (suc (min s.n 20))) (omega (arith, c.loop-i.invariant)) (sym c.is_finite.ensures ∙ not-true _ c.if-not-is_finite.true) ∙ surface-finite s.a.now (min s.n 20)
+    stop finite (curve_numbers s.a.now) (triangle (suc (min s.n 20))) (omega (arith, c.loop-i.invariant)) (sym c.is_finite.ensures ∙ c.if-not-is_finite.true) ∙ surface-finite s.a.now (min s.n 20)
 
 pub loop-i-preserved : goal.loop-i-preserved
 loop-i-preserved c = let l = c.loop-i in
     let s = c.args in
-    (more finite (curve_numbers s.a.now) l.i l.invariant.0 (sym c.is_finite.ensures ∙ not-false _ c.if-not-is_finite.false), omega arith, omega arith, l.invariant.3)
+    (more finite (curve_numbers s.a.now) l.i l.invariant.0 (sym c.is_finite.ensures ∙ c.if-not-is_finite.false), omega arith, omega arith, l.invariant.3)
 
 pub returns : goal.returns
 returns c = let s = c.args in

@@ -21,17 +21,17 @@ returns-then-list-eq0 c =
 pub returns-then-not-falls : goal.returns-then-not-falls
 returns-then-not-falls c =
     let l = c.args.list.now in
-    sym (counted-by l false (omega arith) (sym (list-test l (omega arith)) ∙ sym c.falls.ensures ∙ not-true _ c.if-not-falls.true))
+    sym (counted-by l false (omega arith) (sym (list-test l (omega arith)) ∙ sym c.falls.ensures ∙ c.if-not-falls.true))
 
 pub over_runs-requires : goal.over_runs-requires
 over_runs-requires c =
     let l = c.args.list.now in
-    (omega arith, omega (arith, list-long l (sym (list-test l (omega arith)) ∙ sym c.falls.ensures ∙ not-false _ c.if-not-falls.false)))
+    (omega arith, omega (arith, list-long l (sym (list-test l (omega arith)) ∙ sym c.falls.ensures ∙ c.if-not-falls.false)))
 
 pub returns : goal.returns
 unfolding multiplicity
 returns c =
     let l = c.args.list.now in
     let n : c.total-n.result ≡ total l = omega arith in
-    sym (counted-by l true (omega arith) (sym (list-test l (omega arith)) ∙ sym c.falls.ensures ∙ not-false _ c.if-not-falls.false)
+    sym (counted-by l true (omega arith) (sym (list-test l (omega arith)) ∙ sym c.falls.ensures ∙ c.if-not-falls.false)
     ∙ ap Value (sym (c.over_runs.ensures ∙ ap (λ (x : ℕ). divide x (runs l)) (c.over_parts-x.ensures ∙ ap (λ (x : ℕ). divide x l) (c.factorial.ensures ∙ ap fact n)))))

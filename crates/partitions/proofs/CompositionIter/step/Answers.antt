@@ -41,7 +41,7 @@ slice_bounds-falls-end c =
 pub returns-then-not-falls : goal.returns-then-not-falls
 returns-then-not-falls c =
     let ready : Ready c.args.self = record { none = sym c.refusal-number.ensures ∙ c.if-number-ne0.false; going = c.if-self.false; long = search rules } in
-    c.refused-then-not-falls.ensures ∙ step_falls ready (sym c.falls.ensures ∙ not-true _ c.if-not-falls.true)
+    c.refused-then-not-falls.ensures ∙ step_falls ready (sym c.falls.ensures ∙ c.if-not-falls.true)
 
 pub slice_bounds-current-end-3 : goal.slice_bounds-current-end-3
 slice_bounds-current-end-3 c =
@@ -72,12 +72,12 @@ pub next-more-requires : goal.next-more-requires
 next-more-requires c =
     let ready : Ready c.args.self = record { none = sym c.refusal-number.ensures ∙ c.if-number-ne0.false; going = c.if-self.false; long = search rules } in
     let holds : Holds c.args.self = let r = ready in
-    record { ready = r; sums = sum_is r c.total.ensures c.if-total-order.false; down = sym c.falls.ensures ∙ not-false _ c.if-not-falls.false } in
+    record { ready = r; sums = sum_is r c.total.ensures c.if-total-order.false; down = sym c.falls.ensures ∙ c.if-not-falls.false } in
     next-asks holds
 
 pub returns : goal.returns
 returns c =
     let ready : Ready c.args.self = record { none = sym c.refusal-number.ensures ∙ c.if-number-ne0.false; going = c.if-self.false; long = search rules } in
     let holds : Holds c.args.self = let r = ready in
-    record { ready = r; sums = sum_is r c.total.ensures c.if-total-order.false; down = sym c.falls.ensures ∙ not-false _ c.if-not-falls.false } in
+    record { ready = r; sums = sum_is r c.total.ensures c.if-total-order.false; down = sym c.falls.ensures ∙ c.if-not-falls.false } in
     let n = c.next-more in step-on holds n.result c.pad-parts.ensures n.ensures.0 n.ensures.1

@@ -40,4 +40,4 @@ pub returns : goal.returns
 returns c =
     let a = c.args in
     let r = c.refusal-number in
-    start_first a.order a.len r.result c.init.new.0 r.ensures c.if-number-ne0.false c.init.ensures
+    start_first a.order a.len r.result c.init.new.array r.ensures c.if-number-ne0.false c.init.ensures

@@ -26,7 +26,7 @@ returns-then-not-well_formed c =
     let given : let r = c.args.self in Given curve_steps r.curves r.inputs c.orders-all.result c.given-count.result = record { four = c.orders-all.ensures.1; all = c.orders-all.ensures.0; count = c.given-count.ensures } in
     let low : some_above20 (take c.given-count.result c.orders-all.result) ≡ false = sym c.some_above_20.ensures ∙ c.if-some_above_20.false in
     let r = c.args.self in
-    c.refused_curve-then-not-well_formed.ensures ∙ ill-formed given r.steps r.program low (sym c.well_formed-2.ensures ∙ not-true _ c.if-not-well_formed.true)
+    c.refused_curve-then-not-well_formed.ensures ∙ ill-formed given r.steps r.program low (sym c.well_formed-2.ensures ∙ c.if-not-well_formed.true)
 
 pub slice_bounds-smallest-end : goal.slice_bounds-smallest-end
 slice_bounds-smallest-end c =
@@ -35,13 +35,13 @@ slice_bounds-smallest-end c =
 
 pub cut-jet_of-requires : goal.cut-jet_of-requires
 cut-jet_of-requires c =
-    let formed : let r = c.args.self in well_formed r.inputs r.steps (take r.steps r.program) ≡ true = sym c.well_formed-2.ensures ∙ not-false _ c.if-not-well_formed.false in
+    let formed : let r = c.args.self in well_formed r.inputs r.steps (take r.steps r.program) ≡ true = sym c.well_formed-2.ensures ∙ c.if-not-well_formed.false in
     let number : let r = c.args.self in Counts r.inputs r.steps (take r.steps r.program) = let r = c.args.self in counts r.inputs r.steps (take r.steps r.program) formed in
     number.four
 
 pub work-requires : goal.work-requires
 work-requires c =
-    let formed : let r = c.args.self in well_formed r.inputs r.steps (take r.steps r.program) ≡ true = sym c.well_formed-2.ensures ∙ not-false _ c.if-not-well_formed.false in
+    let formed : let r = c.args.self in well_formed r.inputs r.steps (take r.steps r.program) ≡ true = sym c.well_formed-2.ensures ∙ c.if-not-well_formed.false in
     let number : let r = c.args.self in Counts r.inputs r.steps (take r.steps r.program) = let r = c.args.self in counts r.inputs r.steps (take r.steps r.program) formed in
     let n = number in (n.some, n.four, n.twelve, n.names)
 
@@ -49,6 +49,6 @@ pub returns : goal.returns
 returns c =
     let given : let r = c.args.self in Given curve_steps r.curves r.inputs c.orders-all.result c.given-count.result = record { four = c.orders-all.ensures.1; all = c.orders-all.ensures.0; count = c.given-count.ensures } in
     let low : some_above20 (take c.given-count.result c.orders-all.result) ≡ false = sym c.some_above_20.ensures ∙ c.if-some_above_20.false in
-    let formed : let r = c.args.self in well_formed r.inputs r.steps (take r.steps r.program) ≡ true = sym c.well_formed-2.ensures ∙ not-false _ c.if-not-well_formed.false in
+    let formed : let r = c.args.self in well_formed r.inputs r.steps (take r.steps r.program) ≡ true = sym c.well_formed-2.ensures ∙ c.if-not-well_formed.false in
     let r = c.args.self in
     c.work.ensures ∙ builds given r.steps r.program low formed c.smallest-order.ensures c.cut-jet_of.result c.cut-jet_of.ensures
