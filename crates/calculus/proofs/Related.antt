@@ -76,8 +76,14 @@ module _ {A B C D : Type 0} (R : A → B → Type 0) (Q : C → D → Type 0) (o
   in_rows-alike f g (suc m) n e h =
       in_turn-alike (f m) (g m) n (in_rows-alike f g m n e (λ i j l k. h i j (omega arith) k)) (λ j k. h m j (le_refl (suc m)) k)
 
-  pub along_list-alike : {x : A} {y : B} {P : List ℕ → Type 0} (f : List ℕ → C) (g : List ℕ → D) {ls : List (List ℕ)} → R x y →
+  -- the recursion goes through every start, so the property of the lists comes first
+  along_list-keeps : {P : List ℕ → Type 0} {x : A} {y : B} (f : List ℕ → C) (g : List ℕ → D) {ls : List (List ℕ)} → R x y →
       Every P ls → ((l : List ℕ) → P l → Q (f l) (g l)) → R (along_list op x f ls) (along_list oq y g ls)
   unfolding along_list
-  along_list-alike f g e nil h = e
-  along_list-alike f g e (and p ps) h = along_list-alike f g (keeps _ _ _ _ e (h _ p)) ps h
+  along_list-keeps f g e nil h = e
+  along_list-keeps {x = x} {y = y} f g e (and {x = l} p ps) h =
+      along_list-keeps {x = op x (f l)} {y = oq y (g l)} f g (keeps _ _ _ _ e (h _ p)) ps h
+
+  pub along_list-alike : {x : A} {y : B} {P : List ℕ → Type 0} (f : List ℕ → C) (g : List ℕ → D) {ls : List (List ℕ)} → R x y →
+      Every P ls → ((l : List ℕ) → P l → Q (f l) (g l)) → R (along_list op x f ls) (along_list oq y g ls)
+  along_list-alike f g e ps h = along_list-keeps f g e ps h

@@ -56,7 +56,11 @@ module _ (S : Space) (c : ℕ → Curve) where
         d : ℕ
         d = S.dim
 
-    pub symmetric : (s : S.Field) (v : ℕ) {l r : List ℕ} → Out v l r → T s l ≡ T s (v ∷ r)
+    -- the recursion goes through every field, so the part that is taken out comes first
+    symmetric-by : (v : ℕ) (s : S.Field) {l r : List ℕ} → Out v l r → T s l ≡ T s (v ∷ r)
     unfolding T
-    symmetric s v here = refl
-    symmetric s v (there {a = a} {l = l} {r = r} o) = sum-cong S.dim (λ k h. ap (λ x. c k a ⊗ x) (symmetric (S.∂ k s) v o)) ∙ swap s a v r
+    symmetric-by v s here = refl
+    symmetric-by v s (there {a = a} {l = l} {r = r} o) = sum-cong S.dim (λ k h. ap (λ x. c k a ⊗ x) (symmetric-by v (S.∂ k s) o)) ∙ swap s a v r
+
+    pub symmetric : (s : S.Field) (v : ℕ) {l r : List ℕ} → Out v l r → T s l ≡ T s (v ∷ r)
+    symmetric s v o = symmetric-by v s o

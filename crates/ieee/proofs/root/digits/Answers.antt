@@ -1,7 +1,7 @@
 use Prim.Native.Nat.{◌-◌}
-use mathlib.Core.Logic.{⊎_elim}
 use Rattle.ieee.proofs.Recurrence.{starts, stays, takes, ends, renamed}
 use Rattle.ieee.proofs.root.digits.Goals as goal
+use Rattle.ieee.proofs.root.digits.Goals.{then-root-rest, else-root-rest}
 
 pub loop-i-init : goal.loop-i-init
 loop-i-init c = starts c.args.w c.ranges.w.fits
@@ -11,10 +11,10 @@ loop-i-preserved c =
     let w = c.args.w in
     let l = c.loop-i in
     let more = c.loop-i-test.true in
-    ⊎_elim
-    (λ a. renamed a.1 a.2 (takes w l.root l.rest l.left l.i l.invariant more a.0.taken))
-    (λ a. renamed a.1 a.2 (stays w l.root l.rest l.left l.i l.invariant more a.0.left))
-    c.if-root-rest.branch
+    elim c.if-root-rest.branch [
+        then-root-rest a ↦ renamed a.root-is a.rest-is (takes w l.root l.rest l.left l.i l.invariant more a.if-root-rest.true)
+      | else-root-rest a ↦ renamed a.root-is a.rest-is (stays w l.root l.rest l.left l.i l.invariant more a.if-root-rest.false)
+    ]
 
 pub returns : goal.returns
 returns c =
