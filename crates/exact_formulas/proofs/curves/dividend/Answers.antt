@@ -3,6 +3,7 @@ use Prim.Native.Nat.{◌-◌}
 use native.Mathlib.Omega.{arith}
 use borrow.Author.Rules.{rules}
 use native.Mathlib.Numerals.{add-one}
+use mir.Syntax.{w64}
 use mir.Facts.{to_z-of_z}
 use Rattle.whole.specs.declared.Whole.TheVariants.{Value}
 use Rattle.calculus.specs.InTurn.{in_turn}
@@ -11,7 +12,7 @@ use Rattle.exact_formulas.proofs.curves.dividend.Goals as goal
 
 pub loop-i-init : goal.loop-i-init
 unfolding in_turn
-loop-i-init c = (ap Value (to_z-of_z (search rules)), omega arith)
+loop-i-init c = (ap Value (to_z-of_z {w = w64} (search rules)), omega arith)
 
 pub leibniz_term-t-requires : goal.leibniz_term-t-requires
 leibniz_term-t-requires c = (omega arith, c.requires.0, c.requires.1)

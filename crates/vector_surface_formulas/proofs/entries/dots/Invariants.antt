@@ -9,7 +9,7 @@ use Prim.Native.Nat.{suc, ◌+◌, ◌-◌, ◌*◌, ◌≤◌}
 use Rattle.vector_surface_formulas.proofs.entries.dots.Given as goal
 
 abbrev pub invariant-loop-i : goal.invariant-loop-i
-invariant-loop-i l = (l : l.n ≤ 20) × SurfaceProgress (product_by (regular real) dot (vector_surface_numbers l.a) (vector_surface_numbers l.b)) l l.i l.j l.r
+invariant-loop-i at = (l : at.n ≤ 20) × SurfaceProgress (product_by (regular real) dot (vector_surface_numbers at.a) (vector_surface_numbers at.b)) l at.i at.j at.r
 
 abbrev pub decreases-loop-i : goal.decreases-loop-i
-decreases-loop-i l = (suc l.n - l.i) * 22 + (suc l.n - l.j)
+decreases-loop-i at = (suc at.n - at.i) * 22 + (suc at.n - at.j)

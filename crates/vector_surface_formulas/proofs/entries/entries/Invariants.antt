@@ -7,7 +7,7 @@ use Prim.Native.Nat.{suc, ◌+◌, ◌-◌, ◌*◌, ◌≤◌}
 use Rattle.vector_surface_formulas.proofs.entries.entries.Given as goal
 
 abbrev pub invariant-loop-i : goal.invariant-loop-i
-invariant-loop-i l = (l : l.n ≤ 20) × SurfaceProgress (surface_of l.f (vector_surface_numbers l.a) (vector_surface_numbers l.b) (surface_numbers l.w)) l l.i l.j l.r
+invariant-loop-i at = (l : at.n ≤ 20) × SurfaceProgress (surface_of at.f (vector_surface_numbers at.a) (vector_surface_numbers at.b) (surface_numbers at.w)) l at.i at.j at.r
 
 abbrev pub decreases-loop-i : goal.decreases-loop-i
-decreases-loop-i l = (suc l.n - l.i) * 22 + (suc l.n - l.j)
+decreases-loop-i at = (suc at.n - at.i) * 22 + (suc at.n - at.j)
