@@ -117,6 +117,10 @@ class Function:
         if not found and new_already:
             return [first, *[FIELD.get(it, it) for it in rest[1:]]]
         if not found:
+            found = [i for i, it in enumerate(self.places) if norm(it[2][0]) == norm(first)]
+            # a place that is counted one off: the step's name says which it is
+            found = found[:1] if len({self.places[i][2][1] for i in found}) == 1 else []
+        if not found:
             raise Left(f"no step {first} at {place}: {'.'.join(path)}")
         if len(found) > 1:
             below = [i for i in found if chain.index(i) >= ups] or found

@@ -19,16 +19,16 @@ parameter axis angle (suc (suc zero)) = axis.z
 parameter axis angle (suc (suc (suc _))) = angle
 
 -- how often the parameter p is in a derivative by the parameter i
-abbrev pub times-in : ℕ → ℕ → ℕ
-times-in p i = cond (eqb i p) 1 0
+abbrev pub times_in : ℕ → ℕ → ℕ
+times_in p i = cond (eqb i p) 1 0
 
 module _ (axis : Vector3) (s c : Float) where
   -- by the parameter i, and by i and j
   abbrev pub by_one : ℕ → Matrix3
-  by_one i = rotation (times-in 0 i) (times-in 1 i) (times-in 2 i) (times-in 3 i) axis s c
+  by_one i = rotation (times_in 0 i) (times_in 1 i) (times_in 2 i) (times_in 3 i) axis s c
 
   abbrev pub by_two : ℕ → ℕ → Matrix3
-  by_two i j = rotation (times-in 0 i + times-in 0 j) (times-in 1 i + times-in 1 j) (times-in 2 i + times-in 2 j) (times-in 3 i + times-in 3 j) axis s c
+  by_two i j = rotation (times_in 0 i + times_in 0 j) (times_in 1 i + times_in 1 j) (times_in 2 i + times_in 2 j) (times_in 3 i + times_in 3 j) axis s c
 
   -- what the parameter i, and the pair of i and j, add to the rotation's derivative, where a and t are those of the axis and of angle·u
   abbrev pub one_term : Vector3 → Float → ℕ → Matrix3

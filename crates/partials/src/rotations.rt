@@ -2,7 +2,7 @@
 ghost use Rattle.std.specs.Prelude.{◌≡◌, ◌+◌, ◌≤◌};
 ghost use Rattle.ieee_vectors.specs.Matrices.{sum3};
 ghost use Rattle.calculus.specs.InTurn.{in_turn};
-ghost use Rattle.partials.specs.Partials.{parameter as parameter_at, times-in, by_one, by_two, one_term, two_term, one_terms, two_terms, turn_v, turn_by_axis, turn_by_angle};
+ghost use Rattle.partials.specs.Partials.{parameter as parameter_at, times_in, by_one, by_two, one_term, two_term, one_terms, two_terms, turn_v, turn_by_axis, turn_by_angle};
 
 use ieee_vectors::{Matrix3, Vector3};
 
@@ -20,7 +20,7 @@ fn parameter(axis: Vector3, angle: f64, i: usize) -> f64
 
 // How often the parameter p is in a derivative by i, and in one by i and j.
 fn times_in(p: usize, i: usize) -> usize
-    ensures value { result ≡ times-in p i }
+    ensures value { result ≡ times_in p i }
     ensures small { result ≤ 1 }
 {
     if i == p { 1 } else { 0 }
@@ -38,7 +38,7 @@ pub fn by_one(axis: Vector3, s: f64, c: f64, i: usize) -> Matrix3
 }
 
 fn times_in_both(p: usize, i: usize, j: usize) -> usize
-    ensures { result ≡ times-in p i + times-in p j }
+    ensures { result ≡ times_in p i + times_in p j }
 {
     let m = times_in(p, i);
     let n = times_in(p, j);

@@ -20,25 +20,25 @@ loop-step-init c =
 
 pub slice_bounds-parts-end : goal.slice_bounds-parts-end
 slice_bounds-parts-end c =
-    let handed_out : c.loop-step.step.item.ended ≡ false = c.loop-step-test.true in
+    let handed_out : c.loop-step.step.item.ended ≡ false = not-true c.loop-step.step.item.ended c.loop-step-test.true in
     let listed : let s = c.args in Is s.len s.order s.order (take s.len c.loop-step.step.item.parts) = c.loop-step.invariant.1 handed_out in
     omega (arith, simp length-take at listed.long)
 
 pub slice_bounds-summand-end : goal.slice_bounds-summand-end
 slice_bounds-summand-end c =
-    let handed_out : c.loop-step.step.item.ended ≡ false = c.loop-step-test.true in
+    let handed_out : c.loop-step.step.item.ended ≡ false = not-true c.loop-step.step.item.ended c.loop-step-test.true in
     let listed : let s = c.args in Is s.len s.order s.order (take s.len c.loop-step.step.item.parts) = c.loop-step.invariant.1 handed_out in
     sym listed.long
 
 pub summand-term-requires : goal.summand-term-requires
 summand-term-requires c =
-    let handed_out : c.loop-step.step.item.ended ≡ false = c.loop-step-test.true in
+    let handed_out : c.loop-step.step.item.ended ≡ false = not-true c.loop-step.step.item.ended c.loop-step-test.true in
     let listed : let s = c.args in Is s.len s.order s.order (take s.len c.loop-step.step.item.parts) = c.loop-step.invariant.1 handed_out in
     is-list c.args.order c.args.len c.requires.0 c.requires.1 c.requires.2 _ listed
 
 pub loop-step-smaller : goal.loop-step-smaller
 loop-step-smaller c =
-    let handed_out : c.loop-step.step.item.ended ≡ false = c.loop-step-test.true in
+    let handed_out : c.loop-step.step.item.ended ≡ false = not-true c.loop-step.step.item.ended c.loop-step-test.true in
     let next : let s = c.args in
     Steps s.order s.len (remaining c.loop-step.step.walk) c.step-step-in-loop-step.result = subst (Steps c.args.order c.args.len (remaining c.loop-step.step.walk)) (sym c.step-step-in-loop-step.ensures)
     (steps c.args.order c.args.len c.requires.0 c.requires.1 c.requires.2 c.loop-step.step.walk c.loop-step.invariant.0) in
@@ -48,7 +48,7 @@ loop-step-smaller c =
 pub loop-step-preserved : goal.loop-step-preserved
 unfolding along_list
 loop-step-preserved c =
-    let handed_out : c.loop-step.step.item.ended ≡ false = c.loop-step-test.true in
+    let handed_out : c.loop-step.step.item.ended ≡ false = not-true c.loop-step.step.item.ended c.loop-step-test.true in
     let next : let s = c.args in
     Steps s.order s.len (remaining c.loop-step.step.walk) c.step-step-in-loop-step.result = subst (Steps c.args.order c.args.len (remaining c.loop-step.step.walk)) (sym c.step-step-in-loop-step.ensures)
     (steps c.args.order c.args.len c.requires.0 c.requires.1 c.requires.2 c.loop-step.step.walk c.loop-step.invariant.0) in
@@ -64,7 +64,7 @@ loop-step-preserved c =
 pub returns : goal.returns
 unfolding along_list
 returns c =
-    let at-end : c.loop-step.step.item.ended ≡ true = c.loop-step-test.false in
+    let at-end : c.loop-step.step.item.ended ≡ true = not-false c.loop-step.step.item.ended c.loop-step-test.false in
     let s = c.args in
     let t = terms s.entries.now s.u.now s.v.now in
     sym (ap (along_list checked.plus c.loop-step.sum t) (pending-none s.len c.loop-step.step at-end)) ∙ c.loop-step.invariant.2

@@ -1,5 +1,4 @@
 use mathlib.Core.Path.{◌≡◌, refl, sym, ◌∙◌, ap}
-use mathlib.Core.Logic.{⊎_elim}
 use lib.ListN.{drop, get_or}
 use lib.IntN.{pos}
 use mir.Syntax.{w64}
@@ -15,6 +14,7 @@ use Prim.Native.Nat.{◌+◌, ◌-◌, ◌/◌, ◌%◌}
 use native.Mathlib.Omega.{arith}
 use borrow.Author.Rules.{rules}
 use Rattle.exact_carry.proofs.factors.Goals as goal
+use Rattle.exact_carry.proofs.factors.Goals.{then-rest-eq0, else-rest-eq0}
 
 pub loop-p-init : goal.loop-p-init
 loop-p-init c = (refl, omega arith)
@@ -38,9 +38,10 @@ loop-p-preserved c =
     let s = c.args in
     let k = coordinates (curve_values s.u.now) (curve_values s.v.now) in
     let a = get_or s.list.now l.p 0 in
-    let x : Value (to_z w64 j.x) ≡ k (l.rest % 2) a =
-    ⊎_elim (λ w. let fu : SFits w64 (get_or s.u.now a (pos 0)) = search rules in by-u (curve_values s.u.now) (curve_values s.v.now) (l.rest % 2) a (Value (to_z w64 j.x)) w.0.taken (ap (λ n. Value (to_z w64 n)) w.2 ∙ ap Value (to_z-of_z fu)))
-    (λ w. let fv : SFits w64 (get_or s.v.now a (pos 0)) = search rules in by-v (curve_values s.u.now) (curve_values s.v.now) (l.rest % 2) a (Value (to_z w64 j.x)) w.0.left (ap (λ n. Value (to_z w64 n)) w.2 ∙ ap Value (to_z-of_z fv))) j.branch in (
+    let x : Value (to_z w64 j.x-bits) ≡ k (l.rest % 2) a = elim j.branch [
+        then-rest-eq0 w ↦ by-u (curve_values s.u.now) (curve_values s.v.now) (l.rest % 2) a (Value (to_z w64 j.x-bits)) w.if-rest-eq0.true (let f : SFits w64 (get_or s.u.now a (pos 0)) = search rules in ap Value (w.x-is ∙ to_z-of_z f))
+      | else-rest-eq0 w ↦ by-v (curve_values s.u.now) (curve_values s.v.now) (l.rest % 2) a (Value (to_z w64 j.x-bits)) w.if-rest-eq0.false (let f : SFits w64 (get_or s.v.now a (pos 0)) = search rules in ap Value (w.x-is ∙ to_z-of_z f))
+    ] in (
       ap (λ r. Factors checked 2 k r (drop (l.p + 1) s.list.now) (l.rest / 2)) (c.times-product.ensures ∙ ap (checked.times l.product) x)
           ∙ sym (factors-at checked 2 k l.product s.list.now l.p l.rest (omega arith)) ∙ l.invariant.0,
       omega arith,

@@ -2,13 +2,13 @@ use Rattle.calculus.proofs.LoopBits.{factors-at, factors-past, by-u, by-v}
 use Rattle.calculus.specs.Carry.{factors as Factors, coordinates}
 use Rattle.partitions.proofs.Member.{part-total}
 use lib.ListN.{drop, get_or}
-use mathlib.Core.Logic.{⊎_elim}
 use Rattle.formulas.specs.Numbers.{curve_numbers}
 use Rattle.formulas.specs.Real.{real}
 use mathlib.Core.Path.{◌≡◌, refl, sym, ap, ◌∙◌}
 use Prim.Native.Nat.{◌+◌, ◌-◌, ◌/◌, ◌%◌}
 use native.Mathlib.Omega.{arith}
 use Rattle.float_carry.proofs.factors.Goals as goal
+use Rattle.float_carry.proofs.factors.Goals.{then-rest-eq0, else-rest-eq0}
 
 pub loop-p-init : goal.loop-p-init
 loop-p-init c = (refl, omega arith)
@@ -35,7 +35,10 @@ loop-p-preserved c =
     let v = curve_numbers s.v.now in
     let f = coordinates u v in
     let a = get_or s.list.now l.p 0 in
-    let x : j.x ≡ f (l.rest % 2) a = ⊎_elim (λ w. by-u u v (l.rest % 2) a j.x w.0.taken w.2) (λ w. by-v u v (l.rest % 2) a j.x w.0.left w.2) j.branch in (
+    let x : j.x ≡ f (l.rest % 2) a = elim j.branch [
+        then-rest-eq0 w ↦ by-u u v (l.rest % 2) a j.x w.if-rest-eq0.true w.x-is
+      | else-rest-eq0 w ↦ by-v u v (l.rest % 2) a j.x w.if-rest-eq0.false w.x-is
+    ] in (
       ap (λ r. Factors real 2 f r (drop (l.p + 1) s.list.now) (l.rest / 2)) (ap (real.times l.product) x)
           ∙ sym (factors-at real 2 f l.product s.list.now l.p l.rest (omega arith)) ∙ l.invariant.0,
       omega arith,

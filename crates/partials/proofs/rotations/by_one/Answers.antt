@@ -6,4 +6,4 @@ use Rattle.partials.proofs.rotations.by_one.Goals as goal
 pub returns : goal.returns
 returns c =
     let s = c.args in
-    c.rotation.ensures ∙ same-orders s.axis s.s s.c c.times_in-x.ensures.0 c.times_in-y.ensures.0 c.times_in-z.ensures.0 c.times_in-n.ensures.0
+    c.rotation.ensures ∙ same-orders s.axis s.s s.c c.times_in-x.ensures.value c.times_in-y.ensures.value c.times_in-z.ensures.value c.times_in-n.ensures.value
