@@ -1,4 +1,5 @@
 -- `derivatives::CurveDerivatives::derivative` meets its contract. Assumes nothing.
+use mathlib.Core.Bool.{not}
 use Prim.Native.Nat.{◌-◌}
 use Rattle.formulas.specs.Numbers.{curve_numbers}
 use Rattle.ieee_vectors.specs.Vectors.{positive_zero}
@@ -22,10 +23,10 @@ returns-then-n-eq0 c = let s = c.args in
 pub returns-then-not-finite_curve : goal.returns-then-not-finite_curve
 returns-then-not-finite_curve c =
     let s = c.args in
-    c.refused_curve-then-not-finite_curve.ensures ∙ less-infinite curves derivative s.self c.if-n-gt20.false c.finite_curve.ensures c.if-n-eq0.false c.if-not-finite_curve.true
+    c.refused_curve-then-not-finite_curve.ensures ∙ less-infinite curves derivative s.self c.if-n-gt20.false c.finite_curve.ensures c.if-n-eq0.false (ap not c.if-not-finite_curve.true)
 
 pub returns : goal.returns
 returns c =
     let s = c.args in
     ap (made_curve (s.self.order - 1)) (c.derivative-r.ensures ∙ less-uncut (curve_array positive_zero (derivative (curve_numbers s.self.entries))) s.self.order c.if-n-gt20.false)
-    ∙ less-worked curves derivative s.self c.if-n-gt20.false c.finite_curve.ensures c.if-n-eq0.false c.if-not-finite_curve.false
+    ∙ less-worked curves derivative s.self c.if-n-gt20.false c.finite_curve.ensures c.if-n-eq0.false (ap not c.if-not-finite_curve.false)

@@ -1,6 +1,7 @@
 -- `derivatives::CurveDerivatives::from_list` meets its contract. Assumes nothing.
+use mathlib.Core.Bool.{not}
 use Rattle.calculus.proofs.Tested.{list-above-20, list_length, list-infinite, list-is}
-use mathlib.Core.Path.{◌∙◌}
+use mathlib.Core.Path.{◌∙◌, ap}
 use native.Mathlib.Numerals.{add-one}
 use Rattle.derivatives.specs.Answer.{curves}
 use Rattle.derivatives.proofs.CurveDerivatives.from_list.Goals as goal
@@ -15,8 +16,8 @@ returns-then-list-order c = let s = c.args in
 
 pub returns-then-not-finite_list : goal.returns-then-not-finite_list
 returns-then-not-finite_list c = let s = c.args in
-    c.refused_curve-then-not-finite_list.ensures ∙ list-infinite curves s.order s.list.now c.if-order-gt20.false (add-one s.order) c.if-list-order.false c.finite_list.ensures c.if-not-finite_list.true
+    c.refused_curve-then-not-finite_list.ensures ∙ list-infinite curves s.order s.list.now c.if-order-gt20.false (add-one s.order) c.if-list-order.false c.finite_list.ensures (ap not c.if-not-finite_list.true)
 
 pub returns : goal.returns
 returns c = let s = c.args in
-    c.read.ensures ∙ list-is curves s.order s.list.now c.if-order-gt20.false (add-one s.order) c.if-list-order.false c.finite_list.ensures c.if-not-finite_list.false
+    c.read.ensures ∙ list-is curves s.order s.list.now c.if-order-gt20.false (add-one s.order) c.if-list-order.false c.finite_list.ensures (ap not c.if-not-finite_list.false)

@@ -1,4 +1,5 @@
 -- `derivatives::CurveDerivatives::into_list` meets its contract. Assumes nothing.
+use mathlib.Core.Bool.{not}
 use Rattle.calculus.proofs.Tested.{pair, into-above-20, into-length, into-infinite, into-worked}
 use Rattle.derivatives.specs.Answer.{curves}
 use native.Mathlib.Numerals.{add-one}
@@ -16,10 +17,10 @@ returns-then-out-n c = let s = c.args in
 pub returns-then-not-finite_curve : goal.returns-then-not-finite_curve
 returns-then-not-finite_curve c =
     let s = c.args in
-    into-infinite curves s.self s.out.now c.if-n-gt20.false (add-one s.self.order) c.if-out-n.false c.finite_curve.ensures c.if-not-finite_curve.true
+    into-infinite curves s.self s.out.now c.if-n-gt20.false (add-one s.self.order) c.if-out-n.false c.finite_curve.ensures (ap not c.if-not-finite_curve.true)
 
 pub returns : goal.returns
 returns c =
     let s = c.args in
     ap (pair 0) c.write.ensures
-    ∙ into-worked curves s.self s.out.now c.if-n-gt20.false (add-one s.self.order) c.if-out-n.false c.finite_curve.ensures c.if-not-finite_curve.false
+    ∙ into-worked curves s.self s.out.now c.if-n-gt20.false (add-one s.self.order) c.if-out-n.false c.finite_curve.ensures (ap not c.if-not-finite_curve.false)

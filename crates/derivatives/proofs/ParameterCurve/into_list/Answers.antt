@@ -1,4 +1,5 @@
 -- `derivatives::ParameterCurve::into_list` meets its contract. Assumes nothing.
+use mathlib.Core.Bool.{not}
 use Rattle.calculus.proofs.Tested.{pair, into-above-20, into-length, into-infinite, into-worked}
 use Rattle.derivatives.proofs.Parameters.{twice}
 use Rattle.derivatives.specs.Answer.{parameters}
@@ -16,10 +17,10 @@ returns-then-out-n c = let s = c.args in
 pub returns-then-not-curves_finite : goal.returns-then-not-curves_finite
 returns-then-not-curves_finite c =
     let s = c.args in
-    into-infinite parameters s.self s.out.now c.if-n-gt20.false (twice s.self.order) c.if-out-n.false c.curves_finite.ensures c.if-not-curves_finite.true
+    into-infinite parameters s.self s.out.now c.if-n-gt20.false (twice s.self.order) c.if-out-n.false c.curves_finite.ensures (ap not c.if-not-curves_finite.true)
 
 pub returns : goal.returns
 returns c =
     let s = c.args in
     ap (pair 0) c.write.ensures
-    ∙ into-worked parameters s.self s.out.now c.if-n-gt20.false (twice s.self.order) c.if-out-n.false c.curves_finite.ensures c.if-not-curves_finite.false
+    ∙ into-worked parameters s.self s.out.now c.if-n-gt20.false (twice s.self.order) c.if-out-n.false c.curves_finite.ensures (ap not c.if-not-curves_finite.false)

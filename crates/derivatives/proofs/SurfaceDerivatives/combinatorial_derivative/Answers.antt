@@ -1,4 +1,5 @@
 -- `derivatives::SurfaceDerivatives::combinatorial_derivative` meets its contract. Assumes nothing.
+use mathlib.Core.Bool.{not}
 use Rattle.formulas.specs.Numbers.{surface_numbers}
 use Rattle.calculus.proofs.LoopCut.{uncut-entry}
 use Rattle.calculus.proofs.Tested.{near-at, at-above-20, at-beyond, at-infinite, at-worked}
@@ -32,10 +33,10 @@ surfaces_finite-requires c =
 pub returns-then-not-surfaces_finite : goal.returns-then-not-surfaces_finite
 returns-then-not-surfaces_finite c =
     let s = c.args in
-    at-infinite surfaces surfaces Refused (λ x y. returned (product real x y s.m s.n)) s.self s.other (s.m + s.n) c.above_20_sum_at.ensures c.if-above_20_sum_at.false c.smaller.ensures c.if-smaller-o.false c.surfaces_finite.ensures c.if-not-surfaces_finite.true
+    at-infinite surfaces surfaces Refused (λ x y. returned (product real x y s.m s.n)) s.self s.other (s.m + s.n) c.above_20_sum_at.ensures c.if-above_20_sum_at.false c.smaller.ensures c.if-smaller-o.false c.surfaces_finite.ensures (ap not c.if-not-surfaces_finite.true)
 
 pub returns : goal.returns
 returns c =
     let s = c.args in
     c.returned.ensures ∙ ap returned (c.surface_product.ensures ∙ uncut-entry (product real (surface_numbers s.self.entries) (surface_numbers s.other.entries)) (near-at s.self.order s.other.order (s.m + s.n) c.above_20_sum_at.ensures c.if-above_20_sum_at.false))
-    ∙ at-worked surfaces surfaces Refused (λ x y. returned (product real x y s.m s.n)) s.self s.other (s.m + s.n) c.above_20_sum_at.ensures c.if-above_20_sum_at.false c.smaller.ensures c.if-smaller-o.false c.surfaces_finite.ensures c.if-not-surfaces_finite.false
+    ∙ at-worked surfaces surfaces Refused (λ x y. returned (product real x y s.m s.n)) s.self s.other (s.m + s.n) c.above_20_sum_at.ensures c.if-above_20_sum_at.false c.smaller.ensures c.if-smaller-o.false c.surfaces_finite.ensures (ap not c.if-not-surfaces_finite.false)

@@ -1,4 +1,5 @@
 -- `derivatives::SurfaceDerivatives::composite_derivative` meets its contract. Assumes nothing.
+use mathlib.Core.Bool.{not}
 use Rattle.formulas.specs.Numbers.{curve_numbers, surface_numbers}
 use Rattle.calculus.proofs.LoopCut.{uncut}
 use Rattle.calculus.proofs.Tested.{near-at, at-above-20, at-beyond, at-infinite, at-worked}
@@ -27,10 +28,10 @@ all_finite-requires c =
 pub returns-then-not-all_finite : goal.returns-then-not-all_finite
 returns-then-not-all_finite c =
     let s = c.args in
-    at-infinite surfaces parameters Refused (λ x y. returned (composite_derivative (regular real) y.0 y.1 x s.order)) s.self s.curve s.order c.above_20_at.ensures c.if-above_20_at.false c.smaller.ensures c.if-smaller-order.false c.all_finite.ensures c.if-not-all_finite.true
+    at-infinite surfaces parameters Refused (λ x y. returned (composite_derivative (regular real) y.0 y.1 x s.order)) s.self s.curve s.order c.above_20_at.ensures c.if-above_20_at.false c.smaller.ensures c.if-smaller-order.false c.all_finite.ensures (ap not c.if-not-all_finite.true)
 
 pub returns : goal.returns
 returns c =
     let s = c.args in
     c.returned.ensures ∙ ap returned (c.derivative.ensures ∙ uncut (composite_derivative (regular real) (curve_numbers s.curve.u) (curve_numbers s.curve.v) (surface_numbers s.self.entries)) (near-at s.self.order s.curve.order s.order c.above_20_at.ensures c.if-above_20_at.false))
-    ∙ at-worked surfaces parameters Refused (λ x y. returned (composite_derivative (regular real) y.0 y.1 x s.order)) s.self s.curve s.order c.above_20_at.ensures c.if-above_20_at.false c.smaller.ensures c.if-smaller-order.false c.all_finite.ensures c.if-not-all_finite.false
+    ∙ at-worked surfaces parameters Refused (λ x y. returned (composite_derivative (regular real) y.0 y.1 x s.order)) s.self s.curve s.order c.above_20_at.ensures c.if-above_20_at.false c.smaller.ensures c.if-smaller-order.false c.all_finite.ensures (ap not c.if-not-all_finite.false)

@@ -1,7 +1,8 @@
 -- `derivatives::SurfaceDerivatives::from_list` meets its contract. Assumes nothing.
+use mathlib.Core.Bool.{not}
 use Rattle.calculus.proofs.Tested.{list-above-20, list_length, list-infinite, list-is}
 use Rattle.formulas.proofs.Finite.{counted}
-use mathlib.Core.Path.{◌∙◌}
+use mathlib.Core.Path.{◌∙◌, ap}
 use Rattle.derivatives.specs.Answer.{surfaces}
 use Rattle.derivatives.proofs.SurfaceDerivatives.from_list.Goals as goal
 
@@ -16,7 +17,7 @@ returns-then-list-surface_count c = let s = c.args in
 pub returns-then-not-finite_list : goal.returns-then-not-finite_list
 returns-then-not-finite_list c =
     let s = c.args in
-    c.refused_surface-then-not-finite_list.ensures ∙ list-infinite surfaces s.order s.list.now c.if-order-gt20.false (counted s.order c.if-order-gt20.false c.surface_count.ensures) c.if-list-surface_count.false c.finite_list.ensures c.if-not-finite_list.true
+    c.refused_surface-then-not-finite_list.ensures ∙ list-infinite surfaces s.order s.list.now c.if-order-gt20.false (counted s.order c.if-order-gt20.false c.surface_count.ensures) c.if-list-surface_count.false c.finite_list.ensures (ap not c.if-not-finite_list.true)
 
 pub read-requires : goal.read-requires
 read-requires c = (c.if-order-gt20.false, c.if-list-surface_count.false ∙ counted c.args.order c.if-order-gt20.false c.surface_count.ensures)
@@ -24,4 +25,4 @@ read-requires c = (c.if-order-gt20.false, c.if-list-surface_count.false ∙ coun
 pub returns : goal.returns
 returns c =
     let s = c.args in
-    c.read.ensures ∙ list-is surfaces s.order s.list.now c.if-order-gt20.false (counted s.order c.if-order-gt20.false c.surface_count.ensures) c.if-list-surface_count.false c.finite_list.ensures c.if-not-finite_list.false
+    c.read.ensures ∙ list-is surfaces s.order s.list.now c.if-order-gt20.false (counted s.order c.if-order-gt20.false c.surface_count.ensures) c.if-list-surface_count.false c.finite_list.ensures (ap not c.if-not-finite_list.false)

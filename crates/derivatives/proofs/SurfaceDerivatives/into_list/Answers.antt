@@ -1,4 +1,5 @@
 -- `derivatives::SurfaceDerivatives::into_list` meets its contract. Assumes nothing.
+use mathlib.Core.Bool.{not}
 use Rattle.calculus.proofs.Tested.{pair, into-above-20, into-length, into-infinite, into-worked}
 use Rattle.formulas.proofs.Finite.{counted}
 use Rattle.derivatives.specs.Answer.{surfaces}
@@ -16,7 +17,7 @@ returns-then-out-surface_count c = let s = c.args in
 pub returns-then-not-finite_surface : goal.returns-then-not-finite_surface
 returns-then-not-finite_surface c =
     let s = c.args in
-    into-infinite surfaces s.self s.out.now c.if-n-gt20.false (counted s.self.order c.if-n-gt20.false c.surface_count.ensures) c.if-out-surface_count.false c.finite_surface.ensures c.if-not-finite_surface.true
+    into-infinite surfaces s.self s.out.now c.if-n-gt20.false (counted s.self.order c.if-n-gt20.false c.surface_count.ensures) c.if-out-surface_count.false c.finite_surface.ensures (ap not c.if-not-finite_surface.true)
 
 pub write-requires : goal.write-requires
 write-requires c =
@@ -26,4 +27,4 @@ pub returns : goal.returns
 returns c =
     let s = c.args in
     ap (pair 0) c.write.ensures
-    ∙ into-worked surfaces s.self s.out.now c.if-n-gt20.false (counted s.self.order c.if-n-gt20.false c.surface_count.ensures) c.if-out-surface_count.false c.finite_surface.ensures c.if-not-finite_surface.false
+    ∙ into-worked surfaces s.self s.out.now c.if-n-gt20.false (counted s.self.order c.if-n-gt20.false c.surface_count.ensures) c.if-out-surface_count.false c.finite_surface.ensures (ap not c.if-not-finite_surface.false)

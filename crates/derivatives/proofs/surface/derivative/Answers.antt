@@ -1,4 +1,5 @@
 -- `derivatives::surface::derivative` meets its contract. Assumes nothing.
+use mathlib.Core.Bool.{not}
 use Rattle.calculus.specs.Surface.{derivative_by}
 use Rattle.calculus.proofs.Tested.{less-above-20, less_none, less-infinite, less-worked}
 use Rattle.derivatives.specs.Names.{made_surface}
@@ -18,10 +19,10 @@ returns-then-n-eq0 c = let s = c.args in
 pub returns-then-not-finite_surface : goal.returns-then-not-finite_surface
 returns-then-not-finite_surface c =
     let s = c.args in
-    c.refused_surface-then-not-finite_surface.ensures ∙ less-infinite surfaces (derivative_by s.by) s.a c.if-n-gt20.false c.finite_surface.ensures c.if-n-eq0.false c.if-not-finite_surface.true
+    c.refused_surface-then-not-finite_surface.ensures ∙ less-infinite surfaces (derivative_by s.by) s.a c.if-n-gt20.false c.finite_surface.ensures c.if-n-eq0.false (ap not c.if-not-finite_surface.true)
 
 pub returns : goal.returns
 returns c =
     let s = c.args in
     ap (made_surface (s.a.order - 1)) c.shifted-r.ensures
-    ∙ less-worked surfaces (derivative_by s.by) s.a c.if-n-gt20.false c.finite_surface.ensures c.if-n-eq0.false c.if-not-finite_surface.false
+    ∙ less-worked surfaces (derivative_by s.by) s.a c.if-n-gt20.false c.finite_surface.ensures c.if-n-eq0.false (ap not c.if-not-finite_surface.false)

@@ -15,7 +15,7 @@ pub returns-then-t-ne0 : goal.returns-then-t-ne0
 unfolding deliver_count
 returns-then-t-ne0 c =
     let s = c.args in
-    refused s.out.now c.count-t.ensures (pair 0 (c.a-1.given.0.0 ∷ [])) c.if-t-ne0.true ∙ ap (λ (w : Count). deliver_count w s.out.now) (sym c.a-1.given.1)
+    refused s.out.now c.count-t.ensures (pair 0 (c.in-Value.v ∷ [])) c.if-t-ne0.true ∙ ap (λ (w : Count). deliver_count w s.out.now) (sym c.in-Value.is)
 
 pub bounds-out-0 : goal.bounds-out-0
 bounds-out-0 c =
@@ -27,10 +27,10 @@ unfolding deliver_count
 returns-else-t-ne0 c =
     let s = c.args in
     let one = count_fits 1 (length s.out.now) (sym c.count-t.ensures ∙ c.if-t-ne0.false) in
-    allowed s.out.now c.count-t.ensures c.if-t-ne0.false (ap (pair 0) (one_written s.out.now c.a-1.given.0.0 one)) ∙ ap (λ (w : Count). deliver_count w s.out.now) (sym c.a-1.given.1)
+    allowed s.out.now c.count-t.ensures c.if-t-ne0.false (ap (pair 0) (one_written s.out.now c.in-Value.v one)) ∙ ap (λ (w : Count). deliver_count w s.out.now) (sym c.in-Value.is)
 
 pub returns-in-Refused : goal.returns-in-Refused
 unfolding deliver_count
 returns-in-Refused c =
     let s = c.args in
-    ap (λ (x : ℕ). pair x s.out.now) (c.first.ensures ∙ ap (first c.a-in-Refused-1.given.0.0) c.count-t.ensures) ∙ ap (λ (w : Count). deliver_count w s.out.now) (sym c.a-in-Refused-1.given.1)
+    ap (λ (x : ℕ). pair x s.out.now) (c.first.ensures ∙ ap (first c.in-Refused.c) c.count-t.ensures) ∙ ap (λ (w : Count). deliver_count w s.out.now) (sym c.in-Refused.is)

@@ -6,4 +6,4 @@ use Rattle.roads.specs.Roads.{curve_steps}
 use Rattle.roads.proofs.curves.orders.Goals as goal
 
 pub returns : goal.returns
-returns c = (four-orders curves.order curve_steps.blank c.args.t1 (search rules), search rules)
+returns c = (four-orders curves.order curve_steps.blank c.args.jets (search rules), search rules)

@@ -8,7 +8,7 @@ use Rattle.roads.proofs.roads.carry_each.Goals as goal
 
 pub loop-i-init : goal.loop-i-init
 loop-i-init c =
-    let four : length c.args.t1 ≡ 4 = search rules in
+    let four : length c.args.jets ≡ 4 = search rules in
     carry-begins (λ x. along_curve x c.args.curve c.args.order) four c.requires refl
 
 pub returns-then-number-ne0 : goal.returns-then-number-ne0

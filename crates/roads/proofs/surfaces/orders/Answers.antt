@@ -6,4 +6,4 @@ use Rattle.roads.specs.Roads.{surface_steps}
 use Rattle.roads.proofs.surfaces.orders.Goals as goal
 
 pub returns : goal.returns
-returns c = (four-orders surfaces.order surface_steps.blank c.args.t1 (search rules), search rules)
+returns c = (four-orders surfaces.order surface_steps.blank c.args.jets (search rules), search rules)

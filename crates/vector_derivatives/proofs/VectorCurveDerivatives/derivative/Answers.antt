@@ -1,4 +1,5 @@
 -- `vector_derivatives::VectorCurveDerivatives::derivative` meets its contract. Assumes nothing.
+use mathlib.Core.Bool.{not}
 use Rattle.vector_formulas.specs.Vector.{vector_numbers, vector_array}
 use Rattle.derivatives.proofs.Answers.{less-uncut}
 use Rattle.calculus.proofs.Tested.{less-above-20, less_none, less-infinite, less-worked}
@@ -20,10 +21,10 @@ returns-then-n-eq0 c = let s = c.args in
 pub returns-then-not-curve_finite : goal.returns-then-not-curve_finite
 returns-then-not-curve_finite c =
     let s = c.args in
-    c.refused-then-not-curve_finite.ensures ∙ less-infinite vector_curves derivative s.self c.if-n-gt20.false c.curve_finite.ensures c.if-n-eq0.false c.if-not-curve_finite.true
+    c.refused-then-not-curve_finite.ensures ∙ less-infinite vector_curves derivative s.self c.if-n-gt20.false c.curve_finite.ensures c.if-n-eq0.false (ap not c.if-not-curve_finite.true)
 
 pub returns : goal.returns
 returns c =
     let s = c.args in
     ap (made_vector_curve (s.self.order - 1)) (c.derivative-r.ensures ∙ less-uncut (vector_array (derivative (vector_numbers s.self.entries))) s.self.order c.if-n-gt20.false)
-    ∙ less-worked vector_curves derivative s.self c.if-n-gt20.false c.curve_finite.ensures c.if-n-eq0.false c.if-not-curve_finite.false
+    ∙ less-worked vector_curves derivative s.self c.if-n-gt20.false c.curve_finite.ensures c.if-n-eq0.false (ap not c.if-not-curve_finite.false)

@@ -1,4 +1,5 @@
 -- `vector_derivatives::VectorCurveDerivatives::from_list` meets its contract. Assumes nothing.
+use mathlib.Core.Bool.{not}
 use Rattle.calculus.proofs.LoopCut.{uncut}
 use Rattle.calculus.proofs.Tested.{list-above-20, list_length, list-infinite, list-is}
 use Rattle.vector_formulas.specs.Vector.{vector_numbers, vector_array}
@@ -19,10 +20,10 @@ returns-then-list-order c = let s = c.args in
 
 pub returns-then-not-finite_list : goal.returns-then-not-finite_list
 returns-then-not-finite_list c = let s = c.args in
-    c.refused-then-not-finite_list.ensures ∙ list-infinite vector_curves s.order s.list.now c.if-order-gt20.false (ap (◌*◌ 3) (add-one s.order)) c.if-list-order.false c.finite_list.ensures c.if-not-finite_list.true
+    c.refused-then-not-finite_list.ensures ∙ list-infinite vector_curves s.order s.list.now c.if-order-gt20.false (ap (◌*◌ 3) (add-one s.order)) c.if-list-order.false c.finite_list.ensures (ap not c.if-not-finite_list.true)
 
 pub returns : goal.returns
 returns c = let s = c.args in
     let x = vector_numbers s.list.now in
     ap (made_vector_curve s.order) (c.read-r.ensures ∙ uncut (vector_array x) c.if-order-gt20.false)
-    ∙ list-is vector_curves s.order s.list.now c.if-order-gt20.false (ap (◌*◌ 3) (add-one s.order)) c.if-list-order.false c.finite_list.ensures c.if-not-finite_list.false
+    ∙ list-is vector_curves s.order s.list.now c.if-order-gt20.false (ap (◌*◌ 3) (add-one s.order)) c.if-list-order.false c.finite_list.ensures (ap not c.if-not-finite_list.false)

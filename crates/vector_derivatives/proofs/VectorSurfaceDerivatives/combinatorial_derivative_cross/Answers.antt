@@ -1,4 +1,5 @@
 -- `vector_derivatives::VectorSurfaceDerivatives::combinatorial_derivative_cross` meets its contract. Assumes nothing.
+use mathlib.Core.Bool.{not}
 use Rattle.calculus.proofs.LoopCut.{uncut-entry}
 use Rattle.calculus.proofs.Tested.{near-at, at-above-20, at-beyond, at-infinite, at-worked}
 use Rattle.vectors.specs.declared.VectorAnswer.TheVariants.{Refused}
@@ -32,10 +33,10 @@ both_finite-requires c =
 pub returns-then-not-both_finite : goal.returns-then-not-both_finite
 returns-then-not-both_finite c =
     let s = c.args in
-    at-infinite vector_surfaces vector_surfaces Refused (λ x y. returned_vector (product_by vectors cross x y s.m s.n)) s.self s.other (s.m + s.n) c.above_20_sum_at.ensures c.if-above_20_sum_at.false c.smaller.ensures c.if-smaller-o.false c.both_finite.ensures c.if-not-both_finite.true
+    at-infinite vector_surfaces vector_surfaces Refused (λ x y. returned_vector (product_by vectors cross x y s.m s.n)) s.self s.other (s.m + s.n) c.above_20_sum_at.ensures c.if-above_20_sum_at.false c.smaller.ensures c.if-smaller-o.false c.both_finite.ensures (ap not c.if-not-both_finite.true)
 
 pub returns : goal.returns
 returns c =
     let s = c.args in
     c.returned_vector.ensures ∙ ap returned_vector (c.cross.ensures ∙ uncut-entry (product_by vectors cross (vector_surface_numbers s.self.entries) (vector_surface_numbers s.other.entries)) (near-at s.self.order s.other.order (s.m + s.n) c.above_20_sum_at.ensures c.if-above_20_sum_at.false))
-    ∙ at-worked vector_surfaces vector_surfaces Refused (λ x y. returned_vector (product_by vectors cross x y s.m s.n)) s.self s.other (s.m + s.n) c.above_20_sum_at.ensures c.if-above_20_sum_at.false c.smaller.ensures c.if-smaller-o.false c.both_finite.ensures c.if-not-both_finite.false
+    ∙ at-worked vector_surfaces vector_surfaces Refused (λ x y. returned_vector (product_by vectors cross x y s.m s.n)) s.self s.other (s.m + s.n) c.above_20_sum_at.ensures c.if-above_20_sum_at.false c.smaller.ensures c.if-smaller-o.false c.both_finite.ensures (ap not c.if-not-both_finite.false)

@@ -1,4 +1,5 @@
 -- `vector_derivatives::VectorSurfaceDerivatives::combinatorial_derivative_scaled` meets its contract. Assumes nothing.
+use mathlib.Core.Bool.{not}
 use Rattle.formulas.specs.Numbers.{surface_numbers}
 use Rattle.calculus.proofs.LoopCut.{uncut-entry}
 use Rattle.calculus.proofs.Tested.{near-at, at-above-20, at-beyond, at-infinite, at-worked}
@@ -34,10 +35,10 @@ weighted_finite-requires c =
 pub returns-then-not-weighted_finite : goal.returns-then-not-weighted_finite
 returns-then-not-weighted_finite c =
     let s = c.args in
-    at-infinite vector_surfaces surfaces Refused (λ x y. returned_vector (product_by vectors multiple x y s.m s.n)) s.self s.other (s.m + s.n) c.above_20_sum_at.ensures c.if-above_20_sum_at.false c.smaller.ensures c.if-smaller-o.false c.weighted_finite.ensures c.if-not-weighted_finite.true
+    at-infinite vector_surfaces surfaces Refused (λ x y. returned_vector (product_by vectors multiple x y s.m s.n)) s.self s.other (s.m + s.n) c.above_20_sum_at.ensures c.if-above_20_sum_at.false c.smaller.ensures c.if-smaller-o.false c.weighted_finite.ensures (ap not c.if-not-weighted_finite.true)
 
 pub returns : goal.returns
 returns c =
     let s = c.args in
     c.returned_vector.ensures ∙ ap returned_vector (c.scaled.ensures ∙ uncut-entry (product_by vectors multiple (vector_surface_numbers s.self.entries) (surface_numbers s.other.entries)) (near-at s.self.order s.other.order (s.m + s.n) c.above_20_sum_at.ensures c.if-above_20_sum_at.false))
-    ∙ at-worked vector_surfaces surfaces Refused (λ x y. returned_vector (product_by vectors multiple x y s.m s.n)) s.self s.other (s.m + s.n) c.above_20_sum_at.ensures c.if-above_20_sum_at.false c.smaller.ensures c.if-smaller-o.false c.weighted_finite.ensures c.if-not-weighted_finite.false
+    ∙ at-worked vector_surfaces surfaces Refused (λ x y. returned_vector (product_by vectors multiple x y s.m s.n)) s.self s.other (s.m + s.n) c.above_20_sum_at.ensures c.if-above_20_sum_at.false c.smaller.ensures c.if-smaller-o.false c.weighted_finite.ensures (ap not c.if-not-weighted_finite.false)

@@ -1,4 +1,5 @@
 -- `vector_derivatives::VectorSurfaceDerivatives::composite_derivative` meets its contract. Assumes nothing.
+use mathlib.Core.Bool.{not}
 use Rattle.formulas.specs.Numbers.{curve_numbers}
 use Rattle.calculus.proofs.LoopCut.{uncut}
 use Rattle.calculus.proofs.Tested.{near-at, at-above-20, at-beyond, at-infinite, at-worked}
@@ -27,10 +28,10 @@ all_finite-requires c =
 pub returns-then-not-all_finite : goal.returns-then-not-all_finite
 returns-then-not-all_finite c =
     let s = c.args in
-    at-infinite vector_surfaces parameters Refused (λ x y. returned_vector (composite_derivative vectors y.0 y.1 x s.order)) s.self s.curve s.order c.above_20_at.ensures c.if-above_20_at.false c.smaller.ensures c.if-smaller-order.false c.all_finite.ensures c.if-not-all_finite.true
+    at-infinite vector_surfaces parameters Refused (λ x y. returned_vector (composite_derivative vectors y.0 y.1 x s.order)) s.self s.curve s.order c.above_20_at.ensures c.if-above_20_at.false c.smaller.ensures c.if-smaller-order.false c.all_finite.ensures (ap not c.if-not-all_finite.true)
 
 pub returns : goal.returns
 returns c =
     let s = c.args in
     c.returned_vector.ensures ∙ ap returned_vector (c.derivative.ensures ∙ uncut (composite_derivative vectors (curve_numbers s.curve.u) (curve_numbers s.curve.v) (vector_surface_numbers s.self.entries)) (near-at s.self.order s.curve.order s.order c.above_20_at.ensures c.if-above_20_at.false))
-    ∙ at-worked vector_surfaces parameters Refused (λ x y. returned_vector (composite_derivative vectors y.0 y.1 x s.order)) s.self s.curve s.order c.above_20_at.ensures c.if-above_20_at.false c.smaller.ensures c.if-smaller-order.false c.all_finite.ensures c.if-not-all_finite.false
+    ∙ at-worked vector_surfaces parameters Refused (λ x y. returned_vector (composite_derivative vectors y.0 y.1 x s.order)) s.self s.curve s.order c.above_20_at.ensures c.if-above_20_at.false c.smaller.ensures c.if-smaller-order.false c.all_finite.ensures (ap not c.if-not-all_finite.false)

@@ -1,4 +1,5 @@
 -- `vector_derivatives::VectorSurfaceDerivatives::from_list` meets its contract. Assumes nothing.
+use mathlib.Core.Bool.{not}
 use Rattle.calculus.proofs.Tested.{list-above-20, list_length, list-infinite, list-is}
 use Rattle.formulas.proofs.Finite.{counted}
 use Rattle.calculus.proofs.Graded.{room-231}
@@ -24,7 +25,7 @@ returns-then-list-k c = let s = c.args in
 pub returns-then-not-finite_list : goal.returns-then-not-finite_list
 returns-then-not-finite_list c =
     let s = c.args in
-    c.refused-then-not-finite_list.ensures ∙ list-infinite vector_surfaces s.order s.list.now c.if-order-gt20.false (ap (◌*◌ 3) (counted s.order c.if-order-gt20.false c.surface_count-k.ensures)) c.if-list-k.false c.finite_list.ensures c.if-not-finite_list.true
+    c.refused-then-not-finite_list.ensures ∙ list-infinite vector_surfaces s.order s.list.now c.if-order-gt20.false (ap (◌*◌ 3) (counted s.order c.if-order-gt20.false c.surface_count-k.ensures)) c.if-list-k.false c.finite_list.ensures (ap not c.if-not-finite_list.true)
 
 pub read-r-requires : goal.read-r-requires
 read-r-requires c = (c.if-order-gt20.false, c.if-list-k.false ∙ ap (◌*◌ 3) (counted c.args.order c.if-order-gt20.false c.surface_count-k.ensures))
@@ -32,4 +33,4 @@ read-r-requires c = (c.if-order-gt20.false, c.if-list-k.false ∙ ap (◌*◌ 3)
 pub returns : goal.returns
 returns c =
     let s = c.args in
-    ap (made_vector_surface s.order) c.read-r.ensures ∙ list-is vector_surfaces s.order s.list.now c.if-order-gt20.false (ap (◌*◌ 3) (counted s.order c.if-order-gt20.false c.surface_count-k.ensures)) c.if-list-k.false c.finite_list.ensures c.if-not-finite_list.false
+    ap (made_vector_surface s.order) c.read-r.ensures ∙ list-is vector_surfaces s.order s.list.now c.if-order-gt20.false (ap (◌*◌ 3) (counted s.order c.if-order-gt20.false c.surface_count-k.ensures)) c.if-list-k.false c.finite_list.ensures (ap not c.if-not-finite_list.false)

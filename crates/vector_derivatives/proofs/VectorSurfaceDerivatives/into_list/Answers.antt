@@ -1,4 +1,5 @@
 -- `vector_derivatives::VectorSurfaceDerivatives::into_list` meets its contract. Assumes nothing.
+use mathlib.Core.Bool.{not}
 use Rattle.calculus.proofs.Tested.{pair, into-above-20, into-length, into-infinite, into-worked}
 use Rattle.formulas.proofs.Finite.{counted}
 use Rattle.calculus.proofs.Graded.{room-231}
@@ -23,7 +24,7 @@ returns-then-out-k c = let s = c.args in
 pub returns-then-not-surface_finite : goal.returns-then-not-surface_finite
 returns-then-not-surface_finite c =
     let s = c.args in
-    into-infinite vector_surfaces s.self s.out.now c.if-n-gt20.false (ap (◌*◌ 3) (counted s.self.order c.if-n-gt20.false c.surface_count-k.ensures)) c.if-out-k.false c.surface_finite.ensures c.if-not-surface_finite.true
+    into-infinite vector_surfaces s.self s.out.now c.if-n-gt20.false (ap (◌*◌ 3) (counted s.self.order c.if-n-gt20.false c.surface_count-k.ensures)) c.if-out-k.false c.surface_finite.ensures (ap not c.if-not-surface_finite.true)
 
 pub write-requires : goal.write-requires
 write-requires c =
@@ -33,4 +34,4 @@ pub returns : goal.returns
 returns c =
     let s = c.args in
     ap (pair 0) c.write.ensures
-    ∙ into-worked vector_surfaces s.self s.out.now c.if-n-gt20.false (ap (◌*◌ 3) (counted s.self.order c.if-n-gt20.false c.surface_count-k.ensures)) c.if-out-k.false c.surface_finite.ensures c.if-not-surface_finite.false
+    ∙ into-worked vector_surfaces s.self s.out.now c.if-n-gt20.false (ap (◌*◌ 3) (counted s.self.order c.if-n-gt20.false c.surface_count-k.ensures)) c.if-out-k.false c.surface_finite.ensures (ap not c.if-not-surface_finite.false)
