@@ -12,10 +12,10 @@ use Rattle.capi_exact.proofs.carry.sugamdely_exact_composite_derivative.Goals as
 pub returns-then-t-ne0 : goal.returns-then-t-ne0
 returns-then-t-ne0 c =
     let s = c.args in
-    two-refused-at (input surfaces) (input parameters) to_whole (λ x y. along_curve_at x y s.n) s.a-order s.a.now s.c-order s.c.now s.out.now s.n (asked-at _ _ _ c.order-asked.ensures c.two_at-t.ensures) c.if-t-ne0.true
+    two-refused-at (input surfaces) (input parameters) to_whole (λ x y. along_curve_at x y s.n) s.a_order s.a.now s.c_order s.c.now s.out.now s.n (asked-at _ _ _ c.order-asked.ensures c.two_at-t.ensures) c.if-t-ne0.true
 
 pub returns : goal.returns
 returns c =
     let s = c.args in
-    two-worked-at (input surfaces) (input parameters) to_whole (λ x y. along_curve_at x y s.n) s.a-order s.a.now s.c-order s.c.now s.out.now s.n
+    two-worked-at (input surfaces) (input parameters) to_whole (λ x y. along_curve_at x y s.n) s.a_order s.a.now s.c_order s.c.now s.out.now s.n
     (asked-at _ _ _ c.order-asked.ensures c.two_at-t.ensures) c.if-t-ne0.false (ap (λ (l : SurfaceAnswer). l.jet) c.from_list-x.ensures) (ap (λ (r : ParameterAnswer). r.jet) c.from_list-y.ensures) c.composite_derivative-r.ensures c.whole.ensures

@@ -12,10 +12,10 @@ use Rattle.capi_exact.proofs.exact_curves.sugamdely_exact_curve_combinatorial_de
 pub returns-then-t-ne0 : goal.returns-then-t-ne0
 returns-then-t-ne0 c =
     let s = c.args in
-    two-refused-at (input curves) (input curves) to_whole (λ x y. on_curves_at (product checked) x y s.m) s.a-order s.a.now s.b-order s.b.now s.out.now s.m (asked-at _ _ _ c.order-asked.ensures c.two_at-t.ensures) c.if-t-ne0.true
+    two-refused-at (input curves) (input curves) to_whole (λ x y. on_curves_at (product checked) x y s.m) s.a_order s.a.now s.b_order s.b.now s.out.now s.m (asked-at _ _ _ c.order-asked.ensures c.two_at-t.ensures) c.if-t-ne0.true
 
 pub returns : goal.returns
 returns c =
     let s = c.args in
-    two-worked-at (input curves) (input curves) to_whole (λ x y. on_curves_at (product checked) x y s.m) s.a-order s.a.now s.b-order s.b.now s.out.now s.m
+    two-worked-at (input curves) (input curves) to_whole (λ x y. on_curves_at (product checked) x y s.m) s.a_order s.a.now s.b_order s.b.now s.out.now s.m
     (asked-at _ _ _ c.order-asked.ensures c.two_at-t.ensures) c.if-t-ne0.false (ap (λ (l : CurveAnswer). l.jet) c.from_list-x.ensures) (ap (λ (l : CurveAnswer). l.jet) c.from_list-y.ensures) c.combinatorial_derivative-r.ensures c.whole.ensures

@@ -12,10 +12,10 @@ use Rattle.capi_exact.proofs.exact_curves.sugamdely_exact_curve_derivative.Goals
 pub returns-then-t-ne0 : goal.returns-then-t-ne0
 returns-then-t-ne0 c =
     let s = c.args in
-    one-refused (input curves) (output curves) (s.a-order - 1) (differentiated curves derivative) s.a-order s.a.now s.out.now c.lowered-t.ensures c.if-t-ne0.true
+    one-refused (input curves) (output curves) (s.a_order - 1) (differentiated curves derivative) s.a_order s.a.now s.out.now c.lowered-t.ensures c.if-t-ne0.true
 
 pub returns : goal.returns
 returns c =
     let s = c.args in
-    one-worked (input curves) (output curves) (s.a-order - 1) (differentiated curves derivative) s.a-order s.a.now s.out.now
+    one-worked (input curves) (output curves) (s.a_order - 1) (differentiated curves derivative) s.a_order s.a.now s.out.now
     c.lowered-t.ensures c.if-t-ne0.false (ap (λ (l : CurveAnswer). l.jet) c.from_list-x.ensures) c.derivative-r.ensures c.curve.ensures

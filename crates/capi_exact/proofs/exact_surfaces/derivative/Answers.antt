@@ -12,10 +12,10 @@ use Rattle.capi_exact.proofs.exact_surfaces.derivative.Goals as goal
 pub returns-then-t-ne0 : goal.returns-then-t-ne0
 returns-then-t-ne0 c =
     let s = c.args in
-    one-refused (input surfaces) (output surfaces) (s.a-order - 1) (differentiated surfaces (derivative_by s.by)) s.a-order s.a.now s.out.now c.lowered-t.ensures c.if-t-ne0.true
+    one-refused (input surfaces) (output surfaces) (s.a_order - 1) (differentiated surfaces (derivative_by s.by)) s.a_order s.a.now s.out.now c.lowered-t.ensures c.if-t-ne0.true
 
 pub returns : goal.returns
 returns c =
     let s = c.args in
-    one-worked (input surfaces) (output surfaces) (s.a-order - 1) (differentiated surfaces (derivative_by s.by)) s.a-order s.a.now s.out.now
+    one-worked (input surfaces) (output surfaces) (s.a_order - 1) (differentiated surfaces (derivative_by s.by)) s.a_order s.a.now s.out.now
     c.lowered-t.ensures c.if-t-ne0.false (ap (λ (l : SurfaceAnswer). l.jet) c.from_list-x.ensures) c.derived-r.ensures c.surface.ensures

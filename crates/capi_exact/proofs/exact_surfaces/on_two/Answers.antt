@@ -10,10 +10,10 @@ use Rattle.capi_exact.proofs.exact_surfaces.on_two.Goals as goal
 pub returns-then-t-ne0 : goal.returns-then-t-ne0
 returns-then-t-ne0 c =
     let s = c.args in
-    two-refused (input surfaces) (input surfaces) (output surfaces) (kind.apply s.op) s.a-order s.a.now s.b-order s.b.now s.out.now c.two-t.ensures c.if-t-ne0.true
+    two-refused (input surfaces) (input surfaces) (output surfaces) (kind.apply s.op) s.a_order s.a.now s.b_order s.b.now s.out.now c.two-t.ensures c.if-t-ne0.true
 
 pub returns : goal.returns
 returns c =
     let s = c.args in
-    two-worked (input surfaces) (input surfaces) (output surfaces) (kind.apply s.op) s.a-order s.a.now s.b-order s.b.now s.out.now
+    two-worked (input surfaces) (input surfaces) (output surfaces) (kind.apply s.op) s.a_order s.a.now s.b_order s.b.now s.out.now
     c.two-t.ensures c.if-t-ne0.false (ap (λ (l : SurfaceAnswer). l.jet) c.from_list-x.ensures) (ap (λ (l : SurfaceAnswer). l.jet) c.from_list-y.ensures) c.on_surfaces-r.ensures c.surface.ensures

@@ -13,10 +13,10 @@ use Rattle.capi_exact.proofs.exact_surfaces.sugamdely_exact_surface_combinatoria
 pub returns-then-t-ne0 : goal.returns-then-t-ne0
 returns-then-t-ne0 c =
     let s = c.args in
-    two-refused-at (input surfaces) (input surfaces) to_whole (λ x y. on_surfaces_at (product checked) x y s.m s.n) s.a-order s.a.now s.b-order s.b.now s.out.now (s.m + s.n) (asked-at _ _ _ c.order_sum-asked.ensures c.two_at-t.ensures) c.if-t-ne0.true
+    two-refused-at (input surfaces) (input surfaces) to_whole (λ x y. on_surfaces_at (product checked) x y s.m s.n) s.a_order s.a.now s.b_order s.b.now s.out.now (s.m + s.n) (asked-at _ _ _ c.order_sum-asked.ensures c.two_at-t.ensures) c.if-t-ne0.true
 
 pub returns : goal.returns
 returns c =
     let s = c.args in
-    two-worked-at (input surfaces) (input surfaces) to_whole (λ x y. on_surfaces_at (product checked) x y s.m s.n) s.a-order s.a.now s.b-order s.b.now s.out.now (s.m + s.n)
+    two-worked-at (input surfaces) (input surfaces) to_whole (λ x y. on_surfaces_at (product checked) x y s.m s.n) s.a_order s.a.now s.b_order s.b.now s.out.now (s.m + s.n)
     (asked-at _ _ _ c.order_sum-asked.ensures c.two_at-t.ensures) c.if-t-ne0.false (ap (λ (l : SurfaceAnswer). l.jet) c.from_list-x.ensures) (ap (λ (l : SurfaceAnswer). l.jet) c.from_list-y.ensures) c.combinatorial_derivative-r.ensures c.whole.ensures

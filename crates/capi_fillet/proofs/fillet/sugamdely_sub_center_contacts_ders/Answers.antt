@@ -16,7 +16,7 @@ unfolding contacts_into
 returns-then-t-ne0 c = let s = c.args in
     let out : Five = (s.center.now, (s.contact0.now, (s.contact1.now, (s.uv0.now, s.uv1.now)))) in
     refused out (c.first-t.ensures ∙ ap₂ first c.given_fillet-g.ensures c.given_contacts-o.ensures)
-    (deliver_contacts (center_contact_answer (fillet_of s.normals.now (s.edge_order, s.edge.now) (s.radius-order, s.radius.now) (s.surface0-order, s.surface0.now) (s.surface1-order, s.surface1.now)) (circle_with s.circle.now s.feet.now) s.n) out) c.if-t-ne0.true
+    (deliver_contacts (center_contact_answer (fillet_of s.normals.now (s.edge_order, s.edge.now) (s.radius_order, s.radius.now) (s.surface0_order, s.surface0.now) (s.surface1_order, s.surface1.now)) (circle_with s.circle.now s.feet.now) s.n) out) c.if-t-ne0.true
 
 pub returns : goal.returns
 unfolding contacts_into

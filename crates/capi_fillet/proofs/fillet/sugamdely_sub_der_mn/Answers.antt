@@ -16,7 +16,7 @@ unfolding sub_der_into
 returns-then-t-ne0 c = let s = c.args in
     let out = s.out.now in
     refused out (c.given_pair-t.ensures ∙ ap₂ first c.given_fillet-g.ensures refl)
-    (deliver_vector (sub_der_mn (fillet_of s.normals.now (s.edge_order, s.edge.now) (s.radius-order, s.radius.now) (s.surface0-order, s.surface0.now) (s.surface1-order, s.surface1.now)) s.m s.n s.u (circle_with s.circle.now s.feet.now) s.angle s.s s.c) out) c.if-t-ne0.true
+    (deliver_vector (sub_der_mn (fillet_of s.normals.now (s.edge_order, s.edge.now) (s.radius_order, s.radius.now) (s.surface0_order, s.surface0.now) (s.surface1_order, s.surface1.now)) s.m s.n s.u (circle_with s.circle.now s.feet.now) s.angle s.s s.c) out) c.if-t-ne0.true
 
 pub returns : goal.returns
 unfolding sub_der_into

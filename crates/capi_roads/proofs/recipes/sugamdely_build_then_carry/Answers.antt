@@ -19,7 +19,7 @@ returns-then-t-ne0 c = refused c.args.out.now c.given_road-t.ensures _ c.if-t-ne
 pub read_recipe-recipe-requires : goal.read_recipe-recipe-requires
 read_recipe-recipe-requires c =
     let s = c.args in
-    road-fits s.orders.now (length s.entries.now) s.steps.now s.c-order (length s.c.now) s.n (length s.out.now) c.given_road-t.ensures c.if-t-ne0.false
+    road-fits s.orders.now (length s.entries.now) s.steps.now s.c_order (length s.c.now) s.n (length s.out.now) c.given_road-t.ensures c.if-t-ne0.false
 
 pub returns : goal.returns
 unfolding road_into

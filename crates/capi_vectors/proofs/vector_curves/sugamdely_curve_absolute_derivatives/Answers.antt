@@ -8,7 +8,7 @@ use Rattle.capi_vectors.proofs.vector_curves.sugamdely_curve_absolute_derivative
 
 pub returns-then-t-ne0 : goal.returns-then-t-ne0
 returns-then-t-ne0 c = let s = c.args in
-    let n = s.a-order in
+    let n = s.a_order in
     let a = s.a.now in
     let out = s.out.now in
     one-refused (input vector_curves) (output curves) n (by_norm vector_curves curves (λ q. q 0) vector_norm) n a out
@@ -16,7 +16,7 @@ returns-then-t-ne0 c = let s = c.args in
 
 pub returns : goal.returns
 returns c = let s = c.args in
-    let n = s.a-order in
+    let n = s.a_order in
     let a = s.a.now in
     let out = s.out.now in
     one-worked (input vector_curves) (output curves) n (by_norm vector_curves curves (λ q. q 0) vector_norm) n a out

@@ -9,7 +9,7 @@ use Rattle.capi_vectors.proofs.vector_curves.sugamdely_vector_curve_derivative.G
 
 pub returns-then-t-ne0 : goal.returns-then-t-ne0
 returns-then-t-ne0 c = let s = c.args in
-    let n = s.a-order in
+    let n = s.a_order in
     let a = s.a.now in
     let out = s.out.now in
     one-refused (input vector_curves) (output vector_curves) (n - 1) (differentiated vector_curves derivative) n a out
@@ -17,7 +17,7 @@ returns-then-t-ne0 c = let s = c.args in
 
 pub returns : goal.returns
 returns c = let s = c.args in
-    let n = s.a-order in
+    let n = s.a_order in
     let a = s.a.now in
     let out = s.out.now in
     one-worked (input vector_curves) (output vector_curves) (n - 1) (differentiated vector_curves derivative) n a out

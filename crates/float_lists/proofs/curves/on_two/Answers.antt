@@ -7,8 +7,8 @@ use Rattle.float_lists.proofs.curves.on_two.Goals as goal
 
 pub returns-then-t-ne0 : goal.returns-then-t-ne0
 returns-then-t-ne0 c = let s = c.args in
-    two-refused (input curves) (input curves) (output curves) (curve_operation s.op) s.a-order s.a.now s.b-order s.b.now s.out.now c.two-t.ensures c.if-t-ne0.true
+    two-refused (input curves) (input curves) (output curves) (curve_operation s.op) s.a_order s.a.now s.b_order s.b.now s.out.now c.two-t.ensures c.if-t-ne0.true
 
 pub returns : goal.returns
 returns c = let s = c.args in
-    two-worked (input curves) (input curves) (output curves) (curve_operation s.op) s.a-order s.a.now s.b-order s.b.now s.out.now c.two-t.ensures c.if-t-ne0.false c.curve-x.ensures c.curve-y.ensures c.work-r.ensures c.curve.ensures
+    two-worked (input curves) (input curves) (output curves) (curve_operation s.op) s.a_order s.a.now s.b_order s.b.now s.out.now c.two-t.ensures c.if-t-ne0.false c.curve-x.ensures c.curve-y.ensures c.work-r.ensures c.curve.ensures

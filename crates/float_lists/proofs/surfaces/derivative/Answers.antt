@@ -9,7 +9,7 @@ use Rattle.float_lists.proofs.surfaces.derivative.Goals as goal
 
 pub returns-then-t-ne0 : goal.returns-then-t-ne0
 returns-then-t-ne0 c = let s = c.args in
-    let n = s.a-order in
+    let n = s.a_order in
     let a = s.a.now in
     let out = s.out.now in
     one-refused (input surfaces) (output surfaces) (n - 1) (differentiated surfaces (derivative_by s.by)) n a out
@@ -17,7 +17,7 @@ returns-then-t-ne0 c = let s = c.args in
 
 pub returns : goal.returns
 returns c = let s = c.args in
-    let n = s.a-order in
+    let n = s.a_order in
     let a = s.a.now in
     let out = s.out.now in
     one-worked (input surfaces) (output surfaces) (n - 1) (differentiated surfaces (derivative_by s.by)) n a out
