@@ -2,7 +2,7 @@
 use crate::{exact_curves, exact_surfaces, part_lists, recipe_calls, whole_numbers};
 use booleans::both;
 use replay_text::{
-    SIZE_FILL, WHOLE_FILL, WORD_FILL, call_met, first_sizes, first_wholes, first_words,
+    SIZE_FILL, WHOLE_FILL, WORD_FILL, Words, call_met, first_sizes, first_wholes, first_words,
     next_size_lists, next_whole_lists, next_word, same_sizes, same_wholes, same_words, size_list,
     sizes_part, wholes_part, words_part,
 };
@@ -23,16 +23,16 @@ fn call(
     }
 }
 
-fn wholes_case(op: u64, wanted: u64) -> bool {
+fn wholes_case(input: &mut Words<'_>, op: u64, wanted: u64) -> bool {
     let mut n = [0usize; 64];
     let mut n_ends = [0usize; 12];
-    next_size_lists(&mut n, &mut n_ends);
+    next_size_lists(input, &mut n, &mut n_ends);
     let mut l = [0i64; 2048];
     let mut ends = [0usize; 12];
-    next_whole_lists(&mut l, &mut ends);
+    next_whole_lists(input, &mut l, &mut ends);
     let mut w = [0i64; 1024];
     let mut w_ends = [0usize; 12];
-    next_whole_lists(&mut w, &mut w_ends);
+    next_whole_lists(input, &mut w, &mut w_ends);
     let k = w_ends[1];
     let mut out = [WHOLE_FILL; 1024];
     let refusal = call(op, &n, &n_ends, &l, &ends, first_wholes(&mut out, k));
@@ -44,16 +44,16 @@ fn wholes_case(op: u64, wanted: u64) -> bool {
 }
 
 // The walk is lent as it is given, and the list for the parts filled.
-fn walk_case(op: u64, wanted: u64) -> bool {
+fn walk_case(input: &mut Words<'_>, op: u64, wanted: u64) -> bool {
     let mut n = [0usize; 64];
     let mut n_ends = [0usize; 12];
-    next_size_lists(&mut n, &mut n_ends);
+    next_size_lists(input, &mut n, &mut n_ends);
     let mut walk = [0usize; 64];
     let mut ends = [0usize; 12];
-    next_size_lists(&mut walk, &mut ends);
+    next_size_lists(input, &mut walk, &mut ends);
     let mut w = [0usize; 64];
     let mut w_ends = [0usize; 12];
-    next_size_lists(&mut w, &mut w_ends);
+    next_size_lists(input, &mut w, &mut w_ends);
     let mut list = [SIZE_FILL; 64];
     let k = ends[1];
     let from = w_ends[1];
@@ -68,16 +68,16 @@ fn walk_case(op: u64, wanted: u64) -> bool {
     call_met(wanted, refusal, same)
 }
 
-fn count_case(op: u64, wanted: u64) -> bool {
+fn count_case(input: &mut Words<'_>, op: u64, wanted: u64) -> bool {
     let mut n = [0usize; 64];
     let mut n_ends = [0usize; 12];
-    next_size_lists(&mut n, &mut n_ends);
+    next_size_lists(input, &mut n, &mut n_ends);
     let mut l = [0usize; 64];
     let mut ends = [0usize; 12];
-    next_size_lists(&mut l, &mut ends);
+    next_size_lists(input, &mut l, &mut ends);
     let mut w = [0usize; 64];
     let mut w_ends = [0usize; 12];
-    next_size_lists(&mut w, &mut w_ends);
+    next_size_lists(input, &mut w, &mut w_ends);
     let k = w_ends[1];
     let mut out = [WORD_FILL; 64];
     let refusal = part_lists::counts(op, size_list(&n, &n_ends, 0), first_words(&mut out, k));
@@ -88,11 +88,11 @@ fn count_case(op: u64, wanted: u64) -> bool {
     )
 }
 
-pub fn next_case(op: u64) -> bool {
-    let wanted = next_word();
+pub fn next_case(input: &mut Words<'_>, op: u64) -> bool {
+    let wanted = next_word(input);
     match op {
-        0xa01..=0xa02 => walk_case(op, wanted),
-        0xa03..=0xaff => count_case(op, wanted),
-        _ => wholes_case(op, wanted),
+        0xa01..=0xa02 => walk_case(input, op, wanted),
+        0xa03..=0xaff => count_case(input, op, wanted),
+        _ => wholes_case(input, op, wanted),
     }
 }

@@ -1,26 +1,33 @@
 // The four operations of `whole` on pairs of numbers, most of them at an edge of a range, and on pairs of numbers and refusals. A case is 0 and two
 // numbers, or 1 and two operands, each a refusal and a number; then sum, difference, product and quotient (tools/whole_cases.py works them out).
 use booleans::both;
-use replay_text::{checked_met, next_size, next_whole};
+use replay_text::{Words, checked_met, next_size, next_whole};
 use whole::Whole;
 
-fn next_operand() -> Whole {
-    let refusal = next_size();
-    let z = next_whole();
+fn next_operand(input: &mut Words<'_>) -> Whole {
+    let refusal = next_size(input);
+    let z = next_whole(input);
     match refusal {
         1..=255 => Whole::Refused(refusal as u8),
         _ => Whole::Value(z),
     }
 }
 
-fn all_met(sum: Whole, difference: Whole, product: Whole, quotient: Whole) -> bool {
-    let p = both(checked_met(sum), checked_met(difference));
-    let q = both(checked_met(product), checked_met(quotient));
+fn all_met(
+    input: &mut Words<'_>,
+    sum: Whole,
+    difference: Whole,
+    product: Whole,
+    quotient: Whole,
+) -> bool {
+    let p = both(checked_met(input, sum), checked_met(input, difference));
+    let q = both(checked_met(input, product), checked_met(input, quotient));
     both(p, q)
 }
 
-fn on_numbers(a: i64, b: i64) -> bool {
+fn on_numbers(input: &mut Words<'_>, a: i64, b: i64) -> bool {
     all_met(
+        input,
         whole::add(a, b),
         whole::sub(a, b),
         whole::mul(a, b),
@@ -28,8 +35,9 @@ fn on_numbers(a: i64, b: i64) -> bool {
     )
 }
 
-fn on_operands(x: Whole, y: Whole) -> bool {
+fn on_operands(input: &mut Words<'_>, x: Whole, y: Whole) -> bool {
     all_met(
+        input,
         whole::plus(x, y),
         whole::minus(x, y),
         whole::times(x, y),
@@ -37,9 +45,13 @@ fn on_operands(x: Whole, y: Whole) -> bool {
     )
 }
 
-pub fn next_case() -> bool {
-    if next_size() == 0 {
-        return on_numbers(next_whole(), next_whole());
+pub fn next_case(input: &mut Words<'_>) -> bool {
+    if next_size(input) == 0 {
+        let a = next_whole(input);
+        let b = next_whole(input);
+        return on_numbers(input, a, b);
     }
-    on_operands(next_operand(), next_operand())
+    let x = next_operand(input);
+    let y = next_operand(input);
+    on_operands(input, x, y)
 }

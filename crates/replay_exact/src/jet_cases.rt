@@ -7,87 +7,87 @@ use crate::recipes;
 use booleans::both;
 use exact::{CurveDerivatives, ParameterCurve, SurfaceDerivatives};
 use replay_text::{
-    checked_met, first_wholes, next_size, next_wholes, refusal_met, wholes_met, wholes_part,
+    Words, checked_met, first_wholes, next_size, next_wholes, refusal_met, wholes_met, wholes_part,
 };
 
-fn on_curves(operation: usize) -> bool {
-    let a = next_curve();
-    let b = next_curve();
-    let m = next_size();
+fn on_curves(input: &mut Words<'_>, operation: usize) -> bool {
+    let a = next_curve(input);
+    let b = next_curve(input);
+    let m = next_size(input);
     match operation {
-        1 => curve_met(a.sum(b)),
-        2 => curve_met(a.difference(b)),
-        3 => curve_met(a.combinatorial_derivatives(b)),
-        4 => curve_met(a.quotient(b)),
-        5 => curve_met(a.derivative()),
-        _ => checked_met(a.combinatorial_derivative(b, m)),
+        1 => curve_met(input, a.sum(b)),
+        2 => curve_met(input, a.difference(b)),
+        3 => curve_met(input, a.combinatorial_derivatives(b)),
+        4 => curve_met(input, a.quotient(b)),
+        5 => curve_met(input, a.derivative()),
+        _ => checked_met(input, a.combinatorial_derivative(b, m)),
     }
 }
 
-fn on_surfaces(operation: usize) -> bool {
-    let a = next_surface();
-    let b = next_surface();
-    let m = next_size();
-    let n = next_size();
+fn on_surfaces(input: &mut Words<'_>, operation: usize) -> bool {
+    let a = next_surface(input);
+    let b = next_surface(input);
+    let m = next_size(input);
+    let n = next_size(input);
     match operation {
-        11 => surface_met(a.sum(b)),
-        12 => surface_met(a.difference(b)),
-        13 => surface_met(a.combinatorial_derivatives(b)),
-        14 => surface_met(a.quotient(b)),
-        15 => surface_met(a.derivative_u()),
-        16 => surface_met(a.derivative_v()),
-        _ => checked_met(a.combinatorial_derivative(b, m, n)),
+        11 => surface_met(input, a.sum(b)),
+        12 => surface_met(input, a.difference(b)),
+        13 => surface_met(input, a.combinatorial_derivatives(b)),
+        14 => surface_met(input, a.quotient(b)),
+        15 => surface_met(input, a.derivative_u()),
+        16 => surface_met(input, a.derivative_v()),
+        _ => checked_met(input, a.combinatorial_derivative(b, m, n)),
     }
 }
 
-fn along() -> bool {
-    let a = next_surface();
-    let c = next_parameter();
-    let m = next_size();
+fn along(input: &mut Words<'_>) -> bool {
+    let a = next_surface(input);
+    let c = next_parameter(input);
+    let m = next_size(input);
     both(
-        checked_met(a.composite_derivative(c, m)),
-        curve_met(a.composite_derivatives(c, m)),
+        checked_met(input, a.composite_derivative(c, m)),
+        curve_met(input, a.composite_derivatives(c, m)),
     )
 }
 
-fn from_list(operation: usize) -> bool {
-    let order = next_size();
+fn from_list(input: &mut Words<'_>, operation: usize) -> bool {
+    let order = next_size(input);
     let mut l = [0i64; 256];
-    let n = next_wholes(&mut l);
+    let n = next_wholes(input, &mut l);
     let list = wholes_part(&l, 0, n);
     match operation {
-        31 => curve_met(CurveDerivatives::from_list(order, list)),
-        32 => surface_met(SurfaceDerivatives::from_list(order, list)),
-        _ => parameter_met(ParameterCurve::from_list(order, list)),
+        31 => curve_met(input, CurveDerivatives::from_list(order, list)),
+        32 => surface_met(input, SurfaceDerivatives::from_list(order, list)),
+        _ => parameter_met(input, ParameterCurve::from_list(order, list)),
     }
 }
 
-fn next_jet_into(operation: usize, out: &mut [i64]) -> u8 {
+fn next_jet_into(input: &mut Words<'_>, operation: usize, out: &mut [i64]) -> u8 {
     match operation {
-        34 => next_curve().into_list(out),
-        35 => next_surface().into_list(out),
-        _ => next_parameter().into_list(out),
+        34 => next_curve(input).into_list(out),
+        35 => next_surface(input).into_list(out),
+        _ => next_parameter(input).into_list(out),
     }
 }
 
 // The list that is lent, as it stands before and after.
-fn into_list(operation: usize) -> bool {
+fn into_list(input: &mut Words<'_>, operation: usize) -> bool {
     let mut l = [0i64; 256];
-    let n = next_wholes(&mut l);
+    let n = next_wholes(input, &mut l);
     let out = first_wholes(&mut l, n);
-    let refusal = next_jet_into(operation, out);
-    both(refusal_met(refusal), wholes_met(out))
+    let refusal = next_jet_into(input, operation, out);
+    both(refusal_met(input, refusal), wholes_met(input, out))
 }
 
-pub fn next_case() -> bool {
-    let operation = next_size();
+pub fn next_case(input: &mut Words<'_>) -> bool {
+    let operation = next_size(input);
     match operation {
-        1..=6 => on_curves(operation),
-        11..=17 => on_surfaces(operation),
-        21 => along(),
-        31..=33 => from_list(operation),
-        34..=36 => into_list(operation),
-        41 => recipes::of_curves(),
-        _ => recipes::both_roads(),
+        1..=6 => on_curves(input, operation),
+        11..=17 => on_surfaces(input, operation),
+        21 => along(input),
+        31..=33 => from_list(input, operation),
+        34..=36 => into_list(input, operation),
+        41 => recipes::of_curves(input),
+        _ => recipes::both_roads(input),
     }
 }

@@ -4,47 +4,53 @@ use exact::{
     CurveAnswer, CurveDerivatives, ParameterAnswer, ParameterCurve, SurfaceAnswer,
     SurfaceDerivatives,
 };
-use replay_text::{answer_met, next_size, next_wholes, wholes_met};
+use replay_text::{Words, answer_met, next_size, next_wholes, wholes_met};
 
-pub fn next_curve() -> CurveDerivatives {
-    let order = next_size();
+pub fn next_curve(input: &mut Words<'_>) -> CurveDerivatives {
+    let order = next_size(input);
     let mut entries = [0i64; 21];
-    next_wholes(&mut entries);
+    next_wholes(input, &mut entries);
     CurveDerivatives { order, entries }
 }
 
-pub fn next_surface() -> SurfaceDerivatives {
-    let order = next_size();
+pub fn next_surface(input: &mut Words<'_>) -> SurfaceDerivatives {
+    let order = next_size(input);
     let mut entries = [0i64; 231];
-    next_wholes(&mut entries);
+    next_wholes(input, &mut entries);
     SurfaceDerivatives { order, entries }
 }
 
-pub fn next_parameter() -> ParameterCurve {
-    let order = next_size();
+pub fn next_parameter(input: &mut Words<'_>) -> ParameterCurve {
+    let order = next_size(input);
     let mut u = [0i64; 21];
     let mut v = [0i64; 21];
-    next_wholes(&mut u);
-    next_wholes(&mut v);
+    next_wholes(input, &mut u);
+    next_wholes(input, &mut v);
     ParameterCurve { order, u, v }
 }
 
-pub fn curve_met(a: CurveAnswer) -> bool {
+pub fn curve_met(input: &mut Words<'_>, a: CurveAnswer) -> bool {
     let jet = a.jet;
     let entries = jet.entries;
-    both(answer_met(a.refusal, jet.order), wholes_met(&entries))
+    both(
+        answer_met(input, a.refusal, jet.order),
+        wholes_met(input, &entries),
+    )
 }
 
-pub fn surface_met(a: SurfaceAnswer) -> bool {
+pub fn surface_met(input: &mut Words<'_>, a: SurfaceAnswer) -> bool {
     let jet = a.jet;
     let entries = jet.entries;
-    both(answer_met(a.refusal, jet.order), wholes_met(&entries))
+    both(
+        answer_met(input, a.refusal, jet.order),
+        wholes_met(input, &entries),
+    )
 }
 
-pub fn parameter_met(a: ParameterAnswer) -> bool {
+pub fn parameter_met(input: &mut Words<'_>, a: ParameterAnswer) -> bool {
     let jet = a.jet;
     let u = jet.u;
     let v = jet.v;
-    let head = answer_met(a.refusal, jet.order);
-    both(head, both(wholes_met(&u), wholes_met(&v)))
+    let head = answer_met(input, a.refusal, jet.order);
+    both(head, both(wholes_met(input, &u), wholes_met(input, &v)))
 }

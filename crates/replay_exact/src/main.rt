@@ -13,26 +13,33 @@ mod recipes;
 mod walks;
 mod whole_numbers;
 
-use replay_text::{next_group, next_word};
+use replay_text::{Words, next_group, next_word};
+use std::io;
+use std::io::Read;
 
-fn next_case() -> bool {
-    let family = next_word();
+fn next_case(input: &mut Words<'_>) -> bool {
+    let family = next_word(input);
     match family {
-        1 => checked::next_case(),
-        2 => walks::next_case(),
-        3 => jet_cases::next_case(),
-        _ => calls::next_case(family),
+        1 => checked::next_case(input),
+        2 => walks::next_case(input),
+        3 => jet_cases::next_case(input),
+        _ => calls::next_case(input, family),
     }
 }
 
-fn main() {
-    let mut group = next_group();
+fn main(rt: HostRuntime) -> io::Result<()> {
+    let mut text = Vec::new(rt.alloc());
+    rt.stdin().read_to_end(&mut text)?;
+    let mut input = Words::new(&text);
+    let mut group = next_group(&mut input);
     let mut turns = 0u32;
     while turns < 100000 {
         if group.cases == 0 {
-            return;
+            return Ok(());
         }
-        group = group.after(next_case());
+        let met = next_case(&mut input);
+        group = group.after(&rt, &mut input, met)?;
         turns += 1;
     }
+    Ok(())
 }

@@ -3,11 +3,11 @@
 use crate::jets::{curve_met, next_curve, next_parameter, next_surface};
 use booleans::both;
 use exact::{CurveDerivatives, SurfaceDerivatives};
-use replay_text::next_size;
+use replay_text::{Words, next_size};
 use roads::{CurveRecipe, Operation, Step, SurfaceRecipe};
 
-fn next_curves() -> [CurveDerivatives; 4] {
-    let n = next_size();
+fn next_curves(input: &mut Words<'_>) -> [CurveDerivatives; 4] {
+    let n = next_size(input);
     let zeros = [0i64; 21];
     let blank = CurveDerivatives {
         order: 0,
@@ -19,14 +19,14 @@ fn next_curves() -> [CurveDerivatives; 4] {
         if n <= i {
             return jets;
         }
-        jets[i] = next_curve();
+        jets[i] = next_curve(input);
         i += 1;
     }
     jets
 }
 
-fn next_surfaces() -> [SurfaceDerivatives; 4] {
-    let n = next_size();
+fn next_surfaces(input: &mut Words<'_>) -> [SurfaceDerivatives; 4] {
+    let n = next_size(input);
     let zeros = [0i64; 231];
     let blank = SurfaceDerivatives {
         order: 0,
@@ -38,14 +38,14 @@ fn next_surfaces() -> [SurfaceDerivatives; 4] {
         if n <= i {
             return jets;
         }
-        jets[i] = next_surface();
+        jets[i] = next_surface(input);
         i += 1;
     }
     jets
 }
 
-fn next_operation() -> Operation {
-    match next_size() {
+fn next_operation(input: &mut Words<'_>) -> Operation {
+    match next_size(input) {
         0 => Operation::Sum,
         1 => Operation::Difference,
         2 => Operation::Product,
@@ -53,10 +53,10 @@ fn next_operation() -> Operation {
     }
 }
 
-fn next_step() -> Step {
-    let operation = next_operation();
-    let left = next_size();
-    let right = next_size();
+fn next_step(input: &mut Words<'_>) -> Step {
+    let operation = next_operation(input);
+    let left = next_size(input);
+    let right = next_size(input);
     Step {
         operation,
         left,
@@ -64,8 +64,8 @@ fn next_step() -> Step {
     }
 }
 
-fn next_program() -> [Step; 12] {
-    let n = next_size();
+fn next_program(input: &mut Words<'_>) -> [Step; 12] {
+    let n = next_size(input);
     let none = Step {
         operation: Operation::Sum,
         left: 0,
@@ -77,41 +77,41 @@ fn next_program() -> [Step; 12] {
         if n <= i {
             return program;
         }
-        program[i] = next_step();
+        program[i] = next_step(input);
         i += 1;
     }
     program
 }
 
-pub fn of_curves() -> bool {
-    let inputs = next_size();
-    let curves = next_curves();
-    let steps = next_size();
-    let program = next_program();
+pub fn of_curves(input: &mut Words<'_>) -> bool {
+    let inputs = next_size(input);
+    let curves = next_curves(input);
+    let steps = next_size(input);
+    let program = next_program(input);
     let recipe = CurveRecipe {
         inputs,
         curves,
         steps,
         program,
     };
-    curve_met(recipe.build())
+    curve_met(input, recipe.build())
 }
 
-pub fn both_roads() -> bool {
-    let inputs = next_size();
-    let surfaces = next_surfaces();
-    let steps = next_size();
-    let program = next_program();
+pub fn both_roads(input: &mut Words<'_>) -> bool {
+    let inputs = next_size(input);
+    let surfaces = next_surfaces(input);
+    let steps = next_size(input);
+    let program = next_program(input);
     let recipe = SurfaceRecipe {
         inputs,
         surfaces,
         steps,
         program,
     };
-    let curve = next_parameter();
-    let order = next_size();
+    let curve = next_parameter(input);
+    let order = next_size(input);
     both(
-        curve_met(recipe.build_then_carry(curve, order)),
-        curve_met(recipe.carry_then_build(curve, order)),
+        curve_met(input, recipe.build_then_carry(curve, order)),
+        curve_met(input, recipe.carry_then_build(curve, order)),
     )
 }

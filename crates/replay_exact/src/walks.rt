@@ -6,36 +6,43 @@ ghost use Rattle.partitions.specs.Walk.{stepped};
 use booleans::both;
 use partitions::{Composition, CompositionIter, Count, Stepped};
 use replay_text::{
-    next_size, next_sizes, refusal_met, same_sizes, size_met, sizes_met, sizes_part, word_met,
+    Words, next_size, next_sizes, refusal_met, same_sizes, size_met, sizes_met, sizes_part,
+    word_met,
 };
 
-fn flag_met(flag: bool) -> bool {
+fn flag_met(input: &mut Words<'_>, flag: bool) -> bool {
     if flag {
-        return size_met(1);
+        return size_met(input, 1);
     }
-    size_met(0)
+    size_met(input, 0)
 }
 
-fn item_met(item: Composition) -> bool {
+fn item_met(input: &mut Words<'_>, item: Composition) -> bool {
     let parts = item.parts;
-    let head = both(refusal_met(item.refusal), flag_met(item.ended));
-    both(head, sizes_met(&parts))
+    let head = both(
+        refusal_met(input, item.refusal),
+        flag_met(input, item.ended),
+    );
+    both(head, sizes_met(input, &parts))
 }
 
-fn record_met(walk: CompositionIter) -> bool {
+fn record_met(input: &mut Words<'_>, walk: CompositionIter) -> bool {
     let current = walk.current;
-    let head = both(size_met(walk.order), size_met(walk.len));
-    both(head, both(flag_met(walk.end), sizes_met(&current)))
+    let head = both(size_met(input, walk.order), size_met(input, walk.len));
+    both(
+        head,
+        both(flag_met(input, walk.end), sizes_met(input, &current)),
+    )
 }
 
-fn step_met(s: Stepped) -> bool {
-    both(item_met(s.item), record_met(s.walk))
+fn step_met(input: &mut Words<'_>, s: Stepped) -> bool {
+    both(item_met(input, s.item), record_met(input, s.walk))
 }
 
-fn count_met(count: Count) -> bool {
+fn count_met(input: &mut Words<'_>, count: Count) -> bool {
     match count {
-        Count::Value(n) => both(refusal_met(0), word_met(n)),
-        Count::Refused(c) => both(refusal_met(c), word_met(0)),
+        Count::Value(n) => both(refusal_met(input, 0), word_met(input, n)),
+        Count::Refused(c) => both(refusal_met(input, c), word_met(input, 0)),
     }
 }
 
@@ -48,11 +55,11 @@ fn lent(walk: CompositionIter) -> Stepped
     Stepped { item, walk: w }
 }
 
-fn start_case() -> bool {
-    let order = next_size();
-    let len = next_size();
+fn start_case(input: &mut Words<'_>) -> bool {
+    let order = next_size(input);
+    let len = next_size(input);
     let s = CompositionIter::try_new(order, len);
-    both(refusal_met(s.refusal), record_met(s.walk))
+    both(refusal_met(input, s.refusal), record_met(input, s.walk))
 }
 
 // Whether a list is handed out.
@@ -68,68 +75,79 @@ fn handed_out(item: Composition, list: &[usize]) -> bool {
 }
 
 // The lists of a walk with their multiplicities, and the step past the last one. No walk has more than 100 lists.
-fn walk_case() -> bool {
-    let order = next_size();
-    let len = next_size();
+fn walk_case(input: &mut Words<'_>) -> bool {
+    let order = next_size(input);
+    let len = next_size(input);
     let s = CompositionIter::try_new(order, len);
     let mut walk = s.walk;
     let mut other = s.walk;
     let mut met = true;
-    let lists = next_size();
+    let lists = next_size(input);
     if 100 < lists {
         return false;
     }
     let mut i = 0;
     while i < lists {
         let mut list = [0usize; 20];
-        next_sizes(&mut list);
+        next_sizes(input, &mut list);
         let a = CompositionIter::step(walk);
         let b = lent(other);
         let count = partitions::multiplicity(sizes_part(&list, 0, len));
         let handed = both(handed_out(a.item, &list), handed_out(b.item, &list));
-        met = both(met, both(handed, count_met(count)));
+        met = both(met, both(handed, count_met(input, count)));
         walk = a.walk;
         other = b.walk;
         i += 1;
     }
-    let past = both(step_met(CompositionIter::step(walk)), step_met(lent(other)));
+    let past = both(
+        step_met(input, CompositionIter::step(walk)),
+        step_met(input, lent(other)),
+    );
     both(met, past)
 }
 
-fn record_case() -> bool {
-    let order = next_size();
-    let len = next_size();
-    let end = next_size() != 0;
+fn record_case(input: &mut Words<'_>) -> bool {
+    let order = next_size(input);
+    let len = next_size(input);
+    let end = next_size(input) != 0;
     let mut current = [0usize; 20];
-    next_sizes(&mut current);
+    next_sizes(input, &mut current);
     let walk = CompositionIter {
         order,
         len,
         current,
         end,
     };
-    both(step_met(CompositionIter::step(walk)), step_met(lent(walk)))
+    both(
+        step_met(input, CompositionIter::step(walk)),
+        step_met(input, lent(walk)),
+    )
 }
 
-fn multiplicity_case() -> bool {
+fn multiplicity_case(input: &mut Words<'_>) -> bool {
     let mut list = [0usize; 30];
-    let n = next_sizes(&mut list);
-    count_met(partitions::multiplicity(sizes_part(&list, 0, n)))
+    let n = next_sizes(input, &mut list);
+    count_met(input, partitions::multiplicity(sizes_part(&list, 0, n)))
 }
 
-fn stirling_case() -> bool {
-    let order = next_size();
-    let len = next_size();
-    count_met(partitions::stirling_number(order, len))
+fn factorial_case(input: &mut Words<'_>) -> bool {
+    let order = next_size(input);
+    count_met(input, partitions::factorial(order))
 }
 
-pub fn next_case() -> bool {
-    match next_size() {
-        1 => start_case(),
-        2 => walk_case(),
-        3 => record_case(),
-        4 => multiplicity_case(),
-        5 => count_met(partitions::factorial(next_size())),
-        _ => stirling_case(),
+fn stirling_case(input: &mut Words<'_>) -> bool {
+    let order = next_size(input);
+    let len = next_size(input);
+    count_met(input, partitions::stirling_number(order, len))
+}
+
+pub fn next_case(input: &mut Words<'_>) -> bool {
+    match next_size(input) {
+        1 => start_case(input),
+        2 => walk_case(input),
+        3 => record_case(input),
+        4 => multiplicity_case(input),
+        5 => factorial_case(input),
+        _ => stirling_case(input),
     }
 }

@@ -2,7 +2,7 @@
 use booleans::both;
 use capi_fillet::fillet;
 use replay_text::{
-    FILL, UNKNOWN, call_met, first_floats, float_at, float_list, floats_part, next_call,
+    FILL, UNKNOWN, Words, call_met, first_floats, float_at, float_list, floats_part, next_call,
     same_floats, size_at,
 };
 
@@ -212,13 +212,13 @@ fn info(
     call_met(wanted, refusal, both(jets, holds(&c, w, w_ends, 2)))
 }
 
-pub fn next_case(op: u64) -> bool {
+pub fn next_case(input: &mut Words<'_>, op: u64) -> bool {
     let mut n = [0usize; 64];
     let mut l = [0.0f64; 2048];
     let mut ends = [0usize; 12];
     let mut w = [0.0f64; 1024];
     let mut w_ends = [0usize; 12];
-    let wanted = next_call(&mut n, &mut l, &mut ends, &mut w, &mut w_ends);
+    let wanted = next_call(input, &mut n, &mut l, &mut ends, &mut w, &mut w_ends);
     match op {
         0x608 => contacts(wanted, &n, &l, &ends, &w, &w_ends),
         0x609 => info(wanted, &n, &l, &ends, &w, &w_ends),

@@ -2,7 +2,7 @@
 use crate::inputs::{next_circle, next_fillet};
 use booleans::both;
 use derivatives::ParameterCurve;
-use replay_text::{float_at, next_float, next_floats, next_size, refusal_met, size_met};
+use replay_text::{Words, float_at, next_float, next_floats, next_size, refusal_met, size_met};
 use rolling_ball_fillet::CenterContactDers;
 use vector_derivatives::VectorCurveDerivatives;
 use vectors::VectorAnswer;
@@ -12,9 +12,9 @@ fn close(x: f64, y: f64, tolerance: f64) -> bool {
 }
 
 // A list, with zeros past the members wanted.
-fn near(l: &[f64], tolerance: f64) -> bool {
+fn near(input: &mut Words<'_>, l: &[f64], tolerance: f64) -> bool {
     let mut wanted = [0.0f64; 63];
-    next_floats(&mut wanted);
+    next_floats(input, &mut wanted);
     let mut i = 0;
     while i < l.len() {
         let x = float_at(l, i);
@@ -27,59 +27,69 @@ fn near(l: &[f64], tolerance: f64) -> bool {
     true
 }
 
-fn near_vectors(jet: VectorCurveDerivatives, tolerance: f64) -> bool {
+fn near_vectors(input: &mut Words<'_>, jet: VectorCurveDerivatives, tolerance: f64) -> bool {
     let entries = jet.entries;
-    both(size_met(jet.order), near(&entries, tolerance))
+    both(size_met(input, jet.order), near(input, &entries, tolerance))
 }
 
-fn near_parameters(jet: ParameterCurve, tolerance: f64) -> bool {
+fn near_parameters(input: &mut Words<'_>, jet: ParameterCurve, tolerance: f64) -> bool {
     let u = jet.u;
     let v = jet.v;
-    let order = size_met(jet.order);
-    both(order, both(near(&u, tolerance), near(&v, tolerance)))
+    let order = size_met(input, jet.order);
+    both(
+        order,
+        both(near(input, &u, tolerance), near(input, &v, tolerance)),
+    )
 }
 
-fn near_contacts(ders: CenterContactDers, tolerance: f64) -> bool {
-    let c = near_vectors(ders.center_ders, tolerance);
-    let p = near_vectors(ders.contact0_ders, tolerance);
-    let q = near_vectors(ders.contact1_ders, tolerance);
-    let u = near_parameters(ders.uv0_ders, tolerance);
-    let v = near_parameters(ders.uv1_ders, tolerance);
+fn near_contacts(input: &mut Words<'_>, ders: CenterContactDers, tolerance: f64) -> bool {
+    let c = near_vectors(input, ders.center_ders, tolerance);
+    let p = near_vectors(input, ders.contact0_ders, tolerance);
+    let q = near_vectors(input, ders.contact1_ders, tolerance);
+    let u = near_parameters(input, ders.uv0_ders, tolerance);
+    let v = near_parameters(input, ders.uv1_ders, tolerance);
     both(both(c, both(p, q)), both(u, v))
 }
 
-fn contacts_case() -> bool {
-    let tolerance = next_float();
-    let n = next_size();
-    let circle = next_circle();
-    let fillet = next_fillet();
+fn contacts_case(input: &mut Words<'_>) -> bool {
+    let tolerance = next_float(input);
+    let n = next_size(input);
+    let circle = next_circle(input);
+    let fillet = next_fillet(input);
     let a = fillet.sub_center_contacts_ders(circle, n);
-    both(refusal_met(a.refusal), near_contacts(a.ders, tolerance))
+    both(
+        refusal_met(input, a.refusal),
+        near_contacts(input, a.ders, tolerance),
+    )
 }
 
-fn near_vector(a: VectorAnswer, tolerance: f64) -> bool {
+fn near_vector(input: &mut Words<'_>, a: VectorAnswer, tolerance: f64) -> bool {
     match a {
-        VectorAnswer::Value(v) => near(&[v.x, v.y, v.z], tolerance),
-        VectorAnswer::Refused(_) => both(near(&[0.0; 3], tolerance), false),
+        VectorAnswer::Value(v) => near(input, &[v.x, v.y, v.z], tolerance),
+        VectorAnswer::Refused(_) => both(near(input, &[0.0; 3], tolerance), false),
     }
 }
 
-fn partial_case() -> bool {
-    let tolerance = next_float();
-    let m = next_size();
-    let n = next_size();
-    let u = next_float();
-    let angle = next_float();
-    let s = next_float();
-    let c = next_float();
-    let circle = next_circle();
-    let fillet = next_fillet();
-    near_vector(fillet.sub_der_mn(m, n, u, circle, angle, s, c), tolerance)
+fn partial_case(input: &mut Words<'_>) -> bool {
+    let tolerance = next_float(input);
+    let m = next_size(input);
+    let n = next_size(input);
+    let u = next_float(input);
+    let angle = next_float(input);
+    let s = next_float(input);
+    let c = next_float(input);
+    let circle = next_circle(input);
+    let fillet = next_fillet(input);
+    near_vector(
+        input,
+        fillet.sub_der_mn(m, n, u, circle, angle, s, c),
+        tolerance,
+    )
 }
 
-pub fn next_case() -> bool {
-    match next_size() {
-        1 => contacts_case(),
-        _ => partial_case(),
+pub fn next_case(input: &mut Words<'_>) -> bool {
+    match next_size(input) {
+        1 => contacts_case(input),
+        _ => partial_case(input),
     }
 }

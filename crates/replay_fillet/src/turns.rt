@@ -2,18 +2,24 @@
 use crate::inputs::{next_circle, next_vector};
 use booleans::both;
 use ieee_vectors::Vector3;
-use replay_text::{float_met, next_float, next_size, refusal_met};
+use replay_text::{Words, float_met, next_float, next_size, refusal_met};
 use vectors::{Matrix3Answer, VectorAnswer};
 
-fn vector_met(v: Vector3) -> bool {
-    both(float_met(v.x), both(float_met(v.y), float_met(v.z)))
+fn vector_met(input: &mut Words<'_>, v: Vector3) -> bool {
+    both(
+        float_met(input, v.x),
+        both(float_met(input, v.y), float_met(input, v.z)),
+    )
 }
 
 // A matrix that is refused holds zeros.
-fn matrix_met(a: Matrix3Answer) -> bool {
+fn matrix_met(input: &mut Words<'_>, a: Matrix3Answer) -> bool {
     let m = a.matrix;
-    let first = both(refusal_met(a.refusal), vector_met(m.c0));
-    both(first, both(vector_met(m.c1), vector_met(m.c2)))
+    let first = both(refusal_met(input, a.refusal), vector_met(input, m.c0));
+    both(
+        first,
+        both(vector_met(input, m.c1), vector_met(input, m.c2)),
+    )
 }
 
 fn zero() -> Vector3 {
@@ -24,43 +30,46 @@ fn zero() -> Vector3 {
     }
 }
 
-fn answer_met(a: VectorAnswer) -> bool {
+fn answer_met(input: &mut Words<'_>, a: VectorAnswer) -> bool {
     match a {
-        VectorAnswer::Value(v) => both(refusal_met(0), vector_met(v)),
-        VectorAnswer::Refused(c) => both(refusal_met(c), vector_met(zero())),
+        VectorAnswer::Value(v) => both(refusal_met(input, 0), vector_met(input, v)),
+        VectorAnswer::Refused(c) => both(refusal_met(input, c), vector_met(input, zero())),
     }
 }
 
-fn rotation_case() -> bool {
-    let x = next_size();
-    let y = next_size();
-    let z = next_size();
-    let n = next_size();
-    let axis = next_vector();
-    let s = next_float();
-    let c = next_float();
-    matrix_met(rolling_ball_fillet::rot_der_n(x, y, z, n, axis, s, c))
+fn rotation_case(input: &mut Words<'_>) -> bool {
+    let x = next_size(input);
+    let y = next_size(input);
+    let z = next_size(input);
+    let n = next_size(input);
+    let axis = next_vector(input);
+    let s = next_float(input);
+    let c = next_float(input);
+    matrix_met(
+        input,
+        rolling_ball_fillet::rot_der_n(x, y, z, n, axis, s, c),
+    )
 }
 
-fn axis_case() -> bool {
-    let axis = next_vector();
-    let s = next_float();
-    let c = next_float();
-    matrix_met(rolling_ball_fillet::from_axis_angle(axis, s, c))
+fn axis_case(input: &mut Words<'_>) -> bool {
+    let axis = next_vector(input);
+    let s = next_float(input);
+    let c = next_float(input);
+    matrix_met(input, rolling_ball_fillet::from_axis_angle(axis, s, c))
 }
 
-fn circle_case() -> bool {
-    let m = next_size();
-    let circle = next_circle();
-    let s = next_float();
-    let c = next_float();
-    answer_met(circle.derivative_n(m, s, c))
+fn circle_case(input: &mut Words<'_>) -> bool {
+    let m = next_size(input);
+    let circle = next_circle(input);
+    let s = next_float(input);
+    let c = next_float(input);
+    answer_met(input, circle.derivative_n(m, s, c))
 }
 
-pub fn next_case() -> bool {
-    match next_size() {
-        3 => rotation_case(),
-        4 => axis_case(),
-        _ => circle_case(),
+pub fn next_case(input: &mut Words<'_>) -> bool {
+    match next_size(input) {
+        3 => rotation_case(input),
+        4 => axis_case(input),
+        _ => circle_case(input),
     }
 }

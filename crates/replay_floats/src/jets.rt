@@ -4,88 +4,94 @@ use booleans::both;
 use derivatives::{
     CurveAnswer, CurveDerivatives, ParameterCurve, SurfaceAnswer, SurfaceDerivatives,
 };
-use replay_text::{answer_met, floats_met, next_floats, next_size, real_met};
+use replay_text::{Words, answer_met, floats_met, next_floats, next_size, real_met};
 
-fn next_curve() -> CurveDerivatives {
-    let order = next_size();
+fn next_curve(input: &mut Words<'_>) -> CurveDerivatives {
+    let order = next_size(input);
     let mut entries = [0.0f64; 21];
-    next_floats(&mut entries);
+    next_floats(input, &mut entries);
     CurveDerivatives { order, entries }
 }
 
-fn next_surface() -> SurfaceDerivatives {
-    let order = next_size();
+fn next_surface(input: &mut Words<'_>) -> SurfaceDerivatives {
+    let order = next_size(input);
     let mut entries = [0.0f64; 231];
-    next_floats(&mut entries);
+    next_floats(input, &mut entries);
     SurfaceDerivatives { order, entries }
 }
 
-fn next_parameter() -> ParameterCurve {
-    let order = next_size();
+fn next_parameter(input: &mut Words<'_>) -> ParameterCurve {
+    let order = next_size(input);
     let mut u = [0.0f64; 21];
     let mut v = [0.0f64; 21];
-    next_floats(&mut u);
-    next_floats(&mut v);
+    next_floats(input, &mut u);
+    next_floats(input, &mut v);
     ParameterCurve { order, u, v }
 }
 
-fn curve_met(a: CurveAnswer) -> bool {
+fn curve_met(input: &mut Words<'_>, a: CurveAnswer) -> bool {
     let jet = a.jet;
     let entries = jet.entries;
-    both(answer_met(a.refusal, jet.order), floats_met(&entries))
+    both(
+        answer_met(input, a.refusal, jet.order),
+        floats_met(input, &entries),
+    )
 }
 
-fn surface_met(a: SurfaceAnswer) -> bool {
+fn surface_met(input: &mut Words<'_>, a: SurfaceAnswer) -> bool {
     let jet = a.jet;
     let entries = jet.entries;
-    both(answer_met(a.refusal, jet.order), floats_met(&entries))
+    both(
+        answer_met(input, a.refusal, jet.order),
+        floats_met(input, &entries),
+    )
 }
 
-fn on_curves(operation: usize) -> bool {
-    let a = next_curve();
-    let b = next_curve();
-    let m = next_size();
+fn on_curves(input: &mut Words<'_>, operation: usize) -> bool {
+    let a = next_curve(input);
+    let b = next_curve(input);
+    let m = next_size(input);
     match operation {
-        1 => curve_met(a.sum(b)),
-        2 => curve_met(a.difference(b)),
-        3 => curve_met(a.combinatorial_derivatives(b)),
-        4 => curve_met(a.rational_derivatives(b)),
-        5 => curve_met(a.derivative()),
-        _ => real_met(a.combinatorial_derivative(b, m)),
+        1 => curve_met(input, a.sum(b)),
+        2 => curve_met(input, a.difference(b)),
+        3 => curve_met(input, a.combinatorial_derivatives(b)),
+        4 => curve_met(input, a.rational_derivatives(b)),
+        5 => curve_met(input, a.derivative()),
+        _ => real_met(input, a.combinatorial_derivative(b, m)),
     }
 }
 
-fn on_surfaces(operation: usize) -> bool {
-    let a = next_surface();
-    let b = next_surface();
-    let m = next_size();
-    let n = next_size();
+fn on_surfaces(input: &mut Words<'_>, operation: usize) -> bool {
+    let a = next_surface(input);
+    let b = next_surface(input);
+    let m = next_size(input);
+    let n = next_size(input);
     match operation {
-        11 => surface_met(a.sum(b)),
-        12 => surface_met(a.difference(b)),
-        13 => surface_met(a.combinatorial_derivatives(b)),
-        14 => surface_met(a.rational_derivatives(b)),
-        15 => surface_met(a.derivative_u()),
-        16 => surface_met(a.derivative_v()),
-        _ => real_met(a.combinatorial_derivative(b, m, n)),
+        11 => surface_met(input, a.sum(b)),
+        12 => surface_met(input, a.difference(b)),
+        13 => surface_met(input, a.combinatorial_derivatives(b)),
+        14 => surface_met(input, a.rational_derivatives(b)),
+        15 => surface_met(input, a.derivative_u()),
+        16 => surface_met(input, a.derivative_v()),
+        _ => real_met(input, a.combinatorial_derivative(b, m, n)),
     }
 }
 
-fn along(operation: usize) -> bool {
-    let a = next_surface();
-    let c = next_parameter();
-    let m = next_size();
+fn along(input: &mut Words<'_>, operation: usize) -> bool {
+    let a = next_surface(input);
+    let c = next_parameter(input);
+    let m = next_size(input);
     match operation {
-        21 => real_met(a.composite_derivative(c, m)),
-        _ => curve_met(a.composite_derivatives(c, m)),
+        21 => real_met(input, a.composite_derivative(c, m)),
+        _ => curve_met(input, a.composite_derivatives(c, m)),
     }
 }
 
-pub fn next_case() -> bool {
-    let operation = next_size();
+pub fn next_case(input: &mut Words<'_>) -> bool {
+    let operation = next_size(input);
     match operation {
-        1..=6 => on_curves(operation),
-        11..=17 => on_surfaces(operation),
-        _ => along(operation),
+        1..=6 => on_curves(input, operation),
+        11..=17 => on_surfaces(input, operation),
+        _ => along(input, operation),
     }
 }

@@ -2,13 +2,14 @@
 // by byte; and after how many bytes its answer is settled. Byte 255 ends each input (tools/replay_parts.py makes them, and says what is expected).
 #![tactic(auto)]
 
-use libc::{STDIN_FILENO, STDOUT_FILENO};
 use parts_text::Reading;
+use std::io;
+use std::io::{Read, Write};
 
-fn write_whole(input: &[u8]) {
+fn write_whole(rt: &impl Print, input: &[u8]) -> io::Result<()> {
     let mut out = [0u8; 4096];
     let n = parts_text::print(input, &mut out);
-    io::write_all(STDOUT_FILENO, &out[..n]);
+    io::writer(rt).write_all(&out[..n])
 }
 
 fn fed_by_bytes(input: &[u8]) -> Reading {
@@ -22,10 +23,10 @@ fn fed_by_bytes(input: &[u8]) -> Reading {
     state
 }
 
-fn write_by_bytes(input: &[u8]) {
+fn write_by_bytes(rt: &impl Print, input: &[u8]) -> io::Result<()> {
     let mut out = [0u8; 4096];
     let n = parts_text::report(fed_by_bytes(input), &mut out);
-    io::write_all(STDOUT_FILENO, &out[..n]);
+    io::writer(rt).write_all(&out[..n])
 }
 
 // How many bytes of an input settle its answer, if they do.
@@ -50,36 +51,30 @@ fn settled_after(input: &[u8]) -> Settled {
     Settled::Never
 }
 
-fn write_settled(input: &[u8]) {
-    let settled = settled_after(input);
-    match settled {
-        Settled::After(n) => {
-            io::write_all(STDOUT_FILENO, b"settled after ");
-            io::print_decimal(STDOUT_FILENO, n as u64);
-            io::write_all(STDOUT_FILENO, b"\n");
-        }
-        Settled::Never => {
-            io::write_all(STDOUT_FILENO, b"open\n");
-        }
+fn write_settled(rt: &impl Print, input: &[u8]) -> io::Result<()> {
+    match settled_after(input) {
+        Settled::After(n) => println!(rt; "settled after {n}"),
+        Settled::Never => println!(rt; "open"),
     }
 }
 
-fn write_inputs(inputs: &[u8]) {
+fn write_inputs(rt: &impl Print, inputs: &[u8]) -> io::Result<()> {
     let mut begun = 0;
     let mut i = 0;
     while i < inputs.len() {
         if inputs[i] == 255 {
-            write_whole(&inputs[begun..i]);
-            write_by_bytes(&inputs[begun..i]);
-            write_settled(&inputs[begun..i]);
+            write_whole(rt, &inputs[begun..i])?;
+            write_by_bytes(rt, &inputs[begun..i])?;
+            write_settled(rt, &inputs[begun..i])?;
             begun = i + 1;
         }
         i += 1;
     }
+    Ok(())
 }
 
-fn main() {
-    let mut buffer = io::large_buffer();
-    let n = io::read_full(STDIN_FILENO, &mut buffer);
-    write_inputs(&buffer[..n]);
+fn main(rt: HostRuntime) -> io::Result<()> {
+    let mut inputs = Vec::new(rt.alloc());
+    rt.stdin().read_to_end(&mut inputs)?;
+    write_inputs(&rt, &inputs)
 }

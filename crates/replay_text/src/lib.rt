@@ -6,9 +6,32 @@
 ghost use Rattle.std.specs.Prelude.{◌≡◌, ◌<◌, ◌≤◌, length};
 
 use booleans::both;
+use std::io;
+use std::io::Write;
 use std::num::wrapping_add_usize;
 use vectors::Real;
 use whole::Whole;
+
+// What is left of the input, which is read whole before.
+#[derive(Drop)]
+pub struct Words<'a> {
+    rest: &'a [u8],
+}
+
+impl<'a> Words<'a> {
+    // The input from its first byte on.
+    pub fn new(text: &'a [u8]) -> Words<'a> {
+        Words { rest: text }
+    }
+
+    // Moves the next bytes to the front of `out`, as many as there are of both.
+    fn fill(&mut self, out: &mut [u8]) {
+        let n = out.len().min(self.rest.len());
+        let (first, rest) = self.rest.split_at(n);
+        out[..n].copy_from_slice(first);
+        self.rest = rest;
+    }
+}
 
 fn wide(c: u8) -> u64
     ensures { result ≡ c }
@@ -40,18 +63,18 @@ fn bits(word: &[u8; 17]) -> u64 {
 }
 
 // The next word of the input; 0 where there is none.
-pub fn next_word() -> u64 {
+pub fn next_word(input: &mut Words<'_>) -> u64 {
     let mut word = [0u8; 17];
-    io::read_full(0, &mut word);
+    input.fill(&mut word);
     bits(&word)
 }
 
-pub fn next_size() -> usize {
-    next_word() as usize
+pub fn next_size(input: &mut Words<'_>) -> usize {
+    next_word(input) as usize
 }
 
-pub fn next_float() -> f64 {
-    ieee::from_bits(next_word())
+pub fn next_float(input: &mut Words<'_>) -> f64 {
+    ieee::from_bits(next_word(input))
 }
 
 fn number_of(w: Whole) -> i64 {
@@ -71,59 +94,59 @@ fn signed(w: u64) -> i64 {
     number_of(whole::minus(Whole::Value(-1), Whole::Value(m)))
 }
 
-pub fn next_whole() -> i64 {
-    signed(next_word())
+pub fn next_whole(input: &mut Words<'_>) -> i64 {
+    signed(next_word(input))
 }
 
 // A list of the input into the first places of the one lent, as far as it has places: how many are read.
-pub fn next_floats(l: &mut [f64]) -> usize
+pub fn next_floats(input: &mut Words<'_>, l: &mut [f64]) -> usize
     ensures { result ≤ length l.old }
 {
-    let n = next_size();
+    let n = next_size(input);
     let mut i = 0;
     while i < l.len() {
         if n <= i {
             return i;
         }
-        l[i] = next_float();
+        l[i] = next_float(input);
         i += 1;
     }
     i
 }
 
-pub fn next_wholes(l: &mut [i64]) -> usize
+pub fn next_wholes(input: &mut Words<'_>, l: &mut [i64]) -> usize
     ensures { result ≤ length l.old }
 {
-    let n = next_size();
+    let n = next_size(input);
     let mut i = 0;
     while i < l.len() {
         if n <= i {
             return i;
         }
-        l[i] = next_whole();
+        l[i] = next_whole(input);
         i += 1;
     }
     i
 }
 
-pub fn next_sizes(l: &mut [usize]) -> usize
+pub fn next_sizes(input: &mut Words<'_>, l: &mut [usize]) -> usize
     ensures { result ≤ length l.old }
 {
-    let n = next_size();
+    let n = next_size(input);
     let mut i = 0;
     while i < l.len() {
         if n <= i {
             return i;
         }
-        l[i] = next_size();
+        l[i] = next_size(input);
         i += 1;
     }
     i
 }
 
 // Reads how many lists there are, and these, as far as their ends have places: the list at i stands from ends[i] to ends[i + 1].
-pub fn next_float_lists(l: &mut [f64], ends: &mut [usize]) {
-    let n = next_size();
+pub fn next_float_lists(input: &mut Words<'_>, l: &mut [f64], ends: &mut [usize]) {
+    let n = next_size(input);
     let mut at = 0usize;
     let mut i = 0;
     while i < ends.len() {
@@ -131,14 +154,14 @@ pub fn next_float_lists(l: &mut [f64], ends: &mut [usize]) {
         if n <= i {
             return;
         }
-        let k = next_floats(&mut l[at..]);
+        let k = next_floats(input, &mut l[at..]);
         at += k;
         i += 1;
     }
 }
 
-pub fn next_whole_lists(l: &mut [i64], ends: &mut [usize]) {
-    let n = next_size();
+pub fn next_whole_lists(input: &mut Words<'_>, l: &mut [i64], ends: &mut [usize]) {
+    let n = next_size(input);
     let mut at = 0usize;
     let mut i = 0;
     while i < ends.len() {
@@ -146,14 +169,14 @@ pub fn next_whole_lists(l: &mut [i64], ends: &mut [usize]) {
         if n <= i {
             return;
         }
-        let k = next_wholes(&mut l[at..]);
+        let k = next_wholes(input, &mut l[at..]);
         at += k;
         i += 1;
     }
 }
 
-pub fn next_size_lists(l: &mut [usize], ends: &mut [usize]) {
-    let n = next_size();
+pub fn next_size_lists(input: &mut Words<'_>, l: &mut [usize], ends: &mut [usize]) {
+    let n = next_size(input);
     let mut at = 0usize;
     let mut i = 0;
     while i < ends.len() {
@@ -161,7 +184,7 @@ pub fn next_size_lists(l: &mut [usize], ends: &mut [usize]) {
         if n <= i {
             return;
         }
-        let k = next_sizes(&mut l[at..]);
+        let k = next_sizes(input, &mut l[at..]);
         at += k;
         i += 1;
     }
@@ -347,62 +370,62 @@ pub fn same_words(a: &[u64], b: &[usize]) -> bool {
 
 // ---- what a case wants, read after the call
 
-pub fn word_met(w: u64) -> bool {
-    next_word() == w
+pub fn word_met(input: &mut Words<'_>, w: u64) -> bool {
+    next_word(input) == w
 }
 
-pub fn size_met(n: usize) -> bool {
-    next_size() == n
+pub fn size_met(input: &mut Words<'_>, n: usize) -> bool {
+    next_size(input) == n
 }
 
-pub fn refusal_met(c: u8) -> bool {
-    word_met(c as u64)
+pub fn refusal_met(input: &mut Words<'_>, c: u8) -> bool {
+    word_met(input, c as u64)
 }
 
-pub fn float_met(x: f64) -> bool {
-    word_met(ieee::to_bits(x))
+pub fn float_met(input: &mut Words<'_>, x: f64) -> bool {
+    word_met(input, ieee::to_bits(x))
 }
 
-fn whole_met(z: i64) -> bool {
-    next_whole() == z
+fn whole_met(input: &mut Words<'_>, z: i64) -> bool {
+    next_whole(input) == z
 }
 
 // What stands beside a jet's entries.
-pub fn answer_met(refusal: u8, order: usize) -> bool {
-    both(refusal_met(refusal), size_met(order))
+pub fn answer_met(input: &mut Words<'_>, refusal: u8, order: usize) -> bool {
+    both(refusal_met(input, refusal), size_met(input, order))
 }
 
 // A refusal and a number: 0 and the number, or the refusal and 0.
-pub fn real_met(a: Real) -> bool {
+pub fn real_met(input: &mut Words<'_>, a: Real) -> bool {
     match a {
-        Real::Value(x) => both(refusal_met(0), float_met(x)),
-        Real::Refused(c) => both(refusal_met(c), float_met(0.0)),
+        Real::Value(x) => both(refusal_met(input, 0), float_met(input, x)),
+        Real::Refused(c) => both(refusal_met(input, c), float_met(input, 0.0)),
     }
 }
 
-pub fn checked_met(a: Whole) -> bool {
+pub fn checked_met(input: &mut Words<'_>, a: Whole) -> bool {
     match a {
-        Whole::Value(z) => both(refusal_met(0), whole_met(z)),
-        Whole::Refused(c) => both(refusal_met(c), whole_met(0)),
+        Whole::Value(z) => both(refusal_met(input, 0), whole_met(input, z)),
+        Whole::Refused(c) => both(refusal_met(input, c), whole_met(input, 0)),
     }
 }
 
 // A list, with zeros past its members.
-pub fn floats_met(l: &[f64]) -> bool {
+pub fn floats_met(input: &mut Words<'_>, l: &[f64]) -> bool {
     let mut wanted = [0.0f64; 256];
-    next_floats(&mut wanted);
+    next_floats(input, &mut wanted);
     same_floats(l, floats_part(&wanted, 0, l.len()))
 }
 
-pub fn wholes_met(l: &[i64]) -> bool {
+pub fn wholes_met(input: &mut Words<'_>, l: &[i64]) -> bool {
     let mut wanted = [0i64; 256];
-    next_wholes(&mut wanted);
+    next_wholes(input, &mut wanted);
     same_wholes(l, wholes_part(&wanted, 0, l.len()))
 }
 
-pub fn sizes_met(l: &[usize]) -> bool {
+pub fn sizes_met(input: &mut Words<'_>, l: &[usize]) -> bool {
     let mut wanted = [0usize; 256];
-    next_sizes(&mut wanted);
+    next_sizes(input, &mut wanted);
     same_sizes(l, sizes_part(&wanted, 0, l.len()))
 }
 
@@ -431,17 +454,18 @@ pub fn call_met(wanted: u64, refusal: u8, same: bool) -> bool {
 
 // A call over floats as a case gives it: the refusal wanted, then the orders, the lists given, and what the lists lent for the answer hold at the end.
 pub fn next_call(
+    input: &mut Words<'_>,
     orders: &mut [usize],
     given: &mut [f64],
     ends: &mut [usize],
     held: &mut [f64],
     held_ends: &mut [usize],
 ) -> u64 {
-    let wanted = next_word();
+    let wanted = next_word(input);
     let mut order_ends = [0usize; 12];
-    next_size_lists(orders, &mut order_ends);
-    next_float_lists(given, ends);
-    next_float_lists(held, held_ends);
+    next_size_lists(input, orders, &mut order_ends);
+    next_float_lists(input, given, ends);
+    next_float_lists(input, held, held_ends);
     wanted
 }
 
@@ -463,10 +487,10 @@ pub struct Group {
 }
 
 // The next group of the input, with no case done. At its end, no case is there.
-pub fn next_group() -> Group {
+pub fn next_group(input: &mut Words<'_>) -> Group {
     let mut label = [0u8; 90];
-    io::read_full(0, &mut label);
-    let cases = next_size();
+    input.fill(&mut label);
+    let cases = next_size(input);
     Group {
         label,
         cases,
@@ -475,41 +499,36 @@ pub fn next_group() -> Group {
     }
 }
 
-fn write_line(label: [u8; 90], cases: usize, differ: usize) {
-    io::write_all(1, &label[0..89]);
-    io::print_decimal(1, differ as u64);
-    io::write_all(1, b" of ");
-    io::print_decimal(1, cases as u64);
-    io::write_all(1, b" differ\n");
+fn write_line(rt: &impl Print, label: [u8; 90], cases: usize, differ: usize) -> io::Result<()> {
+    io::writer(rt).write_all(&label[0..89])?;
+    println!(rt; "{differ} of {cases} differ")
 }
 
 // One more, where a case differs: its place is written.
-fn differing(met: bool, place: usize, differ: usize) -> usize {
+fn differing(rt: &impl Print, met: bool, place: usize, differ: usize) -> io::Result<usize> {
     if met {
-        return differ;
+        return Ok(differ);
     }
-    io::write_all(1, b"differs at ");
-    io::print_decimal(1, place as u64);
-    io::write_all(1, b"\n");
-    wrapping_add_usize(differ, 1)
+    println!(rt; "differs at {place}")?;
+    Ok(wrapping_add_usize(differ, 1))
 }
 
 impl Group {
     // With its next case done; after its last one the group's line is written, and the next group begins.
-    pub fn after(self, met: bool) -> Group {
+    pub fn after(self, rt: &impl Print, input: &mut Words<'_>, met: bool) -> io::Result<Group> {
         let label = self.label;
         let cases = self.cases;
-        let differ = differing(met, self.done, self.differ);
+        let differ = differing(rt, met, self.done, self.differ)?;
         let done = wrapping_add_usize(self.done, 1);
         if done < cases {
-            return Group {
+            return Ok(Group {
                 label,
                 cases,
                 done,
                 differ,
-            };
+            });
         }
-        write_line(label, cases, differ);
-        next_group()
+        write_line(rt, label, cases, differ)?;
+        Ok(next_group(input))
     }
 }

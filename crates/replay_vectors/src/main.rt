@@ -6,7 +6,9 @@ mod lists;
 mod vector_curves;
 mod vector_surfaces;
 
-use replay_text::{FILL, first_floats, list_met, next_call, next_group, next_word};
+use replay_text::{FILL, Words, first_floats, list_met, next_call, next_group, next_word};
+use std::io;
+use std::io::Read;
 
 fn call(op: u64, n: &[usize], l: &[f64], ends: &[usize; 12], out: &mut [f64]) -> u8 {
     match op {
@@ -16,13 +18,14 @@ fn call(op: u64, n: &[usize], l: &[f64], ends: &[usize; 12], out: &mut [f64]) ->
 }
 
 // An operation of the C interface, which is lent one list.
-fn next_answer(op: u64) -> bool {
+fn next_answer(input: &mut Words<'_>, op: u64) -> bool {
     let mut orders = [0usize; 64];
     let mut given = [0.0f64; 2048];
     let mut ends = [0usize; 12];
     let mut held = [0.0f64; 1024];
     let mut held_ends = [0usize; 12];
     let wanted = next_call(
+        input,
         &mut orders,
         &mut given,
         &mut ends,
@@ -35,22 +38,27 @@ fn next_answer(op: u64) -> bool {
     list_met(wanted, refusal, &out, &held, n)
 }
 
-fn next_case() -> bool {
-    let family = next_word();
+fn next_case(input: &mut Words<'_>) -> bool {
+    let family = next_word(input);
     match family {
-        1 => lists::next_case(),
-        _ => next_answer(family),
+        1 => lists::next_case(input),
+        _ => next_answer(input, family),
     }
 }
 
-fn main() {
-    let mut group = next_group();
+fn main(rt: HostRuntime) -> io::Result<()> {
+    let mut text = Vec::new(rt.alloc());
+    rt.stdin().read_to_end(&mut text)?;
+    let mut input = Words::new(&text);
+    let mut group = next_group(&mut input);
     let mut turns = 0u32;
     while turns < 100000 {
         if group.cases == 0 {
-            return;
+            return Ok(());
         }
-        group = group.after(next_case());
+        let met = next_case(&mut input);
+        group = group.after(&rt, &mut input, met)?;
         turns += 1;
     }
+    Ok(())
 }

@@ -3,4 +3,4 @@ use Rattle.parts.proofs.feed_all.Goals as goal
 
 -- a read is made where the test has said that the answer is not settled
 pub feed_some-fed-requires : goal.feed_some-fed-requires
-feed_some-fed-requires c = sym c.is_settled.ensures ∙ c.if-is_settled.false
+feed_some-fed-requires g c = sym c.is_settled.ensures ∙ c.if-is_settled.false

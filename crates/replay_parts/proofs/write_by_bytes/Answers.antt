@@ -5,7 +5,7 @@ use Rattle.parts_text.proofs.Puts.{front-within, front-taken}
 use Rattle.replay_parts.proofs.write_by_bytes.Goals as goal
 
 pub slice_bounds-out-end : goal.slice_bounds-out-end
-slice_bounds-out-end c = front-within (finished c.fed_by_bytes.result) (replicate 4096 0) c.report-n.ensures.0 c.report-n.ensures.1
+slice_bounds-out-end g c = front-within (finished c.fed_by_bytes.result) (replicate 4096 0) c.report-n.ensures.0 c.report-n.ensures.1
 
 pub slice_bounds-write_all-end : goal.slice_bounds-write_all-end
-slice_bounds-write_all-end c = front-taken (finished c.fed_by_bytes.result) (replicate 4096 0) c.report-n.ensures.0 c.report-n.ensures.1
+slice_bounds-write_all-end g c = front-taken (finished c.fed_by_bytes.result) (replicate 4096 0) c.report-n.ensures.0 c.report-n.ensures.1

@@ -4,7 +4,7 @@ use lib.ListN.{length}
 use Rattle.replay_parts.proofs.write_inputs.Given as goal
 
 abbrev pub invariant-loop-i : goal.invariant-loop-i
-invariant-loop-i l = (l.begun ≤ l.i) × (l.i ≤ length l.inputs)
+invariant-loop-i g l = (l.begun ≤ l.i) × (l.i ≤ length l.inputs)
 
 abbrev pub decreases-loop-i : goal.decreases-loop-i
-decreases-loop-i l = length l.inputs - l.i
+decreases-loop-i g l = length l.inputs - l.i
