@@ -169,6 +169,7 @@ def archived():
         for file, name in sorted(ours.keys() & theirs.keys()):
             if ours[(file, name)] != theirs[(file, name)]:
                 yield f"{archive} does not say what {crate} says: {file}: {name}"
+        for file in sorted({file for file, _ in ours.keys() & theirs.keys()}):
             imports = [imported((ROOT / "crates" / c / "src" / file).read_text()) for c in (crate, archive)]
             if any(imports[0].get(word) != imports[1][word] for word in imports[1]):
                 yield f"{archive} names other definitions than {crate}: {file}"
