@@ -1,7 +1,7 @@
 /* Times the carries of two states of the library in one run: processor nanoseconds a call, the least of 15, the two in turn.
 
    In a clone of each state:
-   rt staticlib capi_exact && rt staticlib capi_vectors
+   tools/staticlib capi_exact capi_vectors
    cc -shared -o target/state.so -Wl,--whole-archive target/staticlib/libcapi_exact.a target/staticlib/libcapi_vectors.a -Wl,--no-whole-archive
    Then:
    cc -O2 -Iinclude -o target/before_after bench/before_after.c -ldl && target/before_after BEFORE/target/state.so AFTER/target/state.so */

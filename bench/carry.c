@@ -1,5 +1,5 @@
 /* Times the exact carry of a surface with small entries.
-   rt staticlib bench_carry && cc -O2 -o target/carry bench/carry.c target/staticlib/libbench_carry.a && target/carry */
+   tools/staticlib bench_carry && cc -O2 -o target/carry bench/carry.c target/staticlib/libbench_carry.a && target/carry */
 #include <stdint.h>
 #include <stdio.h>
 #include <time.h>

@@ -1,6 +1,6 @@
 /* What goes wrong under another float environment than the one that the header asks for.
 
-   rt staticlib capi_floats
+   tools/staticlib capi_floats
    cc -frounding-math -Iinclude -o target/environment bench/environment.c target/staticlib/libcapi_floats.a -lm && target/environment */
 #include "sugamdely.h"
 #include <fenv.h>

@@ -1,7 +1,7 @@
 /* A surface of vectors carried along a curve at order 2, as often as is asked, for counting instructions: those of 2,000 calls less those of 1,000, over
    1,000, are a call's.
 
-   rt staticlib capi_vectors && cc -O2 -Iinclude -o target/instructions bench/instructions.c target/staticlib/libcapi_vectors.a
+   tools/staticlib capi_vectors && cc -O2 -Iinclude -o target/instructions bench/instructions.c target/staticlib/libcapi_vectors.a
    for n in 1000 2000; do valgrind --tool=callgrind --callgrind-out-file=target/calls.$n target/instructions $n; done
    callgrind_annotate target/calls.2000 */
 #include "sugamdely.h"

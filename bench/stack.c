@@ -1,7 +1,7 @@
 /* How much stack a call takes: a family's calls run on a stack of their own that was painted before, and what is no longer painted counts. Exit code 1 if a
    family takes more than the header says.
 
-   for name in exact roads floats vectors fillet; do rt staticlib capi_$name; done
+   tools/staticlib
    cc -O2 -Iinclude -o target/stack bench/stack.c target/staticlib/libcapi_*.a && target/stack */
 #define _DEFAULT_SOURCE
 #include "sugamdely.h"

@@ -1,6 +1,6 @@
 /* Derivative jets of curves and surfaces, exact and of floats, and the arithmetic of a rolling-ball fillet.
 
-   for name in exact roads floats vectors fillet; do rt staticlib capi_$name; done
+   tools/staticlib
    cc program.c target/staticlib/libcapi_*.a
 
    Every function is proved to give what its contract in crates/capi_exact, capi_roads, capi_floats, capi_vectors or capi_fillet says, for any

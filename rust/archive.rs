@@ -1,7 +1,7 @@
 use std::env;
 use std::path::{Path, PathBuf};
 
-/// The crates of the library's C interface: `rt staticlib` writes an archive for each.
+/// The crates of the library's C interface: `tools/staticlib` writes an archive for each.
 const CRATES: [&str; 5] = ["capi_exact", "capi_roads", "capi_floats", "capi_vectors", "capi_fillet"];
 
 /// Names the archives to the linker: those in the directory SUGAMDELY_LIB or, where that is not set, in target/staticlib of the repository.
@@ -15,7 +15,7 @@ pub fn link(repository: &Path) -> Result<Vec<PathBuf>, String> {
     for (name, archive) in CRATES.iter().zip(&archives) {
         if !archive.exists() {
             return Err(format!(
-                "{} is not there.\nRun `rt staticlib {name}` in the repository's root, or set SUGAMDELY_LIB to the directory that holds the archives.",
+                "{} is not there.\nRun `tools/staticlib {name}` in the repository's root, or set SUGAMDELY_LIB to the directory that holds the archives.",
                 archive.display()
             ));
         }

@@ -2,7 +2,8 @@
 
     python3 tools/proved.py            writes the table of public functions and the count of definitions anew
     python3 tools/proved.py --check    exit code 1 if they are not those of the tree, if a reference in the page leads nowhere, if a public
-                                       function has a `requires` or no `ensures`, or if a crate of entries answers without a number
+                                       function has a `requires` or no `ensures`, if a crate of entries answers without a number, or if an
+                                       archive's functions are not those of its library, clause for clause
 
 A reference is `FILE` or `FILE: NAME` in backquotes, FILE from the repository's root: the file must be there, and declare the name.
 
@@ -19,9 +20,12 @@ PAGE = ROOT / "docs" / "PROVED.md"
 BEGIN, END = "<!-- public functions -->", "<!-- end -->"
 COUNT = re.compile(r"(?<=<!-- lines -->).*?(?=<!-- end of lines -->)", re.S)
 TEST_TOOLS = "replay_"
+OF_THE_KIT = ["std", "core", "io", "libc"]
 
 ENTRIES = ["whole", "partitions", "exact", "roads", "vectors", "derivatives", "vector_derivatives", "rolling_ball_fillet", "parts_text"]
-BORDER = ["capi_exact", "capi_roads", "capi_floats", "capi_vectors", "capi_fillet", "bench_carry"]
+ARCHIVED = ["capi_exact", "capi_roads", "capi_floats", "capi_vectors", "capi_fillet"]
+ARCHIVES = [f"{name}_c" for name in ARCHIVED]  # static libraries that say no more than these, so the page has no list of theirs
+BORDER = ARCHIVED + ["bench_carry"]
 ARITHMETIC = ["booleans", "calculus", "orders", "exact_formulas", "exact_carry", "ieee", "ieee_vectors", "formulas", "vector_formulas", "vector_surface_formulas", "float_carry",
               "rodrigues", "surface_info", "contacts", "partials"]
 BORDER_PARTS = ["given", "exact_lists", "float_lists", "fillet_lists"]  # what the crates of the border share
@@ -40,22 +44,22 @@ NUMBERLESS = {
 
 def libraries():
     """The crates that a caller can use; those that only the replays stand on are no part of it."""
-    names = [line.split(":")[0] for line in (ROOT / "crates.txt").read_text().splitlines() if line and not line.startswith("#")]
-    return [n for n in names if (ROOT / "crates" / n / "src" / "lib.rt").exists() and not n.startswith(TEST_TOOLS)]
+    return [n for n in depends() if (ROOT / "crates" / n / "src" / "lib.rt").exists() and not n.startswith(TEST_TOOLS)]
 
 
 def imported(text):
     """The names that a file's contracts take from definitions, each with the definitions' file and its name there."""
     names = {}
-    for crate, module, items in re.findall(r"ghost use Rattle·(\w+)(?:·specs)?\.specs(?:\.specs)?\.([\w.]+)\.\{([^}]*)\};", text):
-        crate = crate.removesuffix("·specs")
+    for crate, module, items in re.findall(r"ghost use Rattle\.(\w+)\.specs\.([\w.]+)\.\{([^}]*)\};", text):
+        if crate in OF_THE_KIT:
+            continue
         for item in items.split(","):
             own, _, alias = item.strip().partition(" as ")
             if own:
                 names[alias.strip() or own] = (own, f"crates/{crate}/specs/{module.replace('.', '/')}.antt")
-    for crate, module in re.findall(r"ghost use Rattle·(\w+)(?:·specs)?\.specs(?:\.specs)?\.([\w.]+);", text):
-        last = module.split(".")[-1]
-        names[last] = (None, f"crates/{crate}/specs/{module.replace('.', '/')}.antt")
+    for crate, module, alias in re.findall(r"ghost use Rattle\.(\w+)\.specs\.([\w.]+)(?: as (\w+))?;", text):
+        if crate not in OF_THE_KIT:
+            names[alias or module.split(".")[-1]] = (None, f"crates/{crate}/specs/{module.replace('.', '/')}.antt")
     return names
 
 
@@ -78,6 +82,18 @@ def functions(text):
     return found
 
 
+def clauses(head, kind):
+    """What a head's clauses of a kind say, named or not."""
+    found = []
+    for m in re.finditer(rf"^ *{kind}\*?(?: \w+)? \{{", head, re.M):
+        depth, end = 1, m.end()
+        while depth:
+            depth += {"{": 1, "}": -1}.get(head[end], 0)
+            end += 1
+        found.append(head[m.end() : end - 1])
+    return found
+
+
 def public(crate):
     """The public functions of a crate, as (name, file, definitions, has_requires, has_ensures)."""
     source = ROOT / "crates" / crate / "src"
@@ -95,15 +111,15 @@ def public(crate):
             exported = 'extern "C"' in head
             if not (owner in open_types or exported or module == "lib" or module in open_modules or f"{module}::{name}" in passed_on):
                 continue
-            ensures = "".join(re.findall(r"ensures \{(.*?)⌝ \}", head, re.S))
+            ensures = "".join(clauses(head, "ensures"))
             cited = []
-            for word in re.findall(r"[\w«»'-]+(?:\.[\w«»'-]+)*", ensures):
+            for word in re.findall(r"[\w'-]+(?:\.[\w'-]+)*", ensures):
                 first, _, rest = word.partition(".")
                 if first in names:
                     own, spec = names[first]
                     cited.append((own or rest, spec))
             full = "::".join(filter(None, [crate, module if module in open_modules else None, owner, name]))
-            yield full, file, list(dict.fromkeys(cited)), "requires {" in head, "ensures {" in head
+            yield full, file, list(dict.fromkeys(cited)), bool(clauses(head, "requires")), bool(ensures.strip())
 
 
 def answers():
@@ -131,12 +147,37 @@ def without_number(crate, say):
 
 def depends():
     lines = [line.split(":") for line in (ROOT / "crates.txt").read_text().splitlines() if line and not line.startswith("#")]
-    return {name: rest.split() for name, rest in lines}
+    return {name.split()[0]: rest.split() for name, rest in lines}
+
+
+def exported(crate):
+    """A crate's functions for C: the head of each, and the attributes before it, by file and name."""
+    heads = {}
+    for file in sorted((ROOT / "crates" / crate / "src").rglob("*.rt")):
+        for _, name, head in functions(file.read_text()):
+            if 'extern "C"' in head:
+                heads[(file.name, name)] = head
+    return heads
+
+
+def archived():
+    """Faults of the archives: functions that are not those of the library."""
+    for crate, archive in zip(ARCHIVED, ARCHIVES):
+        ours, theirs = exported(crate), exported(archive)
+        for file, name in sorted(ours.keys() ^ theirs.keys()):
+            yield f"not in both {crate} and {archive}: {file}: {name}"
+        for file, name in sorted(ours.keys() & theirs.keys()):
+            if ours[(file, name)] != theirs[(file, name)]:
+                yield f"{archive} does not say what {crate} says: {file}: {name}"
+        for file in sorted({file for file, _ in ours.keys() & theirs.keys()}):
+            imports = [imported((ROOT / "crates" / c / "src" / file).read_text()) for c in (crate, archive)]
+            if any(imports[0].get(word) != imports[1][word] for word in imports[1]):
+                yield f"{archive} names other definitions than {crate}: {file}"
 
 
 def layers():
     """Faults of the two lists of crates: one that stands in none, and arithmetic on top of entries that test what is handed in."""
-    known = ENTRIES + ARITHMETIC + BORDER + BORDER_PARTS + NO_CODE
+    known = ENTRIES + ARITHMETIC + BORDER + ARCHIVES + BORDER_PARTS + NO_CODE
     for crate in libraries():
         if known.count(crate) != 1:
             yield f"a crate that is neither entries nor arithmetic: {crate}"
@@ -168,8 +209,7 @@ def definitions(crate, module):
         for line in block:
             if m := re.match(r"\s*(?:abbrev |unfoldable )?(?:pub )?(?:(?:record|data) )?([^\s(){}:]+)[^=]*? : ", line):
                 names.setdefault(m.group(1), k)
-    for other, path, items, alias in re.findall(r"^use Rattle·(\w+?)(?:·specs)?\.specs(?:\.specs)?\.([\w.«»-]+?)(?:\.\{([^}]*)\})?(?: as ([\w-]+))?$", text, re.M):
-        other = other.removesuffix("·specs")
+    for other, path, items, alias in re.findall(r"^use Rattle\.(\w+)\.specs\.([\w.-]+?)(?:\.\{([^}]*)\})?(?: as ([\w-]+))?$", text, re.M):
         if not items:
             imports[alias or path.split(".")[-1]] = (other, path, None)
         for item in filter(None, items.split(",")):
@@ -192,7 +232,7 @@ def reached(todo, files):
         if block is None or (crate, module, block) in seen:
             continue
         seen.add((crate, module, block))
-        for word in set(re.findall(r"[\w«»'-]+(?:\.[\w«»'-]+)*", "\n".join(blocks[block]))):
+        for word in set(re.findall(r"[\w'-]+(?:\.[\w'-]+)*", "\n".join(blocks[block]))):
             first, _, rest = word.partition(".")
             if first in names:
                 todo.append((crate, module, first))
@@ -213,9 +253,9 @@ def cited(crates, wanted=lambda name: True):
 
 def theorem(path):
     """The definitions that a file of theorems imports."""
-    for crate, module, items in re.findall(r"^use Rattle·(\w+?)(?:·specs)?\.specs(?:\.specs)?\.([\w.]+)\.\{([^}]*)\}$", (ROOT / path).read_text(), re.M):
+    for crate, module, items in re.findall(r"^use Rattle\.(\w+)\.specs\.([\w.]+)\.\{([^}]*)\}$", (ROOT / path).read_text(), re.M):
         for item in items.split(","):
-            yield crate.removesuffix("·specs"), module, item.strip().split(" as ")[0]
+            yield crate, module, item.strip().split(" as ")[0]
 
 
 def counted():
@@ -243,7 +283,7 @@ def table(crate):
 
 
 def generated():
-    return "\n".join(line for crate in libraries() for line in (table(crate) if list(public(crate)) else []))
+    return "\n".join(line for crate in libraries() if crate not in ARCHIVES for line in (table(crate) if list(public(crate)) else []))
 
 
 def declares(file, name):
@@ -261,6 +301,7 @@ def faults(page):
         elif name and not all(declares(file, n.strip()) for n in name.split(",")):
             yield f"not declared there: {reference}"
     yield from layers()
+    yield from archived()
     for crate in libraries():
         for name, _, _, requires, ensures in public(crate):
             if requires:
@@ -282,7 +323,7 @@ def main():
         print("docs/PROVED.md: the table of public functions, or the count of definitions, is not that of the tree; run tools/proved.py")
         sys.exit(1)
     bad = list(faults(page))
-    print("\n".join(bad) if bad else "docs/PROVED.md: every reference leads somewhere, no public function has a requires or lacks an ensures, and no entry answers without a number")
+    print("\n".join(bad) if bad else "docs/PROVED.md: every reference leads somewhere, no public function has a requires or lacks an ensures, no entry answers without a number, and the archives say what their libraries say")
     sys.exit(1 if bad else 0)
 
 

@@ -31,7 +31,7 @@ fn main() -> io::Result<()> {
         }
         #[cfg(not(ours))]
         ["compare", ..] | ["measure"] => {
-            eprintln!("built without the library: run `rt staticlib` of capi_exact, capi_roads, capi_floats, capi_vectors and capi_fillet in the repository's root first");
+            eprintln!("built without the library: run `tools/staticlib` in the repository's root first");
             process::exit(2)
         }
         _ => {

@@ -1,6 +1,6 @@
 /* Document 01's figures through the C interface. Writes what is not met; exit code 1 if there is any.
 
-   for name in exact roads floats vectors fillet; do rt staticlib capi_$name; done
+   tools/staticlib
    cc -std=c11 -Iinclude -o target/figures rust/tests/figures.c target/staticlib/libcapi_*.a && target/figures */
 #include "sugamdely.h"
 #include <stdio.h>

@@ -1,0 +1,32 @@
+// The functions of `capi_exact::whole_numbers` under their names in C.
+ghost use Rattle.std.specs.Prelude.{◌≡◌, List, ℕ, ℤ, ◌+ℤ◌, ◌-ℤ◌, ◌*ℤ◌};
+ghost use Rattle.whole.specs.Checked.{formed, divided};
+ghost use Rattle.exact_lists.specs.Delivery.{deliver_whole};
+
+#[unsafe(no_mangle)]
+pub extern "C" fn sugamdely_whole_sum(a: i64, b: i64, out: &mut [i64]) -> u8
+    ensures { ◌≡◌ {A = ℕ × List ℤ} (result, out.new) (deliver_whole (formed (a +ℤ b)) out.old) }
+{
+    capi_exact::whole_numbers::sugamdely_whole_sum(a, b, out)
+}
+
+#[unsafe(no_mangle)]
+pub extern "C" fn sugamdely_whole_difference(a: i64, b: i64, out: &mut [i64]) -> u8
+    ensures { ◌≡◌ {A = ℕ × List ℤ} (result, out.new) (deliver_whole (formed (a -ℤ b)) out.old) }
+{
+    capi_exact::whole_numbers::sugamdely_whole_difference(a, b, out)
+}
+
+#[unsafe(no_mangle)]
+pub extern "C" fn sugamdely_whole_product(a: i64, b: i64, out: &mut [i64]) -> u8
+    ensures { ◌≡◌ {A = ℕ × List ℤ} (result, out.new) (deliver_whole (formed (a *ℤ b)) out.old) }
+{
+    capi_exact::whole_numbers::sugamdely_whole_product(a, b, out)
+}
+
+#[unsafe(no_mangle)]
+pub extern "C" fn sugamdely_whole_quotient(a: i64, b: i64, out: &mut [i64]) -> u8
+    ensures { ◌≡◌ {A = ℕ × List ℤ} (result, out.new) (deliver_whole (divided a b) out.old) }
+{
+    capi_exact::whole_numbers::sugamdely_whole_quotient(a, b, out)
+}
