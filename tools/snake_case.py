@@ -19,7 +19,7 @@ DECLARED = re.compile(r"(?m)^[ \t]*(?:(?:abbrev|unfoldable)[ \t]+)?(?:pub[ \t]+)
 PIECE = re.compile(r"^[a-z][A-Za-z0-9_]*$")
 CAMEL = re.compile(r"(?<=[a-z0-9])[A-Z]")
 # Where the plain spelling falls together with another name: what is written in its place.
-CHOSEN = {}
+CHOSEN = {"times-in": "times_in"}
 
 
 def files(root):
@@ -38,7 +38,11 @@ def turned(name):
     if name in CHOSEN:
         return CHOSEN[name]
     pieces = name.split("-")
-    return "-".join(CAMEL.sub(lambda m: "_" + m[0].lower(), p) if PIECE.match(p) and CAMEL.search(p) else p for p in pieces)
+    for i in range(len(pieces)):
+        # several capitals in a row take a turn each
+        while PIECE.match(pieces[i]) and CAMEL.search(pieces[i]):
+            pieces[i] = CAMEL.sub(lambda m: "_" + m[0].lower(), pieces[i])
+    return "-".join(pieces)
 
 
 def read(path):

@@ -9,7 +9,7 @@ use native.Mathlib.Nat.{suc-ne-zero}
 use lib.Dec.{ltb, eqb}
 use lib.ListN.{length, get_or, take, drop, replicate}
 use lib.Seq.{take_at}
-use Rattle.partitions.specs.Parts.{parts, lists}
+use Rattle.partitions.specs.Parts.{lists}
 use Rattle.partitions.specs.Walk.{from, padded, refusal, started, started_by, started_at, stepped, stepped_by, refused, at_end, remaining, moved, handed}
 use Rattle.partitions.specs.Inner.{greatest, has_next, next_of}
 use Rattle.partitions.specs.declared.CompositionIter.{CompositionIter}

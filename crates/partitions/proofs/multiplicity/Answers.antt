@@ -3,7 +3,6 @@ use mathlib.Core.Bool.{true, false}
 use mathlib.Core.Path.{◌≡◌, sym, ap, ◌∙◌}
 use Prim.Native.Nat.{ℕ}
 use native.Mathlib.Omega.{arith}
-use borrow.Author.Tests.{not-true, not-false}
 use Rattle.partitions.specs.Parts.{total, fact, divide, runs, multiplicity}
 use Rattle.partitions.specs.declared.Count.TheVariants.{Value}
 use Rattle.partitions.proofs.Counted.{counted-high, counted-by, list-test, no-list}

@@ -1,4 +1,3 @@
-use Prim.Native.Nat.{◌-◌}
 use Rattle.ieee.proofs.Recurrence.{starts, stays, takes, ends, renamed}
 use Rattle.ieee.proofs.root.digits.Goals as goal
 use Rattle.ieee.proofs.root.digits.Goals.{then-root-rest, else-root-rest}
@@ -12,7 +11,7 @@ loop-i-preserved c =
     let l = c.loop-i in
     let more = c.loop-i-test.true in
     elim c.if-root-rest.branch [
-        then-root-rest a ↦ renamed a.root-is a.rest-is (takes w l.root l.rest l.left l.i l.invariant more a.if-root-rest.true)
+      | then-root-rest a ↦ renamed a.root-is a.rest-is (takes w l.root l.rest l.left l.i l.invariant more a.if-root-rest.true)
       | else-root-rest a ↦ renamed a.root-is a.rest-is (stays w l.root l.rest l.left l.i l.invariant more a.if-root-rest.false)
     ]
 

@@ -2,7 +2,6 @@
 -- place. Assumes nothing.
 use mathlib.Core.Path.{sym, ◌∙◌}
 use native.Mathlib.Omega.{arith}
-use borrow.Author.Tests.{not-true, not-false}
 use borrow.Author.Rules.{rules}
 use Rattle.partitions.proofs.Stepping.{step-refused, step-ended, Ready, len-fits, held-long, step_sum, step_falls, sum_is, Holds, next-asks, step-on}
 use Rattle.partitions.proofs.CompositionIter.step.Goals as goal

@@ -3,7 +3,6 @@ use Rattle.partitions.proofs.Tail.{tail_of, tail-length, put-length, none_left, 
 use mathlib.Core.Path.{◌≡◌, ap, ◌∙◌}
 use native.Mathlib.Omega.{arith}
 use Prim.Native.Nat.{ℕ, ◌-◌}
-use Rattle.partitions.proofs.inner.init.Reads as init
 use Rattle.partitions.proofs.inner.+init.Goals as goal
 
 pub returns-then-len-eq0 : goal.returns-then-len-eq0

@@ -4,7 +4,6 @@ use borrow.Author.Rules.{rules}
 use Prim.Native.Nat.{◌+◌}
 use Rattle.partitions.proofs.Tail.{tail_of, tail-length, put-length}
 use Rattle.partitions.proofs.Moves.{no-tail, head-positive, head_small, tail-falls, tail-total, length-le, moved-tail, moved_none, moved-anew, sum_is, lowered, lowered-length}
-use Rattle.partitions.proofs.inner.next.Reads as next
 use Rattle.partitions.proofs.inner.+next.Goals as goal
 
 pub returns-then-len-le1 : goal.returns-then-len-le1

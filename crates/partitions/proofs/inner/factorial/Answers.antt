@@ -2,7 +2,7 @@ use mathlib.Core.Path.{refl, sym, ap, subst, ◌∙◌}
 use Rattle.partitions.specs.Parts.{fact}
 use Rattle.partitions.proofs.Exact.{fact-fits}
 use Rattle.partitions.proofs.Slices.{fact-next}
-use Prim.Native.Nat.{ℕ, ◌+◌, ◌-◌, ◌*◌, ◌^◌, ◌<◌}
+use Prim.Native.Nat.{ℕ, ◌+◌, ◌*◌, ◌^◌, ◌<◌}
 use native.Mathlib.Omega.{arith}
 use borrow.Author.Rules.{rules}
 use Rattle.partitions.proofs.inner.factorial.Goals as goal

@@ -1,6 +1,5 @@
 use mathlib.Core.Path.{refl, sym, ◌∙◌}
 use Rattle.partitions.proofs.Slices.{falls-zero, falls-rising, falls-on, falls-past}
-use Prim.Native.Nat.{◌-◌}
 use borrow.Author.Rules.{rules}
 use Rattle.partitions.proofs.inner.falls.Goals as goal
 

@@ -4,7 +4,7 @@ use Rattle.partitions.specs.Parts.{divide}
 use Rattle.partitions.proofs.Out.{fact-pos}
 use Rattle.partitions.proofs.Member.{part-total}
 use Rattle.partitions.proofs.Slices.{divide-at, divide-past}
-use Prim.Native.Nat.{ℕ, ◌+◌, ◌-◌, ◌/◌}
+use Prim.Native.Nat.{ℕ, ◌+◌, ◌/◌}
 use native.Mathlib.Omega.{arith}
 use borrow.Author.Rules.{rules}
 use Rattle.partitions.proofs.inner.over_parts.Goals as goal
