@@ -1,6 +1,6 @@
 -- What the functions of this crate return: a value where it can be had, or document 01's refusal number. Checked as 5, then 6 or 7, then 10.
 -- Assumes nothing.
-use Rattle.std.specs.Prelude.{Bool, ◌&&◌, cond, ℕ, Float}
+use Rattle.std.specs.Prelude.{Bool, cond, ℕ, Float}
 use Rattle.std.specs.Float.Ieee.{eq}
 use Rattle.std.specs.Float.Ieee.Scale.{finite}
 use Rattle.ieee.specs.SquareRoot.{square_root}

@@ -1,6 +1,6 @@
 -- `derivatives::returned_surface` meets its contract. Assumes nothing.
 use mathlib.Core.Path.{sym, ◌∙◌}
-use borrow.Author.Tests.{lt-ltb, le-ltb, not-true, not-false}
+use borrow.Author.Tests.{lt-ltb, le-ltb}
 use Rattle.derivatives.proofs.returned_surface.Goals as goal
 
 pub returns-then-n-gt20 : goal.returns-then-n-gt20

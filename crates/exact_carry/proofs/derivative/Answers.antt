@@ -6,7 +6,6 @@ use Rattle.calculus.specs.InTurn.{along_list}
 use Rattle.calculus.specs.Carry.{summand, through_len, coordinates, surface_entry}
 use Rattle.exact_formulas.specs.Kinds.{checked}
 use Rattle.exact_formulas.specs.Entries.{curve_values, surface_values}
-use Prim.Native.Nat.{◌-◌}
 use native.Mathlib.Omega.{arith}
 use Rattle.exact_carry.proofs.derivative.Invariants.{through}
 use Rattle.exact_carry.proofs.derivative.Goals as goal

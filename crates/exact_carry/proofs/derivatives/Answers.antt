@@ -1,7 +1,7 @@
 use mathlib.Core.Path.{◌≡◌, sym, ap, ◌∙◌}
 use Rattle.exact_carry.proofs.Masks.{carried_jet}
 use Rattle.exact_formulas.proofs.Progress.{curve-begins, curve-goes-on, curve-stops, curve-ends}
-use Prim.Native.Nat.{◌-◌, min}
+use Prim.Native.Nat.{min}
 use native.Mathlib.Omega.{arith}
 use Rattle.exact_formulas.specs.Entries.{formed_curve}
 use borrow.Author.Rules.{rules}

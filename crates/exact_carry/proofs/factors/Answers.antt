@@ -10,7 +10,7 @@ use Rattle.exact_formulas.specs.Kinds.{checked}
 use Rattle.exact_formulas.specs.Entries.{curve_values}
 use Rattle.whole.specs.declared.Whole.TheVariants.{Value}
 use Rattle.calculus.proofs.LoopBits.{factors-at, factors-past, by-u, by-v}
-use Prim.Native.Nat.{◌+◌, ◌-◌, ◌/◌, ◌%◌}
+use Prim.Native.Nat.{◌+◌, ◌/◌, ◌%◌}
 use native.Mathlib.Omega.{arith}
 use borrow.Author.Rules.{rules}
 use Rattle.exact_carry.proofs.factors.Goals as goal
@@ -39,7 +39,7 @@ loop-p-preserved c =
     let k = coordinates (curve_values s.u.now) (curve_values s.v.now) in
     let a = get_or s.list.now l.p 0 in
     let x : Value (to_z w64 j.x-bits) ≡ k (l.rest % 2) a = elim j.branch [
-        then-rest-eq0 w ↦ by-u (curve_values s.u.now) (curve_values s.v.now) (l.rest % 2) a (Value (to_z w64 j.x-bits)) w.if-rest-eq0.true (let f : SFits w64 (get_or s.u.now a (pos 0)) = search rules in ap Value (w.x-is ∙ to_z-of_z f))
+      | then-rest-eq0 w ↦ by-u (curve_values s.u.now) (curve_values s.v.now) (l.rest % 2) a (Value (to_z w64 j.x-bits)) w.if-rest-eq0.true (let f : SFits w64 (get_or s.u.now a (pos 0)) = search rules in ap Value (w.x-is ∙ to_z-of_z f))
       | else-rest-eq0 w ↦ by-v (curve_values s.u.now) (curve_values s.v.now) (l.rest % 2) a (Value (to_z w64 j.x-bits)) w.if-rest-eq0.false (let f : SFits w64 (get_or s.v.now a (pos 0)) = search rules in ap Value (w.x-is ∙ to_z-of_z f))
     ] in (
       ap (λ r. Factors checked 2 k r (drop (l.p + 1) s.list.now) (l.rest / 2)) (c.times-product.ensures ∙ ap (checked.times l.product) x)

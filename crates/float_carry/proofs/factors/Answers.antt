@@ -5,7 +5,7 @@ use lib.ListN.{drop, get_or}
 use Rattle.formulas.specs.Numbers.{curve_numbers}
 use Rattle.formulas.specs.Real.{real}
 use mathlib.Core.Path.{◌≡◌, refl, sym, ap, ◌∙◌}
-use Prim.Native.Nat.{◌+◌, ◌-◌, ◌/◌, ◌%◌}
+use Prim.Native.Nat.{◌+◌, ◌/◌, ◌%◌}
 use native.Mathlib.Omega.{arith}
 use Rattle.float_carry.proofs.factors.Goals as goal
 use Rattle.float_carry.proofs.factors.Goals.{then-rest-eq0, else-rest-eq0}
@@ -36,7 +36,7 @@ loop-p-preserved c =
     let f = coordinates u v in
     let a = get_or s.list.now l.p 0 in
     let x : j.x ≡ f (l.rest % 2) a = elim j.branch [
-        then-rest-eq0 w ↦ by-u u v (l.rest % 2) a j.x w.if-rest-eq0.true w.x-is
+      | then-rest-eq0 w ↦ by-u u v (l.rest % 2) a j.x w.if-rest-eq0.true w.x-is
       | else-rest-eq0 w ↦ by-v u v (l.rest % 2) a j.x w.if-rest-eq0.false w.x-is
     ] in (
       ap (λ r. Factors real 2 f r (drop (l.p + 1) s.list.now) (l.rest / 2)) (ap (real.times l.product) x)

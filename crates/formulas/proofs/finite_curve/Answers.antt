@@ -1,10 +1,8 @@
 use lib.Ieee.Scale.{finite}
 use Rattle.formulas.proofs.Finite.{none, more, stop}
 use Rattle.formulas.specs.Numbers.{curve_numbers, all_finite}
-use borrow.Author.Tests.{not-true, not-false}
-use mathlib.Core.Bool.{true}
 use mathlib.Core.Path.{◌≡◌, sym, ap, ◌∙◌}
-use Prim.Native.Nat.{suc, ◌-◌, min}
+use Prim.Native.Nat.{suc, min}
 use native.Mathlib.Omega.{arith}
 use Rattle.formulas.proofs.finite_curve.Goals as goal
 

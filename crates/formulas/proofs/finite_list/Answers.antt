@@ -1,12 +1,9 @@
 use lib.Ieee.Scale.{finite}
 use Rattle.formulas.proofs.Finite.{none, more, stop}
 use Rattle.formulas.specs.Numbers.{all_finite}
-use borrow.Author.Tests.{not-true, not-false}
 use lib.ListN.{length, get_or}
 use lib.Ieee.{nan}
-use mathlib.Core.Bool.{true}
 use mathlib.Core.Path.{◌≡◌, sym, ap, ◌∙◌}
-use Prim.Native.Nat.{◌-◌}
 use native.Mathlib.Omega.{arith}
 use Rattle.formulas.proofs.finite_list.Goals as goal
 

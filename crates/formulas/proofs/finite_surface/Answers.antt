@@ -3,10 +3,8 @@ use Rattle.formulas.proofs.Finite.{none, more, stop, surface-finite, counted}
 use Rattle.formulas.specs.Numbers.{curve_numbers, all_finite}
 use Rattle.calculus.specs.Graded.{triangle}
 use Rattle.calculus.proofs.Graded.{room-231}
-use borrow.Author.Tests.{not-true, not-false}
-use mathlib.Core.Bool.{true}
 use mathlib.Core.Path.{◌≡◌, sym, ap, ◌∙◌}
-use Prim.Native.Nat.{ℕ, suc, ◌-◌, ◌≤◌, min}
+use Prim.Native.Nat.{ℕ, suc, ◌≤◌, min}
 use native.Mathlib.Omega.{arith}
 use Rattle.formulas.proofs.finite_surface.Goals as goal
 

@@ -1,5 +1,4 @@
 use mathlib.Core.Path.{◌∙◌}
-use Prim.Native.Nat.{◌-◌}
 use native.Mathlib.Omega.{arith}
 use Rattle.capi_roads.specs.Recipes.{size_of}
 use Rattle.capi_roads.proofs.RecipeLists.{below-20, sized, too_few, enough, all-counted, total-none}

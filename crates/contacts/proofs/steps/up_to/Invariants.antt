@@ -3,7 +3,7 @@ use mathlib.Core.Path.{◌≡◌}
 use Prim.Native.Nat.{◌-◌, ◌≤◌}
 use Rattle.formulas.specs.Numbers.{curve_numbers}
 use Rattle.vector_formulas.specs.Vector.{vector_numbers, vector_surface_numbers}
-use Rattle.contacts.specs.Center.{edge, after}
+use Rattle.contacts.specs.Center.{after}
 use Rattle.contacts.proofs.steps.up_to.Given as goal
 
 abbrev pub invariant-loop-m : goal.invariant-loop-m

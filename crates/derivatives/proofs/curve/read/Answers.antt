@@ -6,7 +6,7 @@ use Rattle.ieee_vectors.specs.Vectors.{positive_zero}
 use Rattle.calculus.proofs.LoopFilling.{curve-none, curve-more, curve-all}
 use lib.Ieee.{nan}
 use mathlib.Core.Path.{◌≡◌, refl, sym, ap}
-use Prim.Native.Nat.{suc, ◌-◌}
+use Prim.Native.Nat.{suc}
 use native.Mathlib.Omega.{arith}
 use Rattle.derivatives.proofs.curve.read.Goals as goal
 

@@ -1,7 +1,6 @@
 use native.Mathlib.Nat.{not-suc-le-zero}
 use Rattle.derivatives.proofs.Curves.{written-more, written_all}
 use mathlib.Core.Path.{sym, ◌∙◌}
-use Prim.Native.Nat.{◌-◌}
 use native.Mathlib.Omega.{arith}
 use Rattle.derivatives.proofs.curve.write.Goals as goal
 

@@ -3,7 +3,7 @@ use Rattle.ieee_vectors.specs.Vectors.{positive_zero}
 use Rattle.calculus.proofs.LoopFilling.{curve-none, curve-more, curve-all}
 use lib.Ieee.{nan}
 use mathlib.Core.Path.{◌≡◌, refl, sym}
-use Prim.Native.Nat.{suc, ◌-◌}
+use Prim.Native.Nat.{suc}
 use native.Mathlib.Omega.{arith}
 use Rattle.derivatives.proofs.parameter.read.Goals as goal
 

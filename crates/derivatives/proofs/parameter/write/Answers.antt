@@ -5,7 +5,7 @@ use Rattle.calculus.specs.Order.{pairs}
 use Rattle.formulas.specs.Numbers.{curve_numbers}
 use lib.ListN.{length-set}
 use mathlib.Core.Path.{sym, ◌∙◌}
-use Prim.Native.Nat.{suc, ◌-◌}
+use Prim.Native.Nat.{suc}
 use native.Mathlib.Omega.{arith}
 use Rattle.derivatives.proofs.parameter.write.Goals as goal
 

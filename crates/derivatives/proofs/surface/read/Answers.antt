@@ -6,7 +6,7 @@ use lib.ListN.{get_or}
 use lib.Ieee.{nan}
 use Rattle.formulas.proofs.Surfaces.{surface-begins, surface-goes-on, surface-turns, surface-ends}
 use mathlib.Core.Path.{refl, sym, ap}
-use Prim.Native.Nat.{ℕ, ◌-◌}
+use Prim.Native.Nat.{ℕ}
 use native.Mathlib.Omega.{arith}
 use Rattle.derivatives.proofs.surface.read.Goals as goal
 
@@ -44,21 +44,19 @@ pub loop-i-smaller-then-n-i : goal.loop-i-smaller-then-n-i
 loop-i-smaller-then-n-i c = omega (arith, c.loop-i.invariant.0.1.inside.1 c.loop-i-test.true)
 
 pub loop-i-preserved-then-n-i : goal.loop-i-preserved-then-n-i
-loop-i-preserved-then-n-i c =
-    (
-      (c.loop-i.invariant.0.0, rw c.index-k.ensures (surface-turns (λ x y. get_or c.args.list.now (list_place c.args.n x y) nan) c.loop-i.invariant.0.0 c.loop-i.invariant.0.1 c.loop-i-test.true (ap (λ (k : ℕ). get_or c.args.list.now k nan) (sym c.loop-i.invariant.1)) c.if-n-i.true)),
-      omega (arith, row-turn c.args.n c.loop-i.i, c.loop-i.invariant.1, c.loop-i.invariant.0.1.inside.1 c.loop-i-test.true),
-    )
+loop-i-preserved-then-n-i c = (
+  (c.loop-i.invariant.0.0, rw c.index-k.ensures (surface-turns (λ x y. get_or c.args.list.now (list_place c.args.n x y) nan) c.loop-i.invariant.0.0 c.loop-i.invariant.0.1 c.loop-i-test.true (ap (λ (k : ℕ). get_or c.args.list.now k nan) (sym c.loop-i.invariant.1)) c.if-n-i.true)),
+  omega (arith, row-turn c.args.n c.loop-i.i, c.loop-i.invariant.1, c.loop-i.invariant.0.1.inside.1 c.loop-i-test.true),
+)
 
 pub loop-i-smaller : goal.loop-i-smaller
 loop-i-smaller c = omega (arith, c.loop-i.invariant.0.1.inside.1 c.loop-i-test.true)
 
 pub loop-i-preserved : goal.loop-i-preserved
-loop-i-preserved c =
-    (
-      (c.loop-i.invariant.0.0, rw c.index-k.ensures (surface-goes-on (λ x y. get_or c.args.list.now (list_place c.args.n x y) nan) c.loop-i.invariant.0.0 c.loop-i.invariant.0.1 c.loop-i-test.true (ap (λ (k : ℕ). get_or c.args.list.now k nan) (sym c.loop-i.invariant.1)) c.if-n-i.false)),
-      omega (arith, c.loop-i.invariant.1),
-    )
+loop-i-preserved c = (
+  (c.loop-i.invariant.0.0, rw c.index-k.ensures (surface-goes-on (λ x y. get_or c.args.list.now (list_place c.args.n x y) nan) c.loop-i.invariant.0.0 c.loop-i.invariant.0.1 c.loop-i-test.true (ap (λ (k : ℕ). get_or c.args.list.now k nan) (sym c.loop-i.invariant.1)) c.if-n-i.false)),
+  omega (arith, c.loop-i.invariant.1),
+)
 
 pub returns : goal.returns
 returns c = ap (made_surface c.args.n) (surface-ends (λ x y. get_or c.args.list.now (list_place c.args.n x y) nan) c.loop-i.invariant.0.0 c.loop-i.invariant.0.1 c.loop-i-test.false)

@@ -5,7 +5,7 @@ use Rattle.calculus.specs.Order.{surface_entries}
 use lib.ListN.{length}
 use Rattle.formulas.specs.Numbers.{surface_numbers}
 use mathlib.Core.Path.{◌≡◌, sym, ap, ◌∙◌}
-use Prim.Native.Nat.{suc, ◌+◌, ◌-◌, ◌<◌}
+use Prim.Native.Nat.{suc, ◌+◌, ◌<◌}
 use native.Mathlib.Omega.{arith}
 use Rattle.derivatives.proofs.surface.write.Goals as goal
 

@@ -1,5 +1,4 @@
 use mathlib.Core.Path.{refl}
-use Prim.Native.Nat.{◌-◌}
 use borrow.Author.Rules.{rules}
 use Rattle.exact_formulas.specs.Entries.{curve_numbers, curve_values}
 use Rattle.exact_formulas.proofs.Progress.{curve-begins, curve-goes-on}

@@ -7,7 +7,6 @@ use Rattle.calculus.specs.Kind.{regular}
 use Rattle.formulas.specs.Real.{real}
 use Rattle.formulas.specs.Numbers.{surface_numbers}
 use Rattle.float_carry.proofs.Carries.{terms, through}
-use Prim.Native.Nat.{◌-◌}
 use native.Mathlib.Omega.{arith}
 use Rattle.float_carry.proofs.floats.derivative.Goals as goal
 

@@ -3,7 +3,7 @@ use Rattle.calculus.specs.Array.{curve_array}
 use Rattle.ieee_vectors.specs.Vectors.{positive_zero}
 use Rattle.formulas.proofs.Curves.{numbers-none, numbers_more, numbers-all}
 use Rattle.float_carry.proofs.Carries.{carried_jet}
-use Prim.Native.Nat.{suc, ◌-◌}
+use Prim.Native.Nat.{suc}
 use native.Mathlib.Omega.{arith}
 use Rattle.float_carry.proofs.floats.derivatives.Goals as goal
 

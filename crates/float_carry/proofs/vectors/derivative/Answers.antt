@@ -5,7 +5,6 @@ use Rattle.calculus.specs.InTurn.{along_list}
 use Rattle.calculus.specs.Carry.{through_len}
 use Rattle.vector_formulas.specs.Vector.{vectors, vector_surface_numbers}
 use Rattle.float_carry.proofs.Carries.{terms, through}
-use Prim.Native.Nat.{◌-◌}
 use native.Mathlib.Omega.{arith}
 use Rattle.float_carry.proofs.vectors.derivative.Goals as goal
 

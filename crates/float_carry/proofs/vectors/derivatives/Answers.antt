@@ -2,7 +2,6 @@ use mathlib.Core.Path.{sym, ap, ◌∙◌}
 use Rattle.vector_formulas.specs.Vector.{vector_array}
 use Rattle.vector_formulas.proofs.Vectors.{vectors-none, vectors-long, vectors-stored, vectors-all, stored-put}
 use Rattle.float_carry.proofs.Carries.{carried_vectors}
-use Prim.Native.Nat.{◌-◌}
 use native.Mathlib.Omega.{arith}
 use Rattle.float_carry.proofs.vectors.derivatives.Goals as goal
 

@@ -1,7 +1,7 @@
 use Rattle.formulas.proofs.Curves.{numbers-none, numbers_more, numbers-all, curve_of, curve-formed}
 use Rattle.formulas.specs.Numbers.{curve_numbers}
 use mathlib.Core.Path.{sym, ◌∙◌}
-use Prim.Native.Nat.{suc, ◌-◌}
+use Prim.Native.Nat.{suc}
 use native.Mathlib.Omega.{arith}
 use Rattle.formulas.proofs.curve_entries.entries.Goals as goal
 

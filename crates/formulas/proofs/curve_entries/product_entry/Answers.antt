@@ -7,7 +7,7 @@ use Rattle.calculus.specs.InTurn.{in_turn}
 use Rattle.calculus.specs.Kind.{regular}
 use native.Mathlib.Numerals.{add-one}
 use mathlib.Core.Path.{◌≡◌, refl, ap, ◌∙◌}
-use Prim.Native.Nat.{suc, ◌-◌}
+use Prim.Native.Nat.{suc}
 use native.Mathlib.Omega.{arith}
 use Rattle.formulas.proofs.curve_entries.product_entry.Goals as goal
 

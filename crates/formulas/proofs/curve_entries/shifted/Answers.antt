@@ -3,7 +3,7 @@ use Rattle.formulas.specs.Numbers.{curve_numbers}
 use Rattle.calculus.specs.Curve.{derivative}
 use native.Mathlib.Numerals.{add-one}
 use mathlib.Core.Path.{sym, ap}
-use Prim.Native.Nat.{suc, ◌-◌}
+use Prim.Native.Nat.{suc}
 use native.Mathlib.Omega.{arith}
 use Rattle.formulas.proofs.curve_entries.shifted.Goals as goal
 

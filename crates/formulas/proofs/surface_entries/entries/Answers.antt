@@ -2,7 +2,6 @@ use Rattle.formulas.proofs.Surfaces.{surface-begins, surface-goes-on, surface-tu
 use Rattle.calculus.proofs.Graded.{index-231}
 use Rattle.formulas.specs.Numbers.{surface_numbers}
 use mathlib.Core.Path.{sym, ◌∙◌}
-use Prim.Native.Nat.{◌-◌}
 use native.Mathlib.Omega.{arith}
 use Rattle.formulas.proofs.surface_entries.entries.Goals as goal
 

@@ -7,7 +7,7 @@ use Rattle.ieee_vectors.specs.Vectors.{positive_zero}
 use Rattle.formulas.specs.Real.{real}
 use Rattle.formulas.specs.Numbers.{surface_numbers}
 use mathlib.Core.Path.{◌≡◌, refl, ap, ◌∙◌}
-use Prim.Native.Nat.{ℕ, suc, ◌-◌}
+use Prim.Native.Nat.{ℕ, suc}
 use native.Mathlib.Omega.{arith}
 use Rattle.formulas.proofs.surface_entries.product_entry.Goals as goal
 

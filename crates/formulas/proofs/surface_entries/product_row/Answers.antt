@@ -6,7 +6,7 @@ use native.Mathlib.Numerals.{add-one}
 use Rattle.formulas.specs.Real.{real}
 use Rattle.formulas.specs.Numbers.{surface_numbers}
 use mathlib.Core.Path.{◌≡◌, refl, ap, ◌∙◌}
-use Prim.Native.Nat.{suc, ◌-◌}
+use Prim.Native.Nat.{suc}
 use native.Mathlib.Omega.{arith}
 use Rattle.formulas.proofs.surface_entries.product_row.Goals as goal
 

@@ -11,7 +11,7 @@ use Rattle.formulas.specs.Real.{real}
 use Rattle.formulas.specs.Numbers.{surface_numbers}
 use Rattle.calculus.specs.Graded.{index}
 use mathlib.Core.Path.{◌≡◌, refl, ap, ap₂, ◌∙◌}
-use Prim.Native.Nat.{ℕ, suc, ◌-◌}
+use Prim.Native.Nat.{ℕ, suc}
 use native.Mathlib.Omega.{arith}
 use Rattle.formulas.proofs.surface_entries.rational_entry.Goals as goal
 

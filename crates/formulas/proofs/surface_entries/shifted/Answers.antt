@@ -4,7 +4,7 @@ use lib.Ieee.{nan}
 use Rattle.formulas.proofs.Surfaces.{surface-begins, surface-goes-on, surface-turns, surface-ends}
 use Rattle.calculus.proofs.Graded.{index-231}
 use mathlib.Core.Path.{sym, ap}
-use Prim.Native.Nat.{ℕ, ◌+◌, ◌-◌, ◌≤◌}
+use Prim.Native.Nat.{ℕ, ◌+◌, ◌≤◌}
 use native.Mathlib.Omega.{arith}
 use Rattle.formulas.proofs.surface_entries.shifted.Goals as goal
 

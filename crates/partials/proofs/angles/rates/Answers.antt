@@ -3,7 +3,7 @@ use Rattle.formulas.specs.Numbers.{curve_numbers}
 use Rattle.partials.specs.AxisAngle.{rates}
 use Rattle.partials.proofs.Turning.{rate-formed}
 use native.Mathlib.Omega.{arith}
-use Prim.Native.Nat.{suc, ◌-◌}
+use Prim.Native.Nat.{suc}
 use mathlib.Core.Path.{sym, ◌∙◌}
 use Rattle.partials.proofs.angles.rates.Goals as goal
 

@@ -3,7 +3,6 @@ use Rattle.formulas.specs.Numbers.{curve_numbers}
 use Rattle.partials.specs.AxisAngle.{turns}
 use Rattle.partials.proofs.Turning.{turn-formed}
 use native.Mathlib.Omega.{arith}
-use Prim.Native.Nat.{◌-◌}
 use mathlib.Core.Path.{sym, ◌∙◌}
 use Rattle.partials.proofs.angles.turns.Goals as goal
 

@@ -3,7 +3,7 @@ use Rattle.formulas.specs.Numbers.{curve_numbers}
 use native.Mathlib.Numerals.{add-one}
 use Rattle.partials.specs.AxisAngle.{angles}
 use native.Mathlib.Omega.{arith}
-use Prim.Native.Nat.{suc, ◌-◌}
+use Prim.Native.Nat.{suc}
 use mathlib.Core.Path.{refl, ap}
 use Rattle.partials.proofs.angles.with_angle.Goals as goal
 

@@ -5,7 +5,6 @@ use native.Mathlib.Numerals.{add-one}
 use Rattle.rodrigues.specs.Rotation.{zeros}
 use Rattle.partials.specs.Partials.{one_term}
 use native.Mathlib.Omega.{arith}
-use Prim.Native.Nat.{◌-◌}
 use mathlib.Core.Path.{◌≡◌, ap, ◌∙◌}
 use Rattle.partials.proofs.rotations.one_terms.Goals as goal
 

@@ -4,7 +4,6 @@ use Rattle.calculus.proofs.LoopTerms.{one_more}
 use native.Mathlib.Numerals.{add-one}
 use Rattle.partials.specs.Partials.{two_term}
 use native.Mathlib.Omega.{arith}
-use Prim.Native.Nat.{◌-◌}
 use mathlib.Core.Path.{◌≡◌, refl, ap, ◌∙◌}
 use Rattle.partials.proofs.rotations.row.Goals as goal
 

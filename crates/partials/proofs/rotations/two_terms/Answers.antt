@@ -5,7 +5,7 @@ use native.Mathlib.Numerals.{add-one}
 use Rattle.rodrigues.specs.Rotation.{zeros}
 use Rattle.partials.specs.Partials.{two_term}
 use native.Mathlib.Omega.{arith}
-use Prim.Native.Nat.{ℕ, ◌-◌}
+use Prim.Native.Nat.{ℕ}
 use mathlib.Core.Path.{◌≡◌, ap, ◌∙◌}
 use Rattle.partials.proofs.rotations.two_terms.Goals as goal
 

@@ -2,7 +2,6 @@
 use mathlib.Core.Path.{◌≡◌, sym, ◌∙◌}
 use mathlib.Core.Bool.{true, false}
 use lib.ListN.{take}
-use borrow.Author.Tests.{not-true, not-false}
 use Rattle.calculus.specs.Orders.{some_above20}
 use Rattle.roads.specs.Recipe.{well_formed}
 use Rattle.roads.specs.Roads.{surface_steps}

@@ -1,5 +1,4 @@
 use mathlib.Core.Path.{refl}
-use Prim.Native.Nat.{◌-◌}
 use Rattle.roads.specs.Roads.{curve_steps}
 use Rattle.roads.proofs.Working.{cut-begins, cut-goes-on, cut-ends}
 use Rattle.roads.proofs.curves.cut.Goals as goal

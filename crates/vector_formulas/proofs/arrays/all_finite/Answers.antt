@@ -1,9 +1,6 @@
 use Rattle.formulas.proofs.Finite.{none, more, stop}
 use Rattle.vector_formulas.specs.Vector.{vector_numbers, all_vectors_finite}
 use Rattle.ieee_vectors.specs.Finite.{finite_vector}
-use borrow.Author.Tests.{not-true, not-false}
-use mathlib.Core.Bool.{true}
-use Prim.Native.Nat.{◌-◌}
 use native.Mathlib.Omega.{arith}
 use mathlib.Core.Path.{◌≡◌, sym, ap, ◌∙◌}
 use Rattle.vector_formulas.proofs.arrays.all_finite.Goals as goal

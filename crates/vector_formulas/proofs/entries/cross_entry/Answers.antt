@@ -4,7 +4,7 @@ use native.Mathlib.Numerals.{add-one}
 use Rattle.vector_formulas.specs.Vector.{origin, vectors, vector_numbers}
 use Rattle.calculus.specs.Curve.{leibniz}
 use Rattle.ieee_vectors.specs.Vectors.{cross}
-use Prim.Native.Nat.{suc, ◌-◌}
+use Prim.Native.Nat.{suc}
 use native.Mathlib.Omega.{arith}
 use mathlib.Core.Path.{◌≡◌, ap, ◌∙◌}
 use Rattle.vector_formulas.proofs.entries.cross_entry.Goals as goal

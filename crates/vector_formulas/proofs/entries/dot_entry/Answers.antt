@@ -6,7 +6,7 @@ use Rattle.ieee_vectors.specs.Vectors.{positive_zero, dot}
 use Rattle.formulas.specs.Real.{real}
 use Rattle.calculus.specs.Kind.{regular}
 use Rattle.calculus.specs.Curve.{leibniz}
-use Prim.Native.Nat.{suc, ◌-◌}
+use Prim.Native.Nat.{suc}
 use native.Mathlib.Omega.{arith}
 use mathlib.Core.Path.{◌≡◌, refl, ap, ◌∙◌}
 use Rattle.vector_formulas.proofs.entries.dot_entry.Goals as goal

@@ -2,7 +2,6 @@ use Rattle.vector_formulas.proofs.Vectors.{vectors-none, vectors-long, vectors-s
 use Rattle.vector_formulas.proofs.VectorCurves.{vectors_of, vectors-formed}
 use Rattle.vector_formulas.specs.Vector.{vector_numbers}
 use Rattle.formulas.specs.Numbers.{curve_numbers}
-use Prim.Native.Nat.{◌-◌}
 use mathlib.Core.Path.{sym, ◌∙◌}
 use native.Mathlib.Omega.{arith}
 use Rattle.vector_formulas.proofs.entries.entries.Goals as goal

@@ -1,6 +1,6 @@
 use Rattle.vector_formulas.proofs.Vectors.{vectors-none, vectors-long, vectors-stored, vectors-all}
 use Rattle.vector_formulas.specs.Vector.{vector_numbers}
-use Prim.Native.Nat.{◌+◌, ◌-◌}
+use Prim.Native.Nat.{◌+◌}
 use mathlib.Core.Path.{sym}
 use native.Mathlib.Omega.{arith}
 use Rattle.vector_formulas.proofs.entries.entries_from.Goals as goal

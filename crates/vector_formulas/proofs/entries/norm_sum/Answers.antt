@@ -7,7 +7,7 @@ use Rattle.ieee_vectors.specs.Vectors.{positive_zero, dot}
 use Rattle.formulas.specs.Real.{real}
 use Rattle.calculus.specs.Norm.{norm_term}
 use Rattle.ieee.specs.SquareRoot.{square_root}
-use Prim.Native.Nat.{suc, ◌-◌}
+use Prim.Native.Nat.{suc}
 use native.Mathlib.Omega.{arith}
 use mathlib.Core.Path.{◌≡◌, refl, ap, ◌∙◌}
 use Rattle.vector_formulas.proofs.entries.norm_sum.Goals as goal

@@ -1,7 +1,7 @@
 use Rattle.formulas.proofs.Curves.{numbers-none, numbers_more, numbers-all}
 use Rattle.vector_formulas.proofs.VectorCurves.{numbers_of, numbers-formed}
 use Rattle.vector_formulas.specs.Vector.{vector_numbers}
-use Prim.Native.Nat.{suc, ◌-◌}
+use Prim.Native.Nat.{suc}
 use native.Mathlib.Omega.{arith}
 use mathlib.Core.Path.{sym, ◌∙◌}
 use Rattle.vector_formulas.proofs.entries.numbers.Goals as goal

@@ -5,7 +5,7 @@ use Rattle.formulas.specs.Numbers.{curve_numbers}
 use Rattle.vector_formulas.specs.Vector.{origin, vectors, vector_numbers}
 use Rattle.calculus.specs.Curve.{leibniz}
 use Rattle.ieee_vectors.specs.Vectors.{multiple}
-use Prim.Native.Nat.{suc, ◌-◌}
+use Prim.Native.Nat.{suc}
 use native.Mathlib.Omega.{arith}
 use mathlib.Core.Path.{◌≡◌, ap, ◌∙◌}
 use Rattle.vector_formulas.proofs.entries.scaled_entry.Goals as goal

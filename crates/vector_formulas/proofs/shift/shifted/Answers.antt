@@ -2,7 +2,7 @@ use Rattle.vector_formulas.proofs.VectorSurfaces.{surface-begins, surface-long, 
 use Rattle.calculus.proofs.Graded.{index-231}
 use Rattle.vector_formulas.specs.Vector.{vector_surface_numbers}
 use mathlib.Core.Path.{sym}
-use Prim.Native.Nat.{◌+◌, ◌-◌, ◌≤◌}
+use Prim.Native.Nat.{◌+◌, ◌≤◌}
 use native.Mathlib.Omega.{arith}
 use Rattle.vector_formulas.proofs.shift.shifted.Goals as goal
 

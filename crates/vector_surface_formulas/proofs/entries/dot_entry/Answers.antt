@@ -7,7 +7,7 @@ use Rattle.formulas.specs.Real.{real}
 use Rattle.calculus.specs.Kind.{regular}
 use native.Mathlib.Numerals.{add-one}
 use mathlib.Core.Path.{◌≡◌, refl, ap, ◌∙◌}
-use Prim.Native.Nat.{ℕ, suc, ◌-◌}
+use Prim.Native.Nat.{ℕ, suc}
 use native.Mathlib.Omega.{arith}
 use Rattle.vector_surface_formulas.proofs.entries.dot_entry.Goals as goal
 

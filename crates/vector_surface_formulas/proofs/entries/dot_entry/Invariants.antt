@@ -2,7 +2,7 @@
 use Rattle.calculus.specs.InTurn.{in_rows}
 use Rattle.calculus.specs.Surface.{leibniz}
 use Rattle.vector_formulas.specs.Vector.{vector_surface_numbers}
-use Rattle.ieee_vectors.specs.Vectors.{positive_zero, sum, dot}
+use Rattle.ieee_vectors.specs.Vectors.{positive_zero, dot}
 use Rattle.formulas.specs.Real.{real}
 use Rattle.calculus.specs.Kind.{regular}
 use mathlib.Core.Path.{◌≡◌}

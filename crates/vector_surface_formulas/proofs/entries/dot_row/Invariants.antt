@@ -3,7 +3,7 @@ use Rattle.calculus.specs.InTurn.{in_turn}
 use Rattle.calculus.specs.Surface.{leibniz}
 use Rattle.vector_formulas.specs.Vector.{vector_surface_numbers}
 use Rattle.formulas.specs.Real.{real}
-use Rattle.ieee_vectors.specs.Vectors.{sum, dot}
+use Rattle.ieee_vectors.specs.Vectors.{dot}
 use Rattle.calculus.specs.Kind.{regular}
 use mathlib.Core.Path.{◌≡◌}
 use Prim.Native.Nat.{suc, ◌-◌, ◌≤◌}

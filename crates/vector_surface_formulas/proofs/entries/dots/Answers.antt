@@ -6,7 +6,6 @@ use Rattle.formulas.specs.Real.{real}
 use Rattle.ieee_vectors.specs.Vectors.{dot}
 use Rattle.calculus.specs.Kind.{regular}
 use mathlib.Core.Path.{sym}
-use Prim.Native.Nat.{◌-◌}
 use native.Mathlib.Omega.{arith}
 use Rattle.vector_surface_formulas.proofs.entries.dots.Goals as goal
 

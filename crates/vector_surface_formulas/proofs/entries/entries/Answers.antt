@@ -4,7 +4,6 @@ use Rattle.calculus.proofs.Graded.{index-231}
 use Rattle.vector_formulas.specs.Vector.{vector_surface_numbers}
 use Rattle.formulas.specs.Numbers.{surface_numbers}
 use mathlib.Core.Path.{sym, ◌∙◌}
-use Prim.Native.Nat.{◌-◌}
 use native.Mathlib.Omega.{arith}
 use Rattle.vector_surface_formulas.proofs.entries.entries.Goals as goal
 

@@ -5,7 +5,7 @@ use Rattle.formulas.specs.Numbers.{surface_numbers}
 use Rattle.vector_surface_formulas.specs.Inner.{term_by}
 use native.Mathlib.Numerals.{add-one}
 use mathlib.Core.Path.{◌≡◌, ap, ◌∙◌}
-use Prim.Native.Nat.{ℕ, suc, ◌-◌}
+use Prim.Native.Nat.{ℕ, suc}
 use native.Mathlib.Omega.{arith}
 use Rattle.vector_surface_formulas.proofs.entries.sum_of_terms.Goals as goal
 

@@ -4,7 +4,6 @@ use Rattle.calculus.proofs.Graded.{index-231}
 use Rattle.vector_formulas.specs.Vector.{vector_surface_numbers}
 use Rattle.vector_surface_formulas.specs.Formulas.{vector_surface_norm}
 use mathlib.Core.Path.{sym, ◌∙◌}
-use Prim.Native.Nat.{◌-◌}
 use native.Mathlib.Omega.{arith}
 use Rattle.vector_surface_formulas.proofs.norms.norms.Goals as goal
 

@@ -5,7 +5,7 @@ use Rattle.calculus.specs.InTurn.{in_rows}
 use Rattle.calculus.proofs.LoopTerms.{one-row-more}
 use native.Mathlib.Numerals.{add-one}
 use mathlib.Core.Path.{◌≡◌, refl, ap, ◌∙◌}
-use Prim.Native.Nat.{ℕ, suc, ◌-◌}
+use Prim.Native.Nat.{ℕ, suc}
 use native.Mathlib.Omega.{arith}
 use Rattle.vector_surface_formulas.proofs.norms.others.Goals as goal
 

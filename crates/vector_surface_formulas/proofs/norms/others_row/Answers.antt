@@ -4,7 +4,7 @@ use Rattle.calculus.specs.InTurn.{in_turn}
 use Rattle.calculus.proofs.LoopTerms.{one_more}
 use native.Mathlib.Numerals.{add-one}
 use mathlib.Core.Path.{◌≡◌, refl, ap, ◌∙◌}
-use Prim.Native.Nat.{suc, ◌-◌}
+use Prim.Native.Nat.{suc}
 use native.Mathlib.Omega.{arith}
 use Rattle.vector_surface_formulas.proofs.norms.others_row.Goals as goal
 
