@@ -1,7 +1,7 @@
 use Rattle.formulas.proofs.Curves.{numbers-none, numbers_more, numbers-all}
 use Rattle.formulas.specs.Numbers.{curve_numbers}
 use native.Mathlib.Omega.{arith}
-use Prim.Native.Nat.{suc, ◌-◌}
+use Prim.Native.Nat.{suc}
 use mathlib.Core.Path.{refl}
 use Rattle.rolling_ball_fillet.proofs.jets.cut_numbers.Goals as goal
 

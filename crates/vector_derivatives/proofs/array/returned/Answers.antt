@@ -1,7 +1,6 @@
 -- `vector_derivatives::array::returned` meets its contract. Assumes nothing.
 use Rattle.booleans.proofs.Tests.{first, second}
 use Rattle.vector_derivatives.specs.Names.{made_vector_curve, refused_vector_curve}
-use borrow.Author.Tests.{not-true, not-false}
 use mathlib.Core.Path.{sym, ◌∙◌}
 use Rattle.vector_derivatives.proofs.array.returned.Goals as goal
 

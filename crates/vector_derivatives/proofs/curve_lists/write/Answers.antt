@@ -2,7 +2,7 @@ use Rattle.derivatives.proofs.Curves.{written-more, written_all}
 use Rattle.vector_formulas.proofs.Vectors.{flat-listed}
 use Rattle.formulas.specs.Numbers.{curve_numbers}
 use native.Mathlib.Nat.{not-suc-le-zero}
-use Prim.Native.Nat.{suc, ◌-◌}
+use Prim.Native.Nat.{suc}
 use native.Mathlib.Omega.{arith}
 use mathlib.Core.Path.{sym, ◌∙◌}
 use Rattle.vector_derivatives.proofs.curve_lists.write.Goals as goal

@@ -1,7 +1,6 @@
 -- `vector_derivatives::surface::returned` meets its contract. Assumes nothing.
 use Rattle.booleans.proofs.Tests.{first, second}
 use Rattle.vector_derivatives.specs.Names.{made_vector_surface, refused_vector_surface}
-use borrow.Author.Tests.{not-true, not-false}
 use mathlib.Core.Path.{sym, ◌∙◌}
 use Rattle.vector_derivatives.proofs.surface.returned.Goals as goal
 

@@ -4,7 +4,6 @@ use Rattle.calculus.proofs.LoopPlaces.{row-turn, list-place}
 use Rattle.calculus.specs.Order.{row_start, list_place}
 use Rattle.vector_formulas.specs.Vector.{vector_numbers}
 use mathlib.Core.Path.{refl, sym, ap, ◌∙◌}
-use Prim.Native.Nat.{◌-◌}
 use native.Mathlib.Omega.{arith}
 use Rattle.vector_derivatives.proofs.surface_lists.read.Goals as goal
 

@@ -10,7 +10,7 @@ use Rattle.ieee_vectors.specs.declared.Vector3.{Vector3}
 use lib.ListN.{length}
 use mathlib.Core.List.{◌∷◌}
 use mathlib.Core.Path.{◌≡◌, sym, ap, ◌∙◌}
-use Prim.Native.Nat.{ℕ, suc, ◌+◌, ◌-◌, ◌*◌, ◌<◌}
+use Prim.Native.Nat.{ℕ, suc, ◌+◌, ◌*◌, ◌<◌}
 use native.Mathlib.Omega.{arith}
 use Rattle.vector_derivatives.proofs.surface_lists.write.Goals as goal
 
