@@ -1,5 +1,4 @@
 use mathlib.Core.Path.{refl, ◌∙◌, ap, ap₂, sym}
-use Prim.Native.Nat.{◌-◌}
 use native.Mathlib.Omega.{arith}
 use lib.Seq.{take_all}
 use Rattle.parts_text.specs.Reading.{fed, step}
