@@ -129,27 +129,27 @@ static void partial_of_the_fillet(void) {
     }
 }
 
-/* With what the header says that a family takes at most. */
+/* With what the header says that a family takes at most: of the archives as the kit before built them, and as rattle-kit-13f does. */
 static const struct {
     const char *name;
     void (*calls)(void);
-    size_t said;
+    size_t before, said;
 } families[] = {
-    {"whole numbers", whole_numbers, 4000},
-    {"part lists", part_lists, 4000},
-    {"exact jets", exact_jets, 32000},
-    {"recipes", recipes, 102000},
-    {"roads", roads, 102000},
-    {"single floats, vectors, matrices", single_values, 4000},
-    {"jets of floats, curves", float_curves, 26000},
-    {"jets of floats, surfaces", float_surfaces, 26000},
-    {"jets of vectors, curves", vector_curves, 82000},
-    {"jets of vectors, surfaces", vector_surfaces, 82000},
-    {"rotations, circle", rotations, 4000},
-    {"centre and contacts", centre, 120000},
-    {"axis and angle", axis_and_angle, 22000},
-    {"partials of given jets", partial_of_jets, 22000},
-    {"partials of the fillet", partial_of_the_fillet, 130000},
+    {"whole numbers", whole_numbers, 4000, 4000},
+    {"part lists", part_lists, 4000, 4000},
+    {"exact jets", exact_jets, 24000, 32000},
+    {"recipes", recipes, 92000, 102000},
+    {"roads", roads, 92000, 102000},
+    {"single floats, vectors, matrices", single_values, 4000, 4000},
+    {"jets of floats, curves", float_curves, 22000, 26000},
+    {"jets of floats, surfaces", float_surfaces, 22000, 26000},
+    {"jets of vectors, curves", vector_curves, 70000, 82000},
+    {"jets of vectors, surfaces", vector_surfaces, 70000, 82000},
+    {"rotations, circle", rotations, 4000, 4000},
+    {"centre and contacts", centre, 120000, 120000},
+    {"axis and angle", axis_and_angle, 20000, 22000},
+    {"partials of given jets", partial_of_jets, 20000, 20000},
+    {"partials of the fillet", partial_of_the_fillet, 130000, 130000},
 };
 
 static size_t taken(void (*calls)(void)) {
@@ -189,7 +189,8 @@ int main(void) {
     size_t least = taken(nothing);
     for (size_t k = 0; k < sizeof families / sizeof *families; k++) {
         size_t bytes = taken(families[k].calls) - least;
-        printf("%-34s %7zu bytes%s\n", families[k].name, bytes, bytes > families[k].said ? ", more than the header says" : "");
+        printf("%-34s %7zu bytes%s\n", families[k].name, bytes,
+            bytes > families[k].said ? ", more than the header says" : bytes > families[k].before ? ", more than with the kit before" : "");
         failures |= bytes > families[k].said;
     }
     return failures;

@@ -23,9 +23,9 @@ TEST_TOOLS = "replay_"
 OF_THE_KIT = ["std", "core", "io", "libc"]
 
 ENTRIES = ["whole", "partitions", "exact", "roads", "vectors", "derivatives", "vector_derivatives", "rolling_ball_fillet", "parts_text"]
-ARCHIVED = ["capi_exact", "capi_roads", "capi_floats", "capi_vectors", "capi_fillet"]
+ARCHIVED = ["capi_exact", "capi_roads", "capi_floats", "capi_vectors", "capi_fillet", "bench_carry"]
 ARCHIVES = [f"{name}_c" for name in ARCHIVED]  # static libraries that say no more than these, so the page has no list of theirs
-BORDER = ARCHIVED + ["bench_carry"]
+BORDER = ARCHIVED
 ARITHMETIC = ["booleans", "calculus", "orders", "exact_formulas", "exact_carry", "ieee", "ieee_vectors", "formulas", "vector_formulas", "vector_surface_formulas", "float_carry",
               "rodrigues", "surface_info", "contacts", "partials"]
 BORDER_PARTS = ["given", "exact_lists", "float_lists", "fillet_lists"]  # what the crates of the border share

@@ -16,7 +16,7 @@ fn matrix(a: f64, b: f64, c: f64, d: f64, e: f64, f: f64, g: f64, h: f64, i: f64
     }
 }
 
-// typeof.c.I + s·[axis]× + k·axis axisᵀ.
+// c·I + s·[axis]× + k·axis axisᵀ.
 fn rodrigues(axis: Vector3, s: f64, c: f64, k: f64) -> Matrix3
     ensures { result ≡ matrix_of (rodrigues_by floats (three_of axis) s c k) }
 {
