@@ -2,10 +2,11 @@
 use crate::{exact_curves, exact_surfaces, part_lists, recipe_calls, whole_numbers};
 use booleans::both;
 use replay_text::{
-    SIZE_FILL, WHOLE_FILL, WORD_FILL, Words, call_met, first_sizes, first_wholes, first_words,
+    SIZE_FILL, WHOLE_FILL, WORD_FILL, call_met, first_sizes, first_wholes, first_words,
     next_size_lists, next_whole_lists, next_word, same_sizes, same_wholes, same_words, size_list,
     sizes_part, wholes_part, words_part,
 };
+use std::io::Read;
 
 fn call(
     op: u64,
@@ -23,7 +24,7 @@ fn call(
     }
 }
 
-fn wholes_case(input: &mut Words<'_>, op: u64, wanted: u64) -> bool {
+fn wholes_case(input: &mut impl Read, op: u64, wanted: u64) -> bool {
     let mut n = [0usize; 64];
     let mut n_ends = [0usize; 12];
     next_size_lists(input, &mut n, &mut n_ends);
@@ -44,7 +45,7 @@ fn wholes_case(input: &mut Words<'_>, op: u64, wanted: u64) -> bool {
 }
 
 // The walk is lent as it is given, and the list for the parts filled.
-fn walk_case(input: &mut Words<'_>, op: u64, wanted: u64) -> bool {
+fn walk_case(input: &mut impl Read, op: u64, wanted: u64) -> bool {
     let mut n = [0usize; 64];
     let mut n_ends = [0usize; 12];
     next_size_lists(input, &mut n, &mut n_ends);
@@ -68,7 +69,7 @@ fn walk_case(input: &mut Words<'_>, op: u64, wanted: u64) -> bool {
     call_met(wanted, refusal, same)
 }
 
-fn count_case(input: &mut Words<'_>, op: u64, wanted: u64) -> bool {
+fn count_case(input: &mut impl Read, op: u64, wanted: u64) -> bool {
     let mut n = [0usize; 64];
     let mut n_ends = [0usize; 12];
     next_size_lists(input, &mut n, &mut n_ends);
@@ -88,7 +89,7 @@ fn count_case(input: &mut Words<'_>, op: u64, wanted: u64) -> bool {
     )
 }
 
-pub fn next_case(input: &mut Words<'_>, op: u64) -> bool {
+pub fn next_case(input: &mut impl Read, op: u64) -> bool {
     let wanted = next_word(input);
     match op {
         0xa01..=0xa02 => walk_case(input, op, wanted),

@@ -1,10 +1,11 @@
 // The four operations of `whole` on pairs of numbers, most of them at an edge of a range, and on pairs of numbers and refusals. A case is 0 and two
 // numbers, or 1 and two operands, each a refusal and a number; then sum, difference, product and quotient (tools/whole_cases.py works them out).
 use booleans::both;
-use replay_text::{Words, checked_met, next_size, next_whole};
+use replay_text::{checked_met, next_size, next_whole};
+use std::io::Read;
 use whole::Whole;
 
-fn next_operand(input: &mut Words<'_>) -> Whole {
+fn next_operand(input: &mut impl Read) -> Whole {
     let refusal = next_size(input);
     let z = next_whole(input);
     match refusal {
@@ -14,7 +15,7 @@ fn next_operand(input: &mut Words<'_>) -> Whole {
 }
 
 fn all_met(
-    input: &mut Words<'_>,
+    input: &mut impl Read,
     sum: Whole,
     difference: Whole,
     product: Whole,
@@ -25,7 +26,7 @@ fn all_met(
     both(p, q)
 }
 
-fn on_numbers(input: &mut Words<'_>, a: i64, b: i64) -> bool {
+fn on_numbers(input: &mut impl Read, a: i64, b: i64) -> bool {
     all_met(
         input,
         whole::add(a, b),
@@ -35,7 +36,7 @@ fn on_numbers(input: &mut Words<'_>, a: i64, b: i64) -> bool {
     )
 }
 
-fn on_operands(input: &mut Words<'_>, x: Whole, y: Whole) -> bool {
+fn on_operands(input: &mut impl Read, x: Whole, y: Whole) -> bool {
     all_met(
         input,
         whole::plus(x, y),
@@ -45,7 +46,7 @@ fn on_operands(input: &mut Words<'_>, x: Whole, y: Whole) -> bool {
     )
 }
 
-pub fn next_case(input: &mut Words<'_>) -> bool {
+pub fn next_case(input: &mut impl Read) -> bool {
     if next_size(input) == 0 {
         let a = next_whole(input);
         let b = next_whole(input);

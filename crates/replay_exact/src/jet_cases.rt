@@ -7,10 +7,11 @@ use crate::recipes;
 use booleans::both;
 use exact::{CurveDerivatives, ParameterCurve, SurfaceDerivatives};
 use replay_text::{
-    Words, checked_met, first_wholes, next_size, next_wholes, refusal_met, wholes_met, wholes_part,
+    checked_met, first_wholes, next_size, next_wholes, refusal_met, wholes_met, wholes_part,
 };
+use std::io::Read;
 
-fn on_curves(input: &mut Words<'_>, operation: usize) -> bool {
+fn on_curves(input: &mut impl Read, operation: usize) -> bool {
     let a = next_curve(input);
     let b = next_curve(input);
     let m = next_size(input);
@@ -24,7 +25,7 @@ fn on_curves(input: &mut Words<'_>, operation: usize) -> bool {
     }
 }
 
-fn on_surfaces(input: &mut Words<'_>, operation: usize) -> bool {
+fn on_surfaces(input: &mut impl Read, operation: usize) -> bool {
     let a = next_surface(input);
     let b = next_surface(input);
     let m = next_size(input);
@@ -40,7 +41,7 @@ fn on_surfaces(input: &mut Words<'_>, operation: usize) -> bool {
     }
 }
 
-fn along(input: &mut Words<'_>) -> bool {
+fn along(input: &mut impl Read) -> bool {
     let a = next_surface(input);
     let c = next_parameter(input);
     let m = next_size(input);
@@ -50,7 +51,7 @@ fn along(input: &mut Words<'_>) -> bool {
     )
 }
 
-fn from_list(input: &mut Words<'_>, operation: usize) -> bool {
+fn from_list(input: &mut impl Read, operation: usize) -> bool {
     let order = next_size(input);
     let mut l = [0i64; 256];
     let n = next_wholes(input, &mut l);
@@ -62,7 +63,7 @@ fn from_list(input: &mut Words<'_>, operation: usize) -> bool {
     }
 }
 
-fn next_jet_into(input: &mut Words<'_>, operation: usize, out: &mut [i64]) -> u8 {
+fn next_jet_into(input: &mut impl Read, operation: usize, out: &mut [i64]) -> u8 {
     match operation {
         34 => next_curve(input).into_list(out),
         35 => next_surface(input).into_list(out),
@@ -71,7 +72,7 @@ fn next_jet_into(input: &mut Words<'_>, operation: usize, out: &mut [i64]) -> u8
 }
 
 // The list that is lent, as it stands before and after.
-fn into_list(input: &mut Words<'_>, operation: usize) -> bool {
+fn into_list(input: &mut impl Read, operation: usize) -> bool {
     let mut l = [0i64; 256];
     let n = next_wholes(input, &mut l);
     let out = first_wholes(&mut l, n);
@@ -79,7 +80,7 @@ fn into_list(input: &mut Words<'_>, operation: usize) -> bool {
     both(refusal_met(input, refusal), wholes_met(input, out))
 }
 
-pub fn next_case(input: &mut Words<'_>) -> bool {
+pub fn next_case(input: &mut impl Read) -> bool {
     let operation = next_size(input);
     match operation {
         1..=6 => on_curves(input, operation),

@@ -4,23 +4,24 @@ use exact::{
     CurveAnswer, CurveDerivatives, ParameterAnswer, ParameterCurve, SurfaceAnswer,
     SurfaceDerivatives,
 };
-use replay_text::{Words, answer_met, next_size, next_wholes, wholes_met};
+use replay_text::{answer_met, next_size, next_wholes, wholes_met};
+use std::io::Read;
 
-pub fn next_curve(input: &mut Words<'_>) -> CurveDerivatives {
+pub fn next_curve(input: &mut impl Read) -> CurveDerivatives {
     let order = next_size(input);
     let mut entries = [0i64; 21];
     next_wholes(input, &mut entries);
     CurveDerivatives { order, entries }
 }
 
-pub fn next_surface(input: &mut Words<'_>) -> SurfaceDerivatives {
+pub fn next_surface(input: &mut impl Read) -> SurfaceDerivatives {
     let order = next_size(input);
     let mut entries = [0i64; 231];
     next_wholes(input, &mut entries);
     SurfaceDerivatives { order, entries }
 }
 
-pub fn next_parameter(input: &mut Words<'_>) -> ParameterCurve {
+pub fn next_parameter(input: &mut impl Read) -> ParameterCurve {
     let order = next_size(input);
     let mut u = [0i64; 21];
     let mut v = [0i64; 21];
@@ -29,7 +30,7 @@ pub fn next_parameter(input: &mut Words<'_>) -> ParameterCurve {
     ParameterCurve { order, u, v }
 }
 
-pub fn curve_met(input: &mut Words<'_>, a: CurveAnswer) -> bool {
+pub fn curve_met(input: &mut impl Read, a: CurveAnswer) -> bool {
     let jet = a.jet;
     let entries = jet.entries;
     both(
@@ -38,7 +39,7 @@ pub fn curve_met(input: &mut Words<'_>, a: CurveAnswer) -> bool {
     )
 }
 
-pub fn surface_met(input: &mut Words<'_>, a: SurfaceAnswer) -> bool {
+pub fn surface_met(input: &mut impl Read, a: SurfaceAnswer) -> bool {
     let jet = a.jet;
     let entries = jet.entries;
     both(
@@ -47,7 +48,7 @@ pub fn surface_met(input: &mut Words<'_>, a: SurfaceAnswer) -> bool {
     )
 }
 
-pub fn parameter_met(input: &mut Words<'_>, a: ParameterAnswer) -> bool {
+pub fn parameter_met(input: &mut impl Read, a: ParameterAnswer) -> bool {
     let jet = a.jet;
     let u = jet.u;
     let v = jet.v;

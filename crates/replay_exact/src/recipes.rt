@@ -3,10 +3,11 @@
 use crate::jets::{curve_met, next_curve, next_parameter, next_surface};
 use booleans::both;
 use exact::{CurveDerivatives, SurfaceDerivatives};
-use replay_text::{Words, next_size};
+use replay_text::next_size;
 use roads::{CurveRecipe, Operation, Step, SurfaceRecipe};
+use std::io::Read;
 
-fn next_curves(input: &mut Words<'_>) -> [CurveDerivatives; 4] {
+fn next_curves(input: &mut impl Read) -> [CurveDerivatives; 4] {
     let n = next_size(input);
     let zeros = [0i64; 21];
     let blank = CurveDerivatives {
@@ -25,7 +26,7 @@ fn next_curves(input: &mut Words<'_>) -> [CurveDerivatives; 4] {
     jets
 }
 
-fn next_surfaces(input: &mut Words<'_>) -> [SurfaceDerivatives; 4] {
+fn next_surfaces(input: &mut impl Read) -> [SurfaceDerivatives; 4] {
     let n = next_size(input);
     let zeros = [0i64; 231];
     let blank = SurfaceDerivatives {
@@ -44,7 +45,7 @@ fn next_surfaces(input: &mut Words<'_>) -> [SurfaceDerivatives; 4] {
     jets
 }
 
-fn next_operation(input: &mut Words<'_>) -> Operation {
+fn next_operation(input: &mut impl Read) -> Operation {
     match next_size(input) {
         0 => Operation::Sum,
         1 => Operation::Difference,
@@ -53,7 +54,7 @@ fn next_operation(input: &mut Words<'_>) -> Operation {
     }
 }
 
-fn next_step(input: &mut Words<'_>) -> Step {
+fn next_step(input: &mut impl Read) -> Step {
     let operation = next_operation(input);
     let left = next_size(input);
     let right = next_size(input);
@@ -64,7 +65,7 @@ fn next_step(input: &mut Words<'_>) -> Step {
     }
 }
 
-fn next_program(input: &mut Words<'_>) -> [Step; 12] {
+fn next_program(input: &mut impl Read) -> [Step; 12] {
     let n = next_size(input);
     let none = Step {
         operation: Operation::Sum,
@@ -83,7 +84,7 @@ fn next_program(input: &mut Words<'_>) -> [Step; 12] {
     program
 }
 
-pub fn of_curves(input: &mut Words<'_>) -> bool {
+pub fn of_curves(input: &mut impl Read) -> bool {
     let inputs = next_size(input);
     let curves = next_curves(input);
     let steps = next_size(input);
@@ -97,7 +98,7 @@ pub fn of_curves(input: &mut Words<'_>) -> bool {
     curve_met(input, recipe.build())
 }
 
-pub fn both_roads(input: &mut Words<'_>) -> bool {
+pub fn both_roads(input: &mut impl Read) -> bool {
     let inputs = next_size(input);
     let surfaces = next_surfaces(input);
     let steps = next_size(input);

@@ -6,18 +6,18 @@ ghost use Rattle.partitions.specs.Walk.{stepped};
 use booleans::both;
 use partitions::{Composition, CompositionIter, Count, Stepped};
 use replay_text::{
-    Words, next_size, next_sizes, refusal_met, same_sizes, size_met, sizes_met, sizes_part,
-    word_met,
+    next_size, next_sizes, refusal_met, same_sizes, size_met, sizes_met, sizes_part, word_met,
 };
+use std::io::Read;
 
-fn flag_met(input: &mut Words<'_>, flag: bool) -> bool {
+fn flag_met(input: &mut impl Read, flag: bool) -> bool {
     if flag {
         return size_met(input, 1);
     }
     size_met(input, 0)
 }
 
-fn item_met(input: &mut Words<'_>, item: Composition) -> bool {
+fn item_met(input: &mut impl Read, item: Composition) -> bool {
     let parts = item.parts;
     let head = both(
         refusal_met(input, item.refusal),
@@ -26,7 +26,7 @@ fn item_met(input: &mut Words<'_>, item: Composition) -> bool {
     both(head, sizes_met(input, &parts))
 }
 
-fn record_met(input: &mut Words<'_>, walk: CompositionIter) -> bool {
+fn record_met(input: &mut impl Read, walk: CompositionIter) -> bool {
     let current = walk.current;
     let head = both(size_met(input, walk.order), size_met(input, walk.len));
     both(
@@ -35,11 +35,11 @@ fn record_met(input: &mut Words<'_>, walk: CompositionIter) -> bool {
     )
 }
 
-fn step_met(input: &mut Words<'_>, s: Stepped) -> bool {
+fn step_met(input: &mut impl Read, s: Stepped) -> bool {
     both(item_met(input, s.item), record_met(input, s.walk))
 }
 
-fn count_met(input: &mut Words<'_>, count: Count) -> bool {
+fn count_met(input: &mut impl Read, count: Count) -> bool {
     match count {
         Count::Value(n) => both(refusal_met(input, 0), word_met(input, n)),
         Count::Refused(c) => both(refusal_met(input, c), word_met(input, 0)),
@@ -55,7 +55,7 @@ fn lent(walk: CompositionIter) -> Stepped
     Stepped { item, walk: w }
 }
 
-fn start_case(input: &mut Words<'_>) -> bool {
+fn start_case(input: &mut impl Read) -> bool {
     let order = next_size(input);
     let len = next_size(input);
     let s = CompositionIter::try_new(order, len);
@@ -75,7 +75,7 @@ fn handed_out(item: Composition, list: &[usize]) -> bool {
 }
 
 // The lists of a walk with their multiplicities, and the step past the last one. No walk has more than 100 lists.
-fn walk_case(input: &mut Words<'_>) -> bool {
+fn walk_case(input: &mut impl Read) -> bool {
     let order = next_size(input);
     let len = next_size(input);
     let s = CompositionIter::try_new(order, len);
@@ -106,7 +106,7 @@ fn walk_case(input: &mut Words<'_>) -> bool {
     both(met, past)
 }
 
-fn record_case(input: &mut Words<'_>) -> bool {
+fn record_case(input: &mut impl Read) -> bool {
     let order = next_size(input);
     let len = next_size(input);
     let end = next_size(input) != 0;
@@ -124,24 +124,24 @@ fn record_case(input: &mut Words<'_>) -> bool {
     )
 }
 
-fn multiplicity_case(input: &mut Words<'_>) -> bool {
+fn multiplicity_case(input: &mut impl Read) -> bool {
     let mut list = [0usize; 30];
     let n = next_sizes(input, &mut list);
     count_met(input, partitions::multiplicity(sizes_part(&list, 0, n)))
 }
 
-fn factorial_case(input: &mut Words<'_>) -> bool {
+fn factorial_case(input: &mut impl Read) -> bool {
     let order = next_size(input);
     count_met(input, partitions::factorial(order))
 }
 
-fn stirling_case(input: &mut Words<'_>) -> bool {
+fn stirling_case(input: &mut impl Read) -> bool {
     let order = next_size(input);
     let len = next_size(input);
     count_met(input, partitions::stirling_number(order, len))
 }
 
-pub fn next_case(input: &mut Words<'_>) -> bool {
+pub fn next_case(input: &mut impl Read) -> bool {
     match next_size(input) {
         1 => start_case(input),
         2 => walk_case(input),

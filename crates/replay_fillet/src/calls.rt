@@ -2,9 +2,10 @@
 use booleans::both;
 use capi_fillet::fillet;
 use replay_text::{
-    FILL, UNKNOWN, Words, call_met, first_floats, float_at, float_list, floats_part, next_call,
+    FILL, UNKNOWN, call_met, first_floats, float_at, float_list, floats_part, next_call,
     same_floats, size_at,
 };
+use std::io::Read;
 
 // Of an axis or a circle, and a pair of sine and cosine.
 fn turn(op: u64, n: &[usize], l: &[f64], ends: &[usize; 12], out: &mut [f64]) -> u8 {
@@ -212,7 +213,7 @@ fn info(
     call_met(wanted, refusal, both(jets, holds(&c, w, w_ends, 2)))
 }
 
-pub fn next_case(input: &mut Words<'_>, op: u64) -> bool {
+pub fn next_case(input: &mut impl Read, op: u64) -> bool {
     let mut n = [0usize; 64];
     let mut l = [0.0f64; 2048];
     let mut ends = [0usize; 12];

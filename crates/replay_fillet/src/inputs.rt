@@ -1,17 +1,18 @@
 // What a case gives: vectors, contact circles, and the jets and normals of a fillet.
 use float_lists::lists;
 use ieee_vectors::{Vector2, Vector3};
-use replay_text::{Words, float_list, next_float, next_float_lists, next_size};
+use replay_text::{float_list, next_float, next_float_lists, next_size};
 use rolling_ball_fillet::{ContactCircle, ContactPoint, RollingBallFilletSurface};
+use std::io::Read;
 
-pub fn next_vector(input: &mut Words<'_>) -> Vector3 {
+pub fn next_vector(input: &mut impl Read) -> Vector3 {
     let x = next_float(input);
     let y = next_float(input);
     let z = next_float(input);
     Vector3 { x, y, z }
 }
 
-fn next_contact(input: &mut Words<'_>) -> ContactPoint {
+fn next_contact(input: &mut impl Read) -> ContactPoint {
     let point = next_vector(input);
     let u = next_float(input);
     let v = next_float(input);
@@ -21,7 +22,7 @@ fn next_contact(input: &mut Words<'_>) -> ContactPoint {
     }
 }
 
-pub fn next_circle(input: &mut Words<'_>) -> ContactCircle {
+pub fn next_circle(input: &mut impl Read) -> ContactCircle {
     let center = next_vector(input);
     let axis = next_vector(input);
     let angle = next_float(input);
@@ -37,7 +38,7 @@ pub fn next_circle(input: &mut Words<'_>) -> ContactCircle {
 }
 
 // Both normals, the jets' order, and the lists of edge, radius and both surfaces.
-pub fn next_fillet(input: &mut Words<'_>) -> RollingBallFilletSurface {
+pub fn next_fillet(input: &mut impl Read) -> RollingBallFilletSurface {
     let normal0 = next_vector(input);
     let normal1 = next_vector(input);
     let order = next_size(input);

@@ -7,11 +7,11 @@ mod inputs;
 mod shapes;
 mod turns;
 
-use replay_text::{Words, next_group, next_word};
+use replay_text::{next_group, next_word};
 use std::io;
 use std::io::Read;
 
-fn next_case(input: &mut Words<'_>) -> bool {
+fn next_case(input: &mut impl Read) -> bool {
     let family = next_word(input);
     match family {
         1 => shapes::next_case(input),
@@ -21,9 +21,7 @@ fn next_case(input: &mut Words<'_>) -> bool {
 }
 
 fn main(rt: HostRuntime) -> io::Result<()> {
-    let mut text = Vec::new(rt.alloc());
-    rt.stdin().read_to_end(&mut text)?;
-    let mut input = Words::new(&text);
+    let mut input = rt.stdin();
     let mut group = next_group(&mut input);
     let mut turns = 0u32;
     while turns < 100000 {

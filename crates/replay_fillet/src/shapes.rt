@@ -2,8 +2,9 @@
 use crate::inputs::{next_circle, next_fillet};
 use booleans::both;
 use derivatives::ParameterCurve;
-use replay_text::{Words, float_at, next_float, next_floats, next_size, refusal_met, size_met};
+use replay_text::{float_at, next_float, next_floats, next_size, refusal_met, size_met};
 use rolling_ball_fillet::CenterContactDers;
+use std::io::Read;
 use vector_derivatives::VectorCurveDerivatives;
 use vectors::VectorAnswer;
 
@@ -12,7 +13,7 @@ fn close(x: f64, y: f64, tolerance: f64) -> bool {
 }
 
 // A list, with zeros past the members wanted.
-fn near(input: &mut Words<'_>, l: &[f64], tolerance: f64) -> bool {
+fn near(input: &mut impl Read, l: &[f64], tolerance: f64) -> bool {
     let mut wanted = [0.0f64; 63];
     next_floats(input, &mut wanted);
     let mut i = 0;
@@ -27,12 +28,12 @@ fn near(input: &mut Words<'_>, l: &[f64], tolerance: f64) -> bool {
     true
 }
 
-fn near_vectors(input: &mut Words<'_>, jet: VectorCurveDerivatives, tolerance: f64) -> bool {
+fn near_vectors(input: &mut impl Read, jet: VectorCurveDerivatives, tolerance: f64) -> bool {
     let entries = jet.entries;
     both(size_met(input, jet.order), near(input, &entries, tolerance))
 }
 
-fn near_parameters(input: &mut Words<'_>, jet: ParameterCurve, tolerance: f64) -> bool {
+fn near_parameters(input: &mut impl Read, jet: ParameterCurve, tolerance: f64) -> bool {
     let u = jet.u;
     let v = jet.v;
     let order = size_met(input, jet.order);
@@ -42,7 +43,7 @@ fn near_parameters(input: &mut Words<'_>, jet: ParameterCurve, tolerance: f64) -
     )
 }
 
-fn near_contacts(input: &mut Words<'_>, ders: CenterContactDers, tolerance: f64) -> bool {
+fn near_contacts(input: &mut impl Read, ders: CenterContactDers, tolerance: f64) -> bool {
     let c = near_vectors(input, ders.center_ders, tolerance);
     let p = near_vectors(input, ders.contact0_ders, tolerance);
     let q = near_vectors(input, ders.contact1_ders, tolerance);
@@ -51,7 +52,7 @@ fn near_contacts(input: &mut Words<'_>, ders: CenterContactDers, tolerance: f64)
     both(both(c, both(p, q)), both(u, v))
 }
 
-fn contacts_case(input: &mut Words<'_>) -> bool {
+fn contacts_case(input: &mut impl Read) -> bool {
     let tolerance = next_float(input);
     let n = next_size(input);
     let circle = next_circle(input);
@@ -63,14 +64,14 @@ fn contacts_case(input: &mut Words<'_>) -> bool {
     )
 }
 
-fn near_vector(input: &mut Words<'_>, a: VectorAnswer, tolerance: f64) -> bool {
+fn near_vector(input: &mut impl Read, a: VectorAnswer, tolerance: f64) -> bool {
     match a {
         VectorAnswer::Value(v) => near(input, &[v.x, v.y, v.z], tolerance),
         VectorAnswer::Refused(_) => both(near(input, &[0.0; 3], tolerance), false),
     }
 }
 
-fn partial_case(input: &mut Words<'_>) -> bool {
+fn partial_case(input: &mut impl Read) -> bool {
     let tolerance = next_float(input);
     let m = next_size(input);
     let n = next_size(input);
@@ -87,7 +88,7 @@ fn partial_case(input: &mut Words<'_>) -> bool {
     )
 }
 
-pub fn next_case(input: &mut Words<'_>) -> bool {
+pub fn next_case(input: &mut impl Read) -> bool {
     match next_size(input) {
         1 => contacts_case(input),
         _ => partial_case(input),

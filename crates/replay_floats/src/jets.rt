@@ -4,23 +4,24 @@ use booleans::both;
 use derivatives::{
     CurveAnswer, CurveDerivatives, ParameterCurve, SurfaceAnswer, SurfaceDerivatives,
 };
-use replay_text::{Words, answer_met, floats_met, next_floats, next_size, real_met};
+use replay_text::{answer_met, floats_met, next_floats, next_size, real_met};
+use std::io::Read;
 
-fn next_curve(input: &mut Words<'_>) -> CurveDerivatives {
+fn next_curve(input: &mut impl Read) -> CurveDerivatives {
     let order = next_size(input);
     let mut entries = [0.0f64; 21];
     next_floats(input, &mut entries);
     CurveDerivatives { order, entries }
 }
 
-fn next_surface(input: &mut Words<'_>) -> SurfaceDerivatives {
+fn next_surface(input: &mut impl Read) -> SurfaceDerivatives {
     let order = next_size(input);
     let mut entries = [0.0f64; 231];
     next_floats(input, &mut entries);
     SurfaceDerivatives { order, entries }
 }
 
-fn next_parameter(input: &mut Words<'_>) -> ParameterCurve {
+fn next_parameter(input: &mut impl Read) -> ParameterCurve {
     let order = next_size(input);
     let mut u = [0.0f64; 21];
     let mut v = [0.0f64; 21];
@@ -29,7 +30,7 @@ fn next_parameter(input: &mut Words<'_>) -> ParameterCurve {
     ParameterCurve { order, u, v }
 }
 
-fn curve_met(input: &mut Words<'_>, a: CurveAnswer) -> bool {
+fn curve_met(input: &mut impl Read, a: CurveAnswer) -> bool {
     let jet = a.jet;
     let entries = jet.entries;
     both(
@@ -38,7 +39,7 @@ fn curve_met(input: &mut Words<'_>, a: CurveAnswer) -> bool {
     )
 }
 
-fn surface_met(input: &mut Words<'_>, a: SurfaceAnswer) -> bool {
+fn surface_met(input: &mut impl Read, a: SurfaceAnswer) -> bool {
     let jet = a.jet;
     let entries = jet.entries;
     both(
@@ -47,7 +48,7 @@ fn surface_met(input: &mut Words<'_>, a: SurfaceAnswer) -> bool {
     )
 }
 
-fn on_curves(input: &mut Words<'_>, operation: usize) -> bool {
+fn on_curves(input: &mut impl Read, operation: usize) -> bool {
     let a = next_curve(input);
     let b = next_curve(input);
     let m = next_size(input);
@@ -61,7 +62,7 @@ fn on_curves(input: &mut Words<'_>, operation: usize) -> bool {
     }
 }
 
-fn on_surfaces(input: &mut Words<'_>, operation: usize) -> bool {
+fn on_surfaces(input: &mut impl Read, operation: usize) -> bool {
     let a = next_surface(input);
     let b = next_surface(input);
     let m = next_size(input);
@@ -77,7 +78,7 @@ fn on_surfaces(input: &mut Words<'_>, operation: usize) -> bool {
     }
 }
 
-fn along(input: &mut Words<'_>, operation: usize) -> bool {
+fn along(input: &mut impl Read, operation: usize) -> bool {
     let a = next_surface(input);
     let c = next_parameter(input);
     let m = next_size(input);
@@ -87,7 +88,7 @@ fn along(input: &mut Words<'_>, operation: usize) -> bool {
     }
 }
 
-pub fn next_case(input: &mut Words<'_>) -> bool {
+pub fn next_case(input: &mut impl Read) -> bool {
     let operation = next_size(input);
     match operation {
         1..=6 => on_curves(input, operation),

@@ -8,14 +8,13 @@ mod values;
 
 use booleans::both;
 use replay_text::{
-    FILL, Words, first_floats, float_met, list_met, next_call, next_float, next_group, next_word,
-    real_met,
+    FILL, first_floats, float_met, list_met, next_call, next_float, next_group, next_word, real_met,
 };
 use std::io;
 use std::io::Read;
 
 // A float, its root by `sqrt`, and what `square_root` answers (tools/sqrt_cases.py works them out).
-fn next_root(input: &mut Words<'_>) -> bool {
+fn next_root(input: &mut impl Read) -> bool {
     let x = next_float(input);
     both(
         float_met(input, ieee::unchecked_sqrt(x)),
@@ -32,7 +31,7 @@ fn call(op: u64, n: &[usize], l: &[f64], ends: &[usize; 12], out: &mut [f64]) ->
 }
 
 // An operation of the C interface, which is lent one list.
-fn next_answer(input: &mut Words<'_>, op: u64) -> bool {
+fn next_answer(input: &mut impl Read, op: u64) -> bool {
     let mut orders = [0usize; 64];
     let mut given = [0.0f64; 2048];
     let mut ends = [0usize; 12];
@@ -52,7 +51,7 @@ fn next_answer(input: &mut Words<'_>, op: u64) -> bool {
     list_met(wanted, refusal, &out, &held, n)
 }
 
-fn next_case(input: &mut Words<'_>) -> bool {
+fn next_case(input: &mut impl Read) -> bool {
     let family = next_word(input);
     match family {
         1 => next_root(input),
@@ -62,9 +61,7 @@ fn next_case(input: &mut Words<'_>) -> bool {
 }
 
 fn main(rt: HostRuntime) -> io::Result<()> {
-    let mut text = Vec::new(rt.alloc());
-    rt.stdin().read_to_end(&mut text)?;
-    let mut input = Words::new(&text);
+    let mut input = rt.stdin();
     let mut group = next_group(&mut input);
     let mut turns = 0u32;
     while turns < 100000 {

@@ -4,7 +4,7 @@
 
 use parts_text::Reading;
 use std::io;
-use std::io::{Read, Write};
+use std::io::Write;
 
 fn write_whole(rt: &impl Print, input: &[u8]) -> io::Result<()> {
     let mut out = [0u8; 4096];
@@ -74,7 +74,7 @@ fn write_inputs(rt: &impl Print, inputs: &[u8]) -> io::Result<()> {
 }
 
 fn main(rt: HostRuntime) -> io::Result<()> {
-    let mut inputs = Vec::new(rt.alloc());
-    rt.stdin().read_to_end(&mut inputs)?;
-    write_inputs(&rt, &inputs)
+    let mut buffer = [0u8; 65536];
+    let n = replay_text::fill(&mut rt.stdin(), &mut buffer);
+    write_inputs(&rt, &buffer[..n])
 }

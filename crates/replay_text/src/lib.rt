@@ -7,30 +7,24 @@ ghost use Rattle.std.specs.Prelude.{◌≡◌, ◌<◌, ◌≤◌, length};
 
 use booleans::both;
 use std::io;
-use std::io::Write;
+use std::io::{Read, Write};
 use std::num::wrapping_add_usize;
 use vectors::Real;
 use whole::Whole;
 
-// What is left of the input, which is read whole before.
-#[derive(Drop)]
-pub struct Words<'a> {
-    rest: &'a [u8],
-}
-
-impl<'a> Words<'a> {
-    // The input from its first byte on.
-    pub fn new(text: &'a [u8]) -> Words<'a> {
-        Words { rest: text }
+// Fills `out` with the next bytes of the input, as far as there are any, and says how many: what cannot be read is no more there than what is past the end.
+pub fn fill(input: &mut impl Read, out: &mut [u8]) -> usize
+    ensures { result ≤ length out.old }
+{
+    let mut at = 0;
+    while at < out.len() {
+        match input.read(&mut out[at..]) {
+            Ok(0) => return at,
+            Ok(n) => at += n,
+            Err(_) => return at,
+        }
     }
-
-    // Moves the next bytes to the front of `out`, as many as there are of both.
-    fn fill(&mut self, out: &mut [u8]) {
-        let n = out.len().min(self.rest.len());
-        let (first, rest) = self.rest.split_at(n);
-        out[..n].copy_from_slice(first);
-        self.rest = rest;
-    }
+    at
 }
 
 fn wide(c: u8) -> u64
@@ -63,17 +57,17 @@ fn bits(word: &[u8; 17]) -> u64 {
 }
 
 // The next word of the input; 0 where there is none.
-pub fn next_word(input: &mut Words<'_>) -> u64 {
+pub fn next_word(input: &mut impl Read) -> u64 {
     let mut word = [0u8; 17];
-    input.fill(&mut word);
+    fill(input, &mut word);
     bits(&word)
 }
 
-pub fn next_size(input: &mut Words<'_>) -> usize {
+pub fn next_size(input: &mut impl Read) -> usize {
     next_word(input) as usize
 }
 
-pub fn next_float(input: &mut Words<'_>) -> f64 {
+pub fn next_float(input: &mut impl Read) -> f64 {
     ieee::from_bits(next_word(input))
 }
 
@@ -94,12 +88,12 @@ fn signed(w: u64) -> i64 {
     number_of(whole::minus(Whole::Value(-1), Whole::Value(m)))
 }
 
-pub fn next_whole(input: &mut Words<'_>) -> i64 {
+pub fn next_whole(input: &mut impl Read) -> i64 {
     signed(next_word(input))
 }
 
 // A list of the input into the first places of the one lent, as far as it has places: how many are read.
-pub fn next_floats(input: &mut Words<'_>, l: &mut [f64]) -> usize
+pub fn next_floats(input: &mut impl Read, l: &mut [f64]) -> usize
     ensures { result ≤ length l.old }
 {
     let n = next_size(input);
@@ -114,7 +108,7 @@ pub fn next_floats(input: &mut Words<'_>, l: &mut [f64]) -> usize
     i
 }
 
-pub fn next_wholes(input: &mut Words<'_>, l: &mut [i64]) -> usize
+pub fn next_wholes(input: &mut impl Read, l: &mut [i64]) -> usize
     ensures { result ≤ length l.old }
 {
     let n = next_size(input);
@@ -129,7 +123,7 @@ pub fn next_wholes(input: &mut Words<'_>, l: &mut [i64]) -> usize
     i
 }
 
-pub fn next_sizes(input: &mut Words<'_>, l: &mut [usize]) -> usize
+pub fn next_sizes(input: &mut impl Read, l: &mut [usize]) -> usize
     ensures { result ≤ length l.old }
 {
     let n = next_size(input);
@@ -145,7 +139,7 @@ pub fn next_sizes(input: &mut Words<'_>, l: &mut [usize]) -> usize
 }
 
 // Reads how many lists there are, and these, as far as their ends have places: the list at i stands from ends[i] to ends[i + 1].
-pub fn next_float_lists(input: &mut Words<'_>, l: &mut [f64], ends: &mut [usize]) {
+pub fn next_float_lists(input: &mut impl Read, l: &mut [f64], ends: &mut [usize]) {
     let n = next_size(input);
     let mut at = 0usize;
     let mut i = 0;
@@ -160,7 +154,7 @@ pub fn next_float_lists(input: &mut Words<'_>, l: &mut [f64], ends: &mut [usize]
     }
 }
 
-pub fn next_whole_lists(input: &mut Words<'_>, l: &mut [i64], ends: &mut [usize]) {
+pub fn next_whole_lists(input: &mut impl Read, l: &mut [i64], ends: &mut [usize]) {
     let n = next_size(input);
     let mut at = 0usize;
     let mut i = 0;
@@ -175,7 +169,7 @@ pub fn next_whole_lists(input: &mut Words<'_>, l: &mut [i64], ends: &mut [usize]
     }
 }
 
-pub fn next_size_lists(input: &mut Words<'_>, l: &mut [usize], ends: &mut [usize]) {
+pub fn next_size_lists(input: &mut impl Read, l: &mut [usize], ends: &mut [usize]) {
     let n = next_size(input);
     let mut at = 0usize;
     let mut i = 0;
@@ -370,40 +364,40 @@ pub fn same_words(a: &[u64], b: &[usize]) -> bool {
 
 // ---- what a case wants, read after the call
 
-pub fn word_met(input: &mut Words<'_>, w: u64) -> bool {
+pub fn word_met(input: &mut impl Read, w: u64) -> bool {
     next_word(input) == w
 }
 
-pub fn size_met(input: &mut Words<'_>, n: usize) -> bool {
+pub fn size_met(input: &mut impl Read, n: usize) -> bool {
     next_size(input) == n
 }
 
-pub fn refusal_met(input: &mut Words<'_>, c: u8) -> bool {
+pub fn refusal_met(input: &mut impl Read, c: u8) -> bool {
     word_met(input, c as u64)
 }
 
-pub fn float_met(input: &mut Words<'_>, x: f64) -> bool {
+pub fn float_met(input: &mut impl Read, x: f64) -> bool {
     word_met(input, ieee::to_bits(x))
 }
 
-fn whole_met(input: &mut Words<'_>, z: i64) -> bool {
+fn whole_met(input: &mut impl Read, z: i64) -> bool {
     next_whole(input) == z
 }
 
 // What stands beside a jet's entries.
-pub fn answer_met(input: &mut Words<'_>, refusal: u8, order: usize) -> bool {
+pub fn answer_met(input: &mut impl Read, refusal: u8, order: usize) -> bool {
     both(refusal_met(input, refusal), size_met(input, order))
 }
 
 // A refusal and a number: 0 and the number, or the refusal and 0.
-pub fn real_met(input: &mut Words<'_>, a: Real) -> bool {
+pub fn real_met(input: &mut impl Read, a: Real) -> bool {
     match a {
         Real::Value(x) => both(refusal_met(input, 0), float_met(input, x)),
         Real::Refused(c) => both(refusal_met(input, c), float_met(input, 0.0)),
     }
 }
 
-pub fn checked_met(input: &mut Words<'_>, a: Whole) -> bool {
+pub fn checked_met(input: &mut impl Read, a: Whole) -> bool {
     match a {
         Whole::Value(z) => both(refusal_met(input, 0), whole_met(input, z)),
         Whole::Refused(c) => both(refusal_met(input, c), whole_met(input, 0)),
@@ -411,19 +405,19 @@ pub fn checked_met(input: &mut Words<'_>, a: Whole) -> bool {
 }
 
 // A list, with zeros past its members.
-pub fn floats_met(input: &mut Words<'_>, l: &[f64]) -> bool {
+pub fn floats_met(input: &mut impl Read, l: &[f64]) -> bool {
     let mut wanted = [0.0f64; 256];
     next_floats(input, &mut wanted);
     same_floats(l, floats_part(&wanted, 0, l.len()))
 }
 
-pub fn wholes_met(input: &mut Words<'_>, l: &[i64]) -> bool {
+pub fn wholes_met(input: &mut impl Read, l: &[i64]) -> bool {
     let mut wanted = [0i64; 256];
     next_wholes(input, &mut wanted);
     same_wholes(l, wholes_part(&wanted, 0, l.len()))
 }
 
-pub fn sizes_met(input: &mut Words<'_>, l: &[usize]) -> bool {
+pub fn sizes_met(input: &mut impl Read, l: &[usize]) -> bool {
     let mut wanted = [0usize; 256];
     next_sizes(input, &mut wanted);
     same_sizes(l, sizes_part(&wanted, 0, l.len()))
@@ -454,7 +448,7 @@ pub fn call_met(wanted: u64, refusal: u8, same: bool) -> bool {
 
 // A call over floats as a case gives it: the refusal wanted, then the orders, the lists given, and what the lists lent for the answer hold at the end.
 pub fn next_call(
-    input: &mut Words<'_>,
+    input: &mut impl Read,
     orders: &mut [usize],
     given: &mut [f64],
     ends: &mut [usize],
@@ -487,9 +481,9 @@ pub struct Group {
 }
 
 // The next group of the input, with no case done. At its end, no case is there.
-pub fn next_group(input: &mut Words<'_>) -> Group {
+pub fn next_group(input: &mut impl Read) -> Group {
     let mut label = [0u8; 90];
-    input.fill(&mut label);
+    fill(input, &mut label);
     let cases = next_size(input);
     Group {
         label,
@@ -515,7 +509,7 @@ fn differing(rt: &impl Print, met: bool, place: usize, differ: usize) -> io::Res
 
 impl Group {
     // With its next case done; after its last one the group's line is written, and the next group begins.
-    pub fn after(self, rt: &impl Print, input: &mut Words<'_>, met: bool) -> io::Result<Group> {
+    pub fn after(self, rt: &impl Print, input: &mut impl Read, met: bool) -> io::Result<Group> {
         let label = self.label;
         let cases = self.cases;
         let differ = differing(rt, met, self.done, self.differ)?;

@@ -3,7 +3,8 @@
 // Then the refusal, and what each place of the list lent holds after the call (tools/list_cases.py says what is wanted).
 use booleans::both;
 use derivatives::{CurveDerivatives, ParameterCurve, SurfaceDerivatives};
-use replay_text::{Words, first_floats, float_at, floats_part, next_float, next_size, refusal_met};
+use replay_text::{first_floats, float_at, floats_part, next_float, next_size, refusal_met};
+use std::io::Read;
 use vector_derivatives::{VectorCurveDerivatives, VectorSurfaceDerivatives};
 
 // One float of a list becomes infinite; none past its end.
@@ -97,7 +98,7 @@ fn all_are(l: &[f64], x: f64) -> bool {
 }
 
 // Before the call each place holds 7, and so it stays past the list lent.
-fn lent_case(input: &mut Words<'_>, kind: usize, order: usize, count: usize, at: usize) -> bool {
+fn lent_case(input: &mut impl Read, kind: usize, order: usize, count: usize, at: usize) -> bool {
     let mut l = [7.0f64; 800];
     let refusal = into_list(kind, order, at, first_floats(&mut l, count));
     let met = refusal_met(input, refusal);
@@ -105,13 +106,13 @@ fn lent_case(input: &mut Words<'_>, kind: usize, order: usize, count: usize, at:
     both(met, both(held, all_are(floats_part(&l, count, 800), 7.0)))
 }
 
-fn given_case(input: &mut Words<'_>, kind: usize, order: usize, count: usize, at: usize) -> bool {
+fn given_case(input: &mut impl Read, kind: usize, order: usize, count: usize, at: usize) -> bool {
     let mut l = [1.0f64; 800];
     spoil(&mut l, at);
     refusal_met(input, from_list(kind, order, floats_part(&l, 0, count)))
 }
 
-pub fn next_case(input: &mut Words<'_>) -> bool {
+pub fn next_case(input: &mut impl Read) -> bool {
     let way = next_size(input);
     let kind = next_size(input);
     let order = next_size(input);

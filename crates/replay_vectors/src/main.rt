@@ -6,7 +6,7 @@ mod lists;
 mod vector_curves;
 mod vector_surfaces;
 
-use replay_text::{FILL, Words, first_floats, list_met, next_call, next_group, next_word};
+use replay_text::{FILL, first_floats, list_met, next_call, next_group, next_word};
 use std::io;
 use std::io::Read;
 
@@ -18,7 +18,7 @@ fn call(op: u64, n: &[usize], l: &[f64], ends: &[usize; 12], out: &mut [f64]) ->
 }
 
 // An operation of the C interface, which is lent one list.
-fn next_answer(input: &mut Words<'_>, op: u64) -> bool {
+fn next_answer(input: &mut impl Read, op: u64) -> bool {
     let mut orders = [0usize; 64];
     let mut given = [0.0f64; 2048];
     let mut ends = [0usize; 12];
@@ -38,7 +38,7 @@ fn next_answer(input: &mut Words<'_>, op: u64) -> bool {
     list_met(wanted, refusal, &out, &held, n)
 }
 
-fn next_case(input: &mut Words<'_>) -> bool {
+fn next_case(input: &mut impl Read) -> bool {
     let family = next_word(input);
     match family {
         1 => lists::next_case(input),
@@ -47,9 +47,7 @@ fn next_case(input: &mut Words<'_>) -> bool {
 }
 
 fn main(rt: HostRuntime) -> io::Result<()> {
-    let mut text = Vec::new(rt.alloc());
-    rt.stdin().read_to_end(&mut text)?;
-    let mut input = Words::new(&text);
+    let mut input = rt.stdin();
     let mut group = next_group(&mut input);
     let mut turns = 0u32;
     while turns < 100000 {

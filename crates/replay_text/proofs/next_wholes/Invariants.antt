@@ -3,7 +3,7 @@ use Rattle.std.proofs.Common.{◌≡◌, ◌-◌, ◌≤◌, length}
 use Rattle.replay_text.proofs.next_wholes.Given as goal
 
 abbrev pub invariant-loop-i : goal.invariant-loop-i
-invariant-loop-i l = (l.i ≤ length l.initial.l) × (length l.l ≡ length l.initial.l)
+invariant-loop-i g l = (l.i ≤ length l.initial.l) × (length l.l ≡ length l.initial.l)
 
 abbrev pub decreases-loop-i : goal.decreases-loop-i
-decreases-loop-i l = length l.initial.l - l.i
+decreases-loop-i g l = length l.initial.l - l.i

@@ -3,7 +3,7 @@ use Prim.Native.Nat.{◌-◌, ◌≤◌}
 use Rattle.replay_exact.proofs.walks.walk_case.Given as goal
 
 abbrev pub invariant-loop-i : goal.invariant-loop-i
-invariant-loop-i l = l.i ≤ l.lists
+invariant-loop-i g l = l.i ≤ l.lists
 
 abbrev pub decreases-loop-i : goal.decreases-loop-i
-decreases-loop-i l = l.lists - l.i
+decreases-loop-i g l = l.lists - l.i
