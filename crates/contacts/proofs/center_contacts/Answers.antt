@@ -16,30 +16,12 @@ use Rattle.contacts.proofs.Solved.{planes-zero, form0-zero, form1-zero, norm0-ze
 use Rattle.contacts.proofs.center_contacts.Goals as goal
 
 -- ---- the arms
-pub smaller-n-requires : goal.smaller-n-requires
-smaller-n-requires c = tt
-
-pub found-requires : goal.found-requires
-found-requires c = tt
-
 pub returns-then-n-eq0 : goal.returns-then-n-eq0
 returns-then-n-eq0 c =
     let p = c.args.p in
     let n = c.smaller-n.result in
     c.found.ensures ∙ ap found c.up_to.ensures ∙ solved p n (eq-eqb n 0 c.if-n-eq0.true) refl refl refl refl refl
     ∙ ap (center_contacts p) c.smaller-n.ensures
-
-pub start-k-requires : goal.start-k-requires
-start-k-requires c = tt
-
-pub planes-requires : goal.planes-requires
-planes-requires c = tt
-
-pub determinant-requires : goal.determinant-requires
-determinant-requires c = tt
-
-pub no_contacts-requires : goal.no_contacts-requires
-no_contacts-requires c = tt
 
 pub returns-then-determinant : goal.returns-then-determinant
 returns-then-determinant c =
@@ -49,15 +31,6 @@ returns-then-determinant c =
     let order-test : eqb order 0 ≡ false = ne_eqb order 0 c.if-n-eq0.false in
     let planes-test : planes-zero place ≡ is_zero c.determinant.result = sym (ap is_zero (c.determinant.ensures ∙ ap determinant3 c.planes.ensures)) in
     c.no_contacts.ensures ∙ solved place order order-test (planes-test ∙ c.if-determinant.true) refl refl refl refl ∙ asked
-
-pub form_at-requires : goal.form_at-requires
-form_at-requires c = tt
-
-pub determinant-requires-2 : goal.determinant-requires-2
-determinant-requires-2 c = tt
-
-pub no_contacts-requires-then-determinant-2 : goal.no_contacts-requires-then-determinant-2
-no_contacts-requires-then-determinant-2 c = tt
 
 pub returns-then-determinant-2 : goal.returns-then-determinant-2
 returns-then-determinant-2 c =
@@ -71,9 +44,6 @@ returns-then-determinant-2 c =
     c.no_contacts-then-determinant-2.ensures
     ∙ solved place order order-test (planes-test ∙ c.if-determinant.false) (form0-test ∙ c.if-determinant-2.true) refl refl refl
     ∙ asked
-
-pub no_contacts-requires-then-x : goal.no_contacts-requires-then-x
-no_contacts-requires-then-x c = tt
 
 pub returns-then-x : goal.returns-then-x
 returns-then-x c =
@@ -89,15 +59,6 @@ returns-then-x c =
     ∙ solved place order order-test (planes-test ∙ c.if-determinant.false) (form0-test ∙ c.if-determinant-2.false)
     (norm0-test ∙ c.if-x.true) refl refl
     ∙ asked
-
-pub form_at-requires-2 : goal.form_at-requires-2
-form_at-requires-2 c = tt
-
-pub determinant-requires-3 : goal.determinant-requires-3
-determinant-requires-3 c = tt
-
-pub no_contacts-requires-then-determinant-3 : goal.no_contacts-requires-then-determinant-3
-no_contacts-requires-then-determinant-3 c = tt
 
 pub returns-then-determinant-3 : goal.returns-then-determinant-3
 returns-then-determinant-3 c =
@@ -115,9 +76,6 @@ returns-then-determinant-3 c =
     ∙ solved place order order-test (planes-test ∙ c.if-determinant.false) (form0-test ∙ c.if-determinant-2.false)
     (norm0-test ∙ c.if-x.false) (form1-test ∙ c.if-determinant-3.true) refl
     ∙ asked
-
-pub no_contacts-requires-then-y : goal.no_contacts-requires-then-y
-no_contacts-requires-then-y c = tt
 
 pub returns-then-y : goal.returns-then-y
 returns-then-y c =
@@ -140,9 +98,6 @@ returns-then-y c =
 pub up_to-requires-2 : goal.up_to-requires-2
 up_to-requires-2 c =
     omega (arith, c.smaller-n.ensures)
-
-pub found-requires-2 : goal.found-requires-2
-found-requires-2 c = tt
 
 pub returns : goal.returns
 returns c =

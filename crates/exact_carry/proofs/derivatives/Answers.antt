@@ -12,6 +12,7 @@ loop-m-init c = let s = c.args in curve-begins (carried_jet s.entries.now s.u.no
 
 pub returns-in-Refused : goal.returns-in-Refused
 returns-in-Refused c =
+    -- the answer of the order n is that of the order cut
     let cut : let s = c.args in
     let f = carried_jet s.entries.now s.u.now s.v.now in
     formed_curve f c.smaller-n.result ≡ formed_curve f (min s.order 20) = let s = c.args in

@@ -11,12 +11,14 @@ use Rattle.fillet_lists.proofs.deliver_info.Goals as goal
 
 pub returns-then-c-ne0 : goal.returns-then-c-ne0
 unfolding deliver_info
-returns-then-c-ne0 c = let s = c.args in
+returns-then-c-ne0 c =
+    let s = c.args in
     refused {L = Three} (s.axis.now, (s.angle.now, s.cosine.now)) refl
     (0, ((into_list vector_curves s.a.info.axis_ders s.axis.now).1, ((into_list curves s.a.info.angle_ders s.angle.now).1, (written (s.a.cosine ∷ []) s.cosine.now).1))) c.if-c-ne0.true
 
 pub returns : goal.returns
 unfolding deliver_info deliver_float
-returns c = let s = c.args in
+returns c =
+    let s = c.args in
     allowed {L = Three} (s.axis.now, (s.angle.now, s.cosine.now)) refl c.if-c-ne0.false
     (λ i. (0, ((c.into_list.ensures i).1, ((c.into_list-2.ensures i).1, (c.float.ensures i).1))))

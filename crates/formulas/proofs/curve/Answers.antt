@@ -9,5 +9,6 @@ use Rattle.formulas.proofs.Curves.{curve-by}
 use Rattle.formulas.proofs.curve.Goals as goal
 
 pub returns : goal.returns
-returns c = let s = c.args in
+returns c =
+    let s = c.args in
     c.entries.ensures ∙ ap₂ (λ (g : ℕ → Float) (k : ℕ). curve_array positive_zero g k) (curve-by s.f (curve_numbers s.a.now) (curve_numbers s.b.now)) c.smaller.ensures

@@ -11,14 +11,17 @@ pub loop-i-init : goal.loop-i-init
 loop-i-init c = (none finite _, omega arith)
 
 pub returns-then-not-is_finite : goal.returns-then-not-is_finite
-returns-then-not-is_finite c = let s = c.args in
+returns-then-not-is_finite c =
+    let s = c.args in
     stop finite (λ k. get_or s.a.now k nan) (length s.a.now) (omega arith) (sym c.is_finite.ensures ∙ c.if-not-is_finite.true)
 
 pub loop-i-preserved : goal.loop-i-preserved
-loop-i-preserved c = let s = c.args in
+loop-i-preserved c =
+    let s = c.args in
     (more finite (λ k. get_or s.a.now k nan) c.loop-i.i c.loop-i.invariant.0 (sym c.is_finite.ensures ∙ c.if-not-is_finite.false), omega arith)
 
 pub returns : goal.returns
-returns c = let s = c.args in
+returns c =
+    let s = c.args in
     let e : c.loop-i.i ≡ length s.a.now = omega arith in
     sym c.loop-i.invariant.0 ∙ ap (all_finite (λ k. get_or s.a.now k nan)) e

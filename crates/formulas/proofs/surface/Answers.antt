@@ -9,5 +9,6 @@ use Rattle.formulas.proofs.Surfaces.{surface-by}
 use Rattle.formulas.proofs.surface.Goals as goal
 
 pub returns : goal.returns
-returns c = let s = c.args in
+returns c =
+    let s = c.args in
     c.entries.ensures ∙ ap₂ (λ (g : ℕ → ℕ → Float) (k : ℕ). surface_array positive_zero g k) (surface-by s.f (surface_numbers s.a.now) (surface_numbers s.b.now)) c.smaller.ensures

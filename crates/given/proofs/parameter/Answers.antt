@@ -10,5 +10,6 @@ pub returns-then-n-gt20 : goal.returns-then-n-gt20
 returns-then-n-gt20 c = rw (lt-ltb 20 c.args.n c.if-n-gt20.true)
 
 pub returns : goal.returns
-returns c = let s = c.args in
+returns c =
+    let s = c.args in
     c.count.ensures ∙ ap (λ (k : ℕ). count_given (2 * k) s.l) (add-one s.n) ∙ rw (le-ltb 20 s.n c.if-n-gt20.false)

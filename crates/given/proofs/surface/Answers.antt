@@ -9,5 +9,6 @@ pub returns-then-n-gt20 : goal.returns-then-n-gt20
 returns-then-n-gt20 c = rw (lt-ltb 20 c.args.n c.if-n-gt20.true)
 
 pub returns : goal.returns
-returns c = let s = c.args in
+returns c =
+    let s = c.args in
     c.count.ensures ∙ ap (λ (k : ℕ). count_given k s.l) c.surface_count-k.ensures ∙ rw (le-ltb 20 s.n c.if-n-gt20.false)

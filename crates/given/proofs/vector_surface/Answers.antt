@@ -18,5 +18,6 @@ overflow_mul-k c =
     omega (arith, e, room-231 n c.if-n-gt20.false)
 
 pub returns : goal.returns
-returns c = let s = c.args in
+returns c =
+    let s = c.args in
     c.count.ensures ∙ ap (λ (k : ℕ). count_given (3 * k) s.l) c.surface_count-k.ensures ∙ rw (le-ltb 20 s.n c.if-n-gt20.false)

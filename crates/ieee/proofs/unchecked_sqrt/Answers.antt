@@ -3,9 +3,6 @@ use mathlib.Core.Path.{sym, ◌∙◌}
 use Rattle.ieee.proofs.Cases.{is_positive, at-infinity, at_zero, below-zero}
 use Rattle.ieee.proofs.unchecked_sqrt.Goals as goal
 
-pub is_finite-requires : goal.is_finite-requires
-is_finite-requires c = tt
-
 pub of_positive-requires : goal.of_positive-requires
 of_positive-requires c =
     is_positive c.args.x c.if-x.true (sym c.is_finite.ensures ∙ c.if-is_finite.true)

@@ -19,6 +19,7 @@ returns-then-division_by_zero c =
     let n : ℕ = c.smaller-n.result in
     let small : n ≤ 20 = omega (arith, c.smaller-n.ensures) in
     let division : division_by_zero (curve_numbers c.norm-length.result 0) (r 0) ≡ division_by_zero (lengths p q 0) (r 0) = division-is p q n small c.arm-p.ensures c.arm-q.ensures c.crosses-cross.ensures c.norm-length.ensures (r 0) in
+    -- at the order that is asked for
     let asked : let a = c.args in
     cond (division_by_zero (lengths p q 0) (r 0)) (no_axis_angle 7) (some_axis_angle p q r a.angle n)
     ≡ axis_angle a.center.now a.contact0.now a.contact1.now r a.angle (min a.n 19) = let a = c.args in

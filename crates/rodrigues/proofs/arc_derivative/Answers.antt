@@ -6,33 +6,6 @@ use Rattle.rodrigues.specs.declared.Pair.{Pair}
 use Rattle.rodrigues.specs.Rotation.{rotation}
 use Rattle.rodrigues.proofs.arc_derivative.Goals as goal
 
-pub turned-p-requires : goal.turned-p-requires
-turned-p-requires c = tt
-
-pub rotation-turn-requires : goal.rotation-turn-requires
-rotation-turn-requires c = tt
-
-pub sub-requires : goal.sub-requires
-sub-requires c = tt
-
-pub image-arm-requires : goal.image-arm-requires
-image-arm-requires c = tt
-
-pub constant-requires : goal.constant-requires
-constant-requires c = tt
-
-pub mul-fixed-requires : goal.mul-fixed-requires
-mul-fixed-requires c = tt
-
-pub power-requires : goal.power-requires
-power-requires c = tt
-
-pub mul-requires : goal.mul-requires
-mul-requires c = tt
-
-pub add-requires : goal.add-requires
-add-requires c = tt
-
 pub returns : goal.returns
 returns c =
     let r = c.args in

@@ -11,15 +11,6 @@ use Rattle.rodrigues.proofs.rotation.Goals as goal
 same-pair : (x y z : ℕ) (a : Vector3) {p q : Pair} {k l : Float} → p ≡ q → k ≡ l → by_axis x y z a p.s p.c (plus (neg p.c) k) ≡ by_axis x y z a q.s q.c (plus (neg q.c) l)
 same-pair x y z a e f = λ i. by_axis x y z a (e i).s (e i).c (plus (neg (e i).c) (f i))
 
-pub turned-p-requires : goal.turned-p-requires
-turned-p-requires c = tt
-
-pub constant-requires : goal.constant-requires
-constant-requires c = tt
-
-pub by_axis-requires : goal.by_axis-requires
-by_axis-requires c = tt
-
 pub returns : goal.returns
 returns c =
     let r = c.args in

@@ -7,18 +7,6 @@ use Rattle.rodrigues.specs.Rotation.{rotation}
 use Rattle.rolling_ball_fillet.specs.Answers.{finite_turn}
 use Rattle.rolling_ball_fillet.proofs.rot_der_n.Goals as goal
 
-pub served-requires : goal.served-requires
-served-requires c = tt
-
-pub finite_turn-requires : goal.finite_turn-requires
-finite_turn-requires c = tt
-
-pub rotation-requires : goal.rotation-requires
-rotation-requires c = tt
-
-pub returned3-requires : goal.returned3-requires
-returned3-requires c = tt
-
 pub returns-then-finite_turn : goal.returns-then-finite_turn
 returns-then-finite_turn c =
     let r = c.args in
@@ -27,18 +15,12 @@ returns-then-finite_turn c =
     ∙ sym (inner (returned3 (rotation r.x r.y r.z r.n r.axis r.s r.c)) (refused3 5) (refused3 1) (sym c.served.ensures ∙ c.if-served.true)
     (sym c.finite_turn.ensures ∙ c.if-finite_turn.true))
 
-pub refused3-requires : goal.refused3-requires
-refused3-requires c = tt
-
 pub returns-then-served : goal.returns-then-served
 returns-then-served c =
     let r = c.args in
     c.refused3.ensures
     ∙ sym (outer (returned3 (rotation r.x r.y r.z r.n r.axis r.s r.c)) (refused3 5) (refused3 1) (sym c.served.ensures ∙ c.if-served.true)
     (sym c.finite_turn.ensures ∙ c.if-finite_turn.false))
-
-pub refused3-requires-2 : goal.refused3-requires-2
-refused3-requires-2 c = tt
 
 pub returns : goal.returns
 returns c =

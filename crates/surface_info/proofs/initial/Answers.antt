@@ -6,45 +6,6 @@ use Rattle.surface_info.specs.SurfaceInfo.{first_only, first_number_only, initia
 use Rattle.surface_info.proofs.Parts.{parameters, carried, normal, info}
 use Rattle.surface_info.proofs.initial.Goals as goal
 
-pub vector_at-t-requires : goal.vector_at-t-requires
-vector_at-t-requires c = tt
-
-pub vector_at-dv-requires : goal.vector_at-dv-requires
-vector_at-dv-requires c = tt
-
-pub vector_at-du-requires : goal.vector_at-du-requires
-vector_at-du-requires c = tt
-
-pub cross-c-requires : goal.cross-c-requires
-cross-c-requires c = tt
-
-pub first_number_only-requires : goal.first_number_only-requires
-first_number_only-requires c = tt
-
-pub first_number_only-requires-2 : goal.first_number_only-requires-2
-first_number_only-requires-2 c = tt
-
-pub first_only-requires : goal.first_only-requires
-first_only-requires c = tt
-
-pub first_only-requires-2 : goal.first_only-requires-2
-first_only-requires-2 c = tt
-
-pub first_only-requires-3 : goal.first_only-requires-3
-first_only-requires-3 c = tt
-
-pub first_only-requires-4 : goal.first_only-requires-4
-first_only-requires-4 c = tt
-
-pub magnitude-requires : goal.magnitude-requires
-magnitude-requires c = tt
-
-pub first_number_only-requires-3 : goal.first_number_only-requires-3
-first_number_only-requires-3 c = tt
-
-pub first_only-requires-5 : goal.first_only-requires-5
-first_only-requires-5 c = tt
-
 pub returns : goal.returns
 unfolding initial index
 returns c =

@@ -10,21 +10,6 @@ use Rattle.ieee_vectors.specs.Vectors.{plus, dot}
 use Rattle.ieee_vectors.specs.declared.Vector3.{Vector3}
 use Rattle.surface_info.proofs.known.Goals as goal
 
-pub dot_difference-p-requires : goal.dot_difference-p-requires
-dot_difference-p-requires c = tt
-
-pub vector_at-e-requires : goal.vector_at-e-requires
-vector_at-e-requires c = tt
-
-pub dot-q-requires : goal.dot-q-requires
-dot-q-requires c = tt
-
-pub offset-requires : goal.offset-requires
-offset-requires c = tt
-
-pub dot-requires : goal.dot-requires
-dot-requires c = tt
-
 pub returns : goal.returns
 returns c =
     let a = c.args in

@@ -5,15 +5,6 @@ use Rattle.surface_info.specs.SurfaceInfo.{next_carried}
 use Rattle.surface_info.proofs.Parts.{carried}
 use Rattle.surface_info.proofs.next_carried.Goals as goal
 
-pub put-requires : goal.put-requires
-put-requires c = tt
-
-pub put-requires-2 : goal.put-requires-2
-put-requires-2 c = tt
-
-pub put-requires-3 : goal.put-requires-3
-put-requires-3 c = tt
-
 pub returns : goal.returns
 unfolding next_carried
 returns c =

@@ -13,9 +13,6 @@ use Rattle.formulas.specs.Numbers.{curve_numbers}
 use Rattle.vector_formulas.specs.Vector.{vector_numbers}
 use Rattle.surface_info.proofs.next_norm.Goals as goal
 
-pub derivative_dot-p-requires : goal.derivative_dot-p-requires
-derivative_dot-p-requires c = tt
-
 pub returns : goal.returns
 returns c =
     let a = c.args in

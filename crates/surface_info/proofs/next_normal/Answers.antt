@@ -10,12 +10,6 @@ use Rattle.surface_info.specs.SurfaceInfo.{next_norm, next_normal}
 use Rattle.surface_info.proofs.Parts.{normal}
 use Rattle.surface_info.proofs.next_normal.Goals as goal
 
-pub put-cross-requires : goal.put-cross-requires
-put-cross-requires c = tt
-
-pub put-requires : goal.put-requires
-put-requires c = tt
-
 pub returns : goal.returns
 unfolding next_normal
 returns c =

@@ -17,21 +17,6 @@ pub known-y-requires : goal.known-y-requires
 known-y-requires c =
     omega (arith, c.requires)
 
-pub offset-requires : goal.offset-requires
-offset-requires c = tt
-
-pub form-matrix-requires : goal.form-matrix-requires
-form-matrix-requires c = tt
-
-pub unchecked_inverse-inverse-requires : goal.unchecked_inverse-inverse-requires
-unchecked_inverse-inverse-requires c = tt
-
-pub neg-requires : goal.neg-requires
-neg-requires c = tt
-
-pub image-requires : goal.image-requires
-image-requires c = tt
-
 pub returns : goal.returns
 unfolding parameters
 returns c =

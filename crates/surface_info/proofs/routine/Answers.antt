@@ -9,9 +9,6 @@ use Rattle.surface_info.specs.SurfaceInfo.{next_carried, next_normal, routine}
 use Rattle.surface_info.proofs.Parts.{info}
 use Rattle.surface_info.proofs.routine.Goals as goal
 
-pub smaller-m-requires : goal.smaller-m-requires
-smaller-m-requires c = tt
-
 pub next_parameters-uv-requires : goal.next_parameters-uv-requires
 next_parameters-uv-requires c = omega (arith, c.smaller-m.ensures)
 

@@ -8,5 +8,6 @@ use Rattle.vector_formulas.proofs.VectorCurves.{vectors-by}
 use Rattle.vector_formulas.proofs.curve.Goals as goal
 
 pub returns : goal.returns
-returns c = let s = c.args in
+returns c =
+    let s = c.args in
     c.entries.ensures ∙ ap₂ (λ (g : ℕ → Vector3) (k : ℕ). vector_array g k) (vectors-by s.f (vector_numbers s.a.now) (vector_numbers s.b.now) (curve_numbers s.w.now)) c.smaller.ensures

@@ -8,27 +8,12 @@ use Rattle.ieee_vectors.specs.Vectors.{positive_zero}
 use Rattle.vectors.specs.Answers.{refused2 as refused_by, returned2 as returned_by}
 use Rattle.vectors.proofs.matrix2_inverse.Goals as goal
 
-pub is_finite-requires : goal.is_finite-requires
-is_finite-requires c = tt
-
-pub determinant-requires : goal.determinant-requires
-determinant-requires c = tt
-
-pub refused2-requires : goal.refused2-requires
-refused2-requires c = tt
-
 pub returns-then-determinant : goal.returns-then-determinant
 returns-then-determinant c =
     let m = c.args.m in
     c.refused2.ensures
     ∙ sym (inner (refused_by 6) (returned_by (inverse2 m)) (refused_by 5) (sym c.is_finite.ensures ∙ c.if-is_finite.true)
     (sym (ap (λ (e : Float). eq e positive_zero) c.determinant.ensures) ∙ c.if-determinant.true))
-
-pub unchecked_inverse-requires : goal.unchecked_inverse-requires
-unchecked_inverse-requires c = tt
-
-pub returned2-requires : goal.returned2-requires
-returned2-requires c = tt
 
 pub returns-then-is_finite : goal.returns-then-is_finite
 returns-then-is_finite c =
@@ -37,9 +22,6 @@ returns-then-is_finite c =
     ∙ ap returned_by c.unchecked_inverse.ensures
     ∙ sym (outer (refused_by 6) (returned_by (inverse2 m)) (refused_by 5) (sym c.is_finite.ensures ∙ c.if-is_finite.true)
     (sym (ap (λ (e : Float). eq e positive_zero) c.determinant.ensures) ∙ c.if-determinant.false))
-
-pub refused2-requires-2 : goal.refused2-requires-2
-refused2-requires-2 c = tt
 
 pub returns : goal.returns
 returns c =

@@ -5,8 +5,5 @@ use Rattle.vectors.specs.declared.Real.TheVariants.{Refused}
 use Rattle.booleans.proofs.Tests.{first}
 use Rattle.vectors.proofs.real_from.Goals as goal
 
-pub returned-requires : goal.returned-requires
-returned-requires c = tt
-
 pub returns-then-inputs : goal.returns-then-inputs
 returns-then-inputs c = c.returned.ensures ∙ sym (first (returned c.args.y) (Refused 5) c.if-inputs.true)

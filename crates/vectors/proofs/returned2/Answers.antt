@@ -4,16 +4,10 @@ use Rattle.booleans.proofs.Tests.{first, second}
 use Rattle.vectors.specs.Answers.{refused2 as refused_by}
 use Rattle.vectors.proofs.returned2.Goals as goal
 
-pub is_finite-requires : goal.is_finite-requires
-is_finite-requires c = tt
-
 pub returns-then-is_finite : goal.returns-then-is_finite
 returns-then-is_finite c =
     let m = c.args.m in
     sym (first record { refusal = 0; matrix = m } (refused_by 10) (sym c.is_finite.ensures ∙ c.if-is_finite.true))
-
-pub refused2-requires : goal.refused2-requires
-refused2-requires c = tt
 
 pub returns : goal.returns
 returns c =

@@ -4,9 +4,6 @@ use Rattle.vectors.specs.declared.Vector2Answer.TheVariants.{Value, Refused}
 use Rattle.booleans.proofs.Tests.{first, second}
 use Rattle.vectors.proofs.returned_vector2.Goals as goal
 
-pub is_finite-requires : goal.is_finite-requires
-is_finite-requires c = tt
-
 pub returns-then-is_finite : goal.returns-then-is_finite
 returns-then-is_finite c = sym (first (Value c.args.v) (Refused 10) (sym c.is_finite.ensures ∙ c.if-is_finite.true))
 

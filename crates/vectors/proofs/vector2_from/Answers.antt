@@ -5,8 +5,5 @@ use Rattle.vectors.specs.declared.Vector2Answer.TheVariants.{Refused}
 use Rattle.booleans.proofs.Tests.{first}
 use Rattle.vectors.proofs.vector2_from.Goals as goal
 
-pub returned_vector2-requires : goal.returned_vector2-requires
-returned_vector2-requires c = tt
-
 pub returns-then-inputs : goal.returns-then-inputs
 returns-then-inputs c = c.returned_vector2.ensures ∙ sym (first (returned_vector2 c.args.v) (Refused 5) c.if-inputs.true)

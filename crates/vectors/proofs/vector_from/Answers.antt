@@ -5,8 +5,5 @@ use Rattle.vectors.specs.declared.VectorAnswer.TheVariants.{Refused}
 use Rattle.booleans.proofs.Tests.{first}
 use Rattle.vectors.proofs.vector_from.Goals as goal
 
-pub returned_vector-requires : goal.returned_vector-requires
-returned_vector-requires c = tt
-
 pub returns-then-inputs : goal.returns-then-inputs
 returns-then-inputs c = c.returned_vector.ensures ∙ sym (first (returned_vector c.args.v) (Refused 5) c.if-inputs.true)

@@ -10,26 +10,12 @@ use Rattle.vectors.specs.Answers.{returned_vector}
 use Rattle.vectors.specs.declared.VectorAnswer.TheVariants.{Refused}
 use Rattle.vectors.proofs.vector_quotient.Goals as goal
 
-pub is_finite-requires : goal.is_finite-requires
-is_finite-requires c = tt
-
-pub is_finite-requires-2 : goal.is_finite-requires-2
-is_finite-requires-2 c = tt
-
-pub both-requires : goal.both-requires
-both-requires c = tt
-
 pub returns-then-s : goal.returns-then-s
 returns-then-s c =
+    -- the inputs' test
     let tested : c.both.result ≡ (finite_vector c.args.a && finite c.args.s) = c.both.ensures ∙ both c.is_finite.ensures c.is_finite-2.ensures in
     let a = c.args in
     sym (inner (Refused 7) (returned_vector (quotient a.a a.s)) (Refused 5) (sym tested ∙ c.if-both.true) c.if-s.true)
-
-pub unchecked_div-requires : goal.unchecked_div-requires
-unchecked_div-requires c = tt
-
-pub returned_vector-requires : goal.returned_vector-requires
-returned_vector-requires c = tt
 
 pub returns-then-both : goal.returns-then-both
 returns-then-both c =

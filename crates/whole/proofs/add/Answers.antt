@@ -25,6 +25,7 @@ returns-then-b-a c =
 
 pub overflow_add-sum : goal.overflow_add-sum
 overflow_add-sum c =
+    -- past both tests the sum is in range
     let in-range : SFits w64 (◌+ℤ◌ c.args.a c.args.b) = elim c.if-b-lt0.branch [
       | then-b-lt0+else-a-b w ↦ low-in (add-moves c.args.b) c.ranges.a c.ranges.b (if-negative c.ranges.b w.if-b-lt0.true).0 w.if-a-b.false
       | else-b-lt0+else-b-a w ↦ high-in (add-moves c.args.b) c.ranges.a c.ranges.b (if-not c.ranges.b w.if-b-lt0.false).0 w.if-b-a.false

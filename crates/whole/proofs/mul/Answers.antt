@@ -27,6 +27,7 @@ returns-then-small-2 c =
 
 pub overflow_mul-product-then-fits : goal.overflow_mul-product-then-fits
 overflow_mul-product-then-fits c =
+    -- what the test says of the numbers
     let tested : leb (nat_abs c.args.a * nat_abs c.args.b) (room c.args.a c.args.b) ≡ c.fits.result = mul-test c.ranges.a c.ranges.b c.magnitude.ensures c.magnitude-2.ensures c.limit.ensures c.fits.ensures in
     raw-fits c.ranges.a c.ranges.b ◌*ℤ◌ (mul_in c.args.a c.args.b (tested ∙ c.if-fits.true))
 

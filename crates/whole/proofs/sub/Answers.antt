@@ -25,6 +25,7 @@ returns-then-a-b c =
 
 pub overflow_sub-difference : goal.overflow_sub-difference
 overflow_sub-difference c =
+    -- past both tests the difference is in range
     let in-range : SFits w64 (◌-ℤ◌ c.args.a c.args.b) = elim c.if-b-lt0.branch [
       | then-b-lt0+else-b-a w ↦ high-in (sub-moves c.args.b) c.ranges.a c.ranges.b (if-negative c.ranges.b w.if-b-lt0.true).1 w.if-b-a.false
       | else-b-lt0+else-a-b w ↦ low-in (sub-moves c.args.b) c.ranges.a c.ranges.b (if-not c.ranges.b w.if-b-lt0.false).1 w.if-a-b.false

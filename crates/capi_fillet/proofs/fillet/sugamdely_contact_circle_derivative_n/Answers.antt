@@ -12,10 +12,12 @@ use Rattle.capi_fillet.proofs.fillet.sugamdely_contact_circle_derivative_n.Goals
 
 pub returns-then-t-ne0 : goal.returns-then-t-ne0
 unfolding circle_into
-returns-then-t-ne0 c = let s = c.args in
+returns-then-t-ne0 c =
+    let s = c.args in
     refused s.out.now c.given_circle-t.ensures (deliver_vector (derivative_answer (circle_of s.circle.now positive_zero positive_zero positive_zero positive_zero) s.n s.s s.c) s.out.now) c.if-t-ne0.true
 
 pub returns : goal.returns
 unfolding circle_into
-returns c = let s = c.args in
+returns c =
+    let s = c.args in
     allowed s.out.now c.given_circle-t.ensures c.if-t-ne0.false (c.vector.ensures ∙ ap (λ (r : VectorAnswer). deliver_vector r s.out.now) (c.derivative_n-r.ensures ∙ ap (λ (o : ContactCircle). derivative_answer o s.n s.s s.c) c.circle-o.ensures))

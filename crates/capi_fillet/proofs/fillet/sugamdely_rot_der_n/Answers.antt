@@ -11,10 +11,12 @@ use Rattle.capi_fillet.proofs.fillet.sugamdely_rot_der_n.Goals as goal
 
 pub returns-then-t-ne0 : goal.returns-then-t-ne0
 unfolding rotation_into
-returns-then-t-ne0 c = let s = c.args in
+returns-then-t-ne0 c =
+    let s = c.args in
     refused s.out.now c.given_rotation-t.ensures (deliver_matrix3 (rotation_answer s.x s.y s.z s.n (vector_at s.axis.now 0) s.s s.c) s.out.now) c.if-t-ne0.true
 
 pub returns : goal.returns
 unfolding rotation_into
-returns c = let s = c.args in
+returns c =
+    let s = c.args in
     allowed s.out.now c.given_rotation-t.ensures c.if-t-ne0.false (c.matrix3.ensures ∙ ap (λ (r : Matrix3Answer). deliver_matrix3 r s.out.now) (c.rot_der_n-r.ensures ∙ ap (λ (a : Vector3). rotation_answer s.x s.y s.z s.n a s.s s.c) c.vector-a.ensures))

@@ -8,9 +8,11 @@ use Rattle.given.proofs.Admission.{one-refused, one-worked}
 use Rattle.capi_floats.proofs.values.sugamdely_matrix2_determinant.Goals as goal
 
 pub returns-then-t-ne0 : goal.returns-then-t-ne0
-returns-then-t-ne0 c = let s = c.args in
+returns-then-t-ne0 c =
+    let s = c.args in
     one-refused a_matrix2 to_float 0 (λ x. real_from (finite_matrix2 x) (determinant2 x)) 0 s.m.now s.out.now c.one-t.ensures c.if-t-ne0.true
 
 pub returns : goal.returns
-returns c = let s = c.args in
+returns c =
+    let s = c.args in
     one-worked a_matrix2 to_float 0 (λ x. real_from (finite_matrix2 x) (determinant2 x)) 0 s.m.now s.out.now c.one-t.ensures c.if-t-ne0.false c.matrix2-x.ensures c.matrix2_determinant-r.ensures c.float.ensures

@@ -9,9 +9,11 @@ use Rattle.given.proofs.Admission.{two-refused, two-worked}
 use Rattle.capi_floats.proofs.values.sugamdely_matrix3_image.Goals as goal
 
 pub returns-then-t-ne0 : goal.returns-then-t-ne0
-returns-then-t-ne0 c = let s = c.args in
+returns-then-t-ne0 c =
+    let s = c.args in
     two-refused a_matrix3 a_vector to_vector (λ x y. vector_from (finite_matrix3 x && finite_vector y) (image3 x y)) 0 s.m.now 0 s.v.now s.out.now c.two-t.ensures c.if-t-ne0.true
 
 pub returns : goal.returns
-returns c = let s = c.args in
+returns c =
+    let s = c.args in
     two-worked a_matrix3 a_vector to_vector (λ x y. vector_from (finite_matrix3 x && finite_vector y) (image3 x y)) 0 s.m.now 0 s.v.now s.out.now c.two-t.ensures c.if-t-ne0.false c.matrix3-x.ensures c.vector-y.ensures c.matrix3_image-r.ensures c.vector.ensures

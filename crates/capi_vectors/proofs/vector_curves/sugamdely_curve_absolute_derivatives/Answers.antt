@@ -7,7 +7,8 @@ use Rattle.given.specs.Lists.{output, input}
 use Rattle.capi_vectors.proofs.vector_curves.sugamdely_curve_absolute_derivatives.Goals as goal
 
 pub returns-then-t-ne0 : goal.returns-then-t-ne0
-returns-then-t-ne0 c = let s = c.args in
+returns-then-t-ne0 c =
+    let s = c.args in
     let n = s.a_order in
     let a = s.a.now in
     let out = s.out.now in
@@ -15,7 +16,8 @@ returns-then-t-ne0 c = let s = c.args in
     c.one-t.ensures c.if-t-ne0.true
 
 pub returns : goal.returns
-returns c = let s = c.args in
+returns c =
+    let s = c.args in
     let n = s.a_order in
     let a = s.a.now in
     let out = s.out.now in

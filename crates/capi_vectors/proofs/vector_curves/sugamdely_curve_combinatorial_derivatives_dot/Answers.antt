@@ -11,9 +11,11 @@ use Rattle.given.specs.Lists.{output, input}
 use Rattle.capi_vectors.proofs.vector_curves.sugamdely_curve_combinatorial_derivatives_dot.Goals as goal
 
 pub returns-then-t-ne0 : goal.returns-then-t-ne0
-returns-then-t-ne0 c = let s = c.args in
+returns-then-t-ne0 c =
+    let s = c.args in
     two-refused (input vector_curves) (input vector_curves) (output curves) (by_formula vector_curves vector_curves curves (product_by (regular real) dot)) s.a_order s.a.now s.b_order s.b.now s.out.now c.two-t.ensures c.if-t-ne0.true
 
 pub returns : goal.returns
-returns c = let s = c.args in
+returns c =
+    let s = c.args in
     two-worked (input vector_curves) (input vector_curves) (output curves) (by_formula vector_curves vector_curves curves (product_by (regular real) dot)) s.a_order s.a.now s.b_order s.b.now s.out.now c.two-t.ensures c.if-t-ne0.false c.vector_curve-x.ensures c.vector_curve-y.ensures c.combinatorial_derivatives_dot-r.ensures c.curve.ensures

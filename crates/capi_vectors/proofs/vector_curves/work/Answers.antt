@@ -5,13 +5,16 @@ use Rattle.capi_vectors.specs.Inner.{vector_curve_operation}
 use Rattle.capi_vectors.proofs.vector_curves.work.Goals as goal
 
 pub returns-in-Sum : goal.returns-in-Sum
-returns-in-Sum c = let s = c.args in
+returns-in-Sum c =
+    let s = c.args in
     c.sum.ensures ∙ sym (ap (λ (o : VectorOperation). vector_curve_operation o s.a s.b) c.in-Sum.is)
 
 pub returns-in-Difference : goal.returns-in-Difference
-returns-in-Difference c = let s = c.args in
+returns-in-Difference c =
+    let s = c.args in
     c.difference.ensures ∙ sym (ap (λ (o : VectorOperation). vector_curve_operation o s.a s.b) c.in-Difference.is)
 
 pub returns-in-Cross : goal.returns-in-Cross
-returns-in-Cross c = let s = c.args in
+returns-in-Cross c =
+    let s = c.args in
     c.combinatorial_derivatives_cross.ensures ∙ sym (ap (λ (o : VectorOperation). vector_curve_operation o s.a s.b) c.in-Cross.is)

@@ -11,9 +11,11 @@ use Rattle.given.specs.Lists.{input}
 use Rattle.capi_vectors.proofs.vector_surfaces.sugamdely_surface_combinatorial_derivative_scaled.Goals as goal
 
 pub returns-then-t-ne0 : goal.returns-then-t-ne0
-returns-then-t-ne0 c = let s = c.args in
+returns-then-t-ne0 c =
+    let s = c.args in
     two-refused-at (input vector_surfaces) (input surfaces) to_vector (λ x y. vector_entry_at vector_surfaces surfaces (λ p q. product_by vectors multiple p q s.m s.n) x y (s.m + s.n)) s.a_order s.a.now s.b_order s.b.now s.out.now (s.m + s.n) (asked-at _ _ _ c.order_sum-asked.ensures c.two_at-t.ensures) c.if-t-ne0.true
 
 pub returns : goal.returns
-returns c = let s = c.args in
+returns c =
+    let s = c.args in
     two-worked-at (input vector_surfaces) (input surfaces) to_vector (λ x y. vector_entry_at vector_surfaces surfaces (λ p q. product_by vectors multiple p q s.m s.n) x y (s.m + s.n)) s.a_order s.a.now s.b_order s.b.now s.out.now (s.m + s.n) (asked-at _ _ _ c.order_sum-asked.ensures c.two_at-t.ensures) c.if-t-ne0.false c.vector_surface-x.ensures c.surface-y.ensures c.combinatorial_derivative_scaled-r.ensures c.vector.ensures

@@ -8,9 +8,11 @@ use Rattle.vector_derivatives.specs.Answer.{vector_surfaces}
 use Rattle.capi_vectors.proofs.vector_surfaces.sugamdely_vector_composite_derivative.Goals as goal
 
 pub returns-then-t-ne0 : goal.returns-then-t-ne0
-returns-then-t-ne0 c = let s = c.args in
+returns-then-t-ne0 c =
+    let s = c.args in
     two-refused-at (input vector_surfaces) (input parameters) to_vector (λ x y. vector_along_curve_at x y s.n) s.a_order s.a.now s.c_order s.c.now s.out.now s.n (asked-at _ _ _ c.order-asked.ensures c.two_at-t.ensures) c.if-t-ne0.true
 
 pub returns : goal.returns
-returns c = let s = c.args in
+returns c =
+    let s = c.args in
     two-worked-at (input vector_surfaces) (input parameters) to_vector (λ x y. vector_along_curve_at x y s.n) s.a_order s.a.now s.c_order s.c.now s.out.now s.n (asked-at _ _ _ c.order-asked.ensures c.two_at-t.ensures) c.if-t-ne0.false c.vector_surface-x.ensures c.parameter-y.ensures c.composite_derivative-r.ensures c.vector.ensures

@@ -11,12 +11,6 @@ use Rattle.calculus.proofs.LoopCut.{uncut}
 use Rattle.surface_info.proofs.Entries.{dot-left}
 use Rattle.contacts.proofs.steps.derivative_dot_difference.Goals as goal
 
-pub derivative-d-requires : goal.derivative-d-requires
-derivative-d-requires c = tt
-
-pub dot_difference-requires : goal.dot_difference-requires
-dot_difference-requires c = tt
-
 pub returns : goal.returns
 returns c =
     let a = c.args in

@@ -4,11 +4,5 @@ use Rattle.vector_formulas.specs.Vector.{vector_surface_numbers}
 use Rattle.surface_info.specs.SurfaceInfo.{form}
 use Rattle.contacts.proofs.steps.form_at.Goals as goal
 
-pub offset-requires : goal.offset-requires
-offset-requires c = tt
-
-pub form-requires : goal.form-requires
-form-requires c = tt
-
 pub returns : goal.returns
 returns c = c.form.ensures ∙ ap (form (vector_surface_numbers c.args.s.now)) c.offset.ensures

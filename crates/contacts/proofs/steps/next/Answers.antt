@@ -10,12 +10,6 @@ use Rattle.contacts.specs.Center.{next}
 use Rattle.contacts.proofs.Parts.{formed}
 use Rattle.contacts.proofs.steps.next.Goals as goal
 
-pub routine-requires : goal.routine-requires
-routine-requires c = tt
-
-pub routine-requires-2 : goal.routine-requires-2
-routine-requires-2 c = tt
-
 pub returns : goal.returns
 unfolding next
 returns c =

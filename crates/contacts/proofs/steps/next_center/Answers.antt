@@ -5,12 +5,6 @@ use Rattle.vector_formulas.specs.Vector.{stored}
 use Rattle.contacts.specs.Center.{next_center}
 use Rattle.contacts.proofs.steps.next_center.Goals as goal
 
-pub image-requires : goal.image-requires
-image-requires c = tt
-
-pub put-requires : goal.put-requires
-put-requires c = tt
-
 pub returns : goal.returns
 unfolding next_center
 returns c =

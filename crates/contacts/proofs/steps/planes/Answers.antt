@@ -4,12 +4,6 @@ use Rattle.ieee_vectors.specs.Matrices.{columns, transposed}
 use Rattle.ieee_vectors.specs.declared.Vector3.{Vector3}
 use Rattle.contacts.proofs.steps.planes.Goals as goal
 
-pub vector_at-e-requires : goal.vector_at-e-requires
-vector_at-e-requires c = tt
-
-pub by_rows-requires : goal.by_rows-requires
-by_rows-requires c = tt
-
 pub returns : goal.returns
 returns c =
     let p = c.args.p in

@@ -11,12 +11,6 @@ use Rattle.formulas.specs.Numbers.{curve_numbers}
 use Rattle.vector_formulas.specs.Vector.{vector_numbers}
 use Rattle.contacts.proofs.steps.right_side.Goals as goal
 
-pub derivative_dot-y-requires : goal.derivative_dot-y-requires
-derivative_dot-y-requires c = tt
-
-pub derivative_dot-z-requires : goal.derivative_dot-z-requires
-derivative_dot-z-requires c = tt
-
 pub returns : goal.returns
 returns c =
     let a = c.args in

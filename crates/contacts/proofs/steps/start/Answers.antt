@@ -3,15 +3,6 @@ use Rattle.contacts.specs.Center.{start}
 use Rattle.contacts.proofs.Parts.{formed}
 use Rattle.contacts.proofs.steps.start.Goals as goal
 
-pub first_only-requires : goal.first_only-requires
-first_only-requires c = tt
-
-pub initial-requires : goal.initial-requires
-initial-requires c = tt
-
-pub initial-requires-2 : goal.initial-requires-2
-initial-requires-2 c = tt
-
 pub returns : goal.returns
 unfolding start
 returns c = λ i. formed (c.first_only.ensures i) (c.initial.ensures i) (c.initial-2.ensures i)

@@ -18,15 +18,6 @@ one_more : (e : ℕ → Vector3) (r : ℕ → Float) (s t : ℕ → ℕ → Vect
 unfolding after
 one_more e r s t v k m = ap (next e r s t v (after e r s t v k m)) (add-one m) ∙ ap (after e r s t v k) (sym (add-one m))
 
-pub planes-requires : goal.planes-requires
-planes-requires c = tt
-
-pub unchecked_inverse-inverse-requires : goal.unchecked_inverse-inverse-requires
-unchecked_inverse-inverse-requires c = tt
-
-pub start-k-requires : goal.start-k-requires
-start-k-requires c = tt
-
 pub loop-m-init : goal.loop-m-init
 loop-m-init c =
     let p = c.args.p in

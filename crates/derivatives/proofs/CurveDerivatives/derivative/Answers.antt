@@ -13,11 +13,13 @@ use mathlib.Core.Path.{◌∙◌, ap}
 use Rattle.derivatives.proofs.CurveDerivatives.derivative.Goals as goal
 
 pub returns-then-n-gt20 : goal.returns-then-n-gt20
-returns-then-n-gt20 c = let s = c.args in
+returns-then-n-gt20 c =
+    let s = c.args in
     c.refused_curve.ensures ∙ less-above-20 curves derivative s.self c.if-n-gt20.true
 
 pub returns-then-n-eq0 : goal.returns-then-n-eq0
-returns-then-n-eq0 c = let s = c.args in
+returns-then-n-eq0 c =
+    let s = c.args in
     c.refused_curve-then-n-eq0.ensures ∙ less_none curves derivative s.self c.if-n-gt20.false c.if-n-eq0.true
 
 pub returns-then-not-finite_curve : goal.returns-then-not-finite_curve

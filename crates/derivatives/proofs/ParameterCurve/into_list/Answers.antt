@@ -7,11 +7,13 @@ use mathlib.Core.Path.{ap, ◌∙◌}
 use Rattle.derivatives.proofs.ParameterCurve.into_list.Goals as goal
 
 pub returns-then-n-gt20 : goal.returns-then-n-gt20
-returns-then-n-gt20 c = let s = c.args in
+returns-then-n-gt20 c =
+    let s = c.args in
     into-above-20 parameters s.self s.out.now c.if-n-gt20.true
 
 pub returns-then-out-n : goal.returns-then-out-n
-returns-then-out-n c = let s = c.args in
+returns-then-out-n c =
+    let s = c.args in
     into-length parameters s.self s.out.now c.if-n-gt20.false (twice s.self.order) c.if-out-n.true
 
 pub returns-then-not-curves_finite : goal.returns-then-not-curves_finite

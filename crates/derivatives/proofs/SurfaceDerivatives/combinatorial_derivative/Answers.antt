@@ -14,15 +14,18 @@ use native.Mathlib.Omega.{arith}
 use Rattle.derivatives.proofs.SurfaceDerivatives.combinatorial_derivative.Goals as goal
 
 pub returns-then-above_20_sum_at : goal.returns-then-above_20_sum_at
-returns-then-above_20_sum_at c = let s = c.args in
+returns-then-above_20_sum_at c =
+    let s = c.args in
     at-above-20 surfaces surfaces Refused (λ x y. returned (product real x y s.m s.n)) s.self s.other (s.m + s.n) c.above_20_sum_at.ensures c.if-above_20_sum_at.true
 
 pub overflow_add-o : goal.overflow_add-o
-overflow_add-o c = let s = c.args in
+overflow_add-o c =
+    let s = c.args in
     omega (arith, near-at s.self.order s.other.order (s.m + s.n) c.above_20_sum_at.ensures c.if-above_20_sum_at.false)
 
 pub returns-then-smaller-o : goal.returns-then-smaller-o
-returns-then-smaller-o c = let s = c.args in
+returns-then-smaller-o c =
+    let s = c.args in
     at-beyond surfaces surfaces Refused (λ x y. returned (product real x y s.m s.n)) s.self s.other (s.m + s.n) c.above_20_sum_at.ensures c.if-above_20_sum_at.false c.smaller.ensures c.if-smaller-o.true
 
 pub surfaces_finite-requires : goal.surfaces_finite-requires

@@ -13,11 +13,13 @@ use mathlib.Core.Path.{ap, ◌∙◌}
 use Rattle.derivatives.proofs.SurfaceDerivatives.composite_derivative.Goals as goal
 
 pub returns-then-above_20_at : goal.returns-then-above_20_at
-returns-then-above_20_at c = let s = c.args in
+returns-then-above_20_at c =
+    let s = c.args in
     at-above-20 surfaces parameters Refused (λ x y. returned (composite_derivative (regular real) y.0 y.1 x s.order)) s.self s.curve s.order c.above_20_at.ensures c.if-above_20_at.true
 
 pub returns-then-smaller-order : goal.returns-then-smaller-order
-returns-then-smaller-order c = let s = c.args in
+returns-then-smaller-order c =
+    let s = c.args in
     at-beyond surfaces parameters Refused (λ x y. returned (composite_derivative (regular real) y.0 y.1 x s.order)) s.self s.curve s.order c.above_20_at.ensures c.if-above_20_at.false c.smaller.ensures c.if-smaller-order.true
 
 pub all_finite-requires : goal.all_finite-requires

@@ -7,11 +7,13 @@ use Rattle.derivatives.specs.Answer.{surfaces}
 use Rattle.derivatives.proofs.SurfaceDerivatives.from_list.Goals as goal
 
 pub returns-then-order-gt20 : goal.returns-then-order-gt20
-returns-then-order-gt20 c = let s = c.args in
+returns-then-order-gt20 c =
+    let s = c.args in
     c.refused_surface.ensures ∙ list-above-20 surfaces s.order s.list.now c.if-order-gt20.true
 
 pub returns-then-list-surface_count : goal.returns-then-list-surface_count
-returns-then-list-surface_count c = let s = c.args in
+returns-then-list-surface_count c =
+    let s = c.args in
     c.refused_surface-then-list-surface_count.ensures ∙ list_length surfaces s.order s.list.now c.if-order-gt20.false (counted s.order c.if-order-gt20.false c.surface_count.ensures) c.if-list-surface_count.true
 
 pub returns-then-not-finite_list : goal.returns-then-not-finite_list

@@ -7,11 +7,13 @@ use mathlib.Core.Path.{ap, ◌∙◌}
 use Rattle.derivatives.proofs.SurfaceDerivatives.into_list.Goals as goal
 
 pub returns-then-n-gt20 : goal.returns-then-n-gt20
-returns-then-n-gt20 c = let s = c.args in
+returns-then-n-gt20 c =
+    let s = c.args in
     into-above-20 surfaces s.self s.out.now c.if-n-gt20.true
 
 pub returns-then-out-surface_count : goal.returns-then-out-surface_count
-returns-then-out-surface_count c = let s = c.args in
+returns-then-out-surface_count c =
+    let s = c.args in
     into-length surfaces s.self s.out.now c.if-n-gt20.false (counted s.self.order c.if-n-gt20.false c.surface_count.ensures) c.if-out-surface_count.true
 
 pub returns-then-not-finite_surface : goal.returns-then-not-finite_surface

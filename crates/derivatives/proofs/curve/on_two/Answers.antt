@@ -12,11 +12,13 @@ use mathlib.Core.Path.{sym, ◌∙◌, ap}
 use Rattle.derivatives.proofs.curve.on_two.Goals as goal
 
 pub returns-then-above_20 : goal.returns-then-above_20
-returns-then-above_20 c = let s = c.args in
+returns-then-above_20 c =
+    let s = c.args in
     c.refused_curve.ensures ∙ two-above-20 curves curves refused_curve (by_curve_entries s.f) s.a s.b c.above_20.ensures c.if-above_20.true
 
 pub curves_finite-requires : goal.curves_finite-requires
-curves_finite-requires c = let s = c.args in
+curves_finite-requires c =
+    let s = c.args in
     near s.a.order s.b.order c.above_20.ensures c.if-above_20.false c.smaller-k.ensures
 
 pub returns-then-not-curves_finite : goal.returns-then-not-curves_finite

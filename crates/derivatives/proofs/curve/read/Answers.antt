@@ -17,5 +17,6 @@ pub loop-m-preserved : goal.loop-m-preserved
 loop-m-preserved c = (curve-more 21 nan positive_zero (λ k v. curve_numbers c.args.list.now k ≡ v) _ c.loop-m.invariant.0 (omega arith) refl, omega arith)
 
 pub returns : goal.returns
-returns c = let s = c.args in
+returns c =
+    let s = c.args in
     ap (λ (l : List Float). made_curve s.n l) (curve-all 21 nan positive_zero (λ k v. curve_numbers s.list.now k ≡ v) (curve_numbers s.list.now) (λ k v e. sym e) (suc s.n) c.loop-m.invariant.0 (omega arith))

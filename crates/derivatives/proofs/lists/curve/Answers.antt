@@ -7,13 +7,16 @@ use mathlib.Core.Path.{sym, ◌∙◌}
 use Rattle.derivatives.proofs.lists.curve.Goals as goal
 
 pub returns-then-order-gt20 : goal.returns-then-order-gt20
-returns-then-order-gt20 c = let s = c.args in
+returns-then-order-gt20 c =
+    let s = c.args in
     c.refused_curve.ensures ∙ rw (lt-ltb 20 s.order c.if-order-gt20.true)
 
 pub returns-then-list-order : goal.returns-then-list-order
-returns-then-list-order c = let s = c.args in
+returns-then-list-order c =
+    let s = c.args in
     c.refused_curve-then-list-order.ensures ∙ rw (le-ltb 20 s.order c.if-order-gt20.false, ne_eqb (length s.list.now) (suc s.order) (λ q. c.if-list-order.true (q ∙ sym (add-one s.order))))
 
 pub returns : goal.returns
-returns c = let s = c.args in
+returns c =
+    let s = c.args in
     c.read.ensures ∙ rw (le-ltb 20 s.order c.if-order-gt20.false, eq-eqb (length s.list.now) (suc s.order) (c.if-list-order.false ∙ add-one s.order))

@@ -8,7 +8,8 @@ use mathlib.Core.Path.{sym, ◌∙◌}
 use Rattle.derivatives.proofs.lists.surface.Goals as goal
 
 pub returns-then-order-gt20 : goal.returns-then-order-gt20
-returns-then-order-gt20 c = let s = c.args in
+returns-then-order-gt20 c =
+    let s = c.args in
     c.refused_surface.ensures ∙ rw (lt-ltb 20 s.order c.if-order-gt20.true)
 
 pub returns-then-list-k : goal.returns-then-list-k

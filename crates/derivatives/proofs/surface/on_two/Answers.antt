@@ -13,11 +13,13 @@ use mathlib.Core.Path.{sym, ◌∙◌, ap}
 use Rattle.derivatives.proofs.surface.on_two.Goals as goal
 
 pub returns-then-above_20 : goal.returns-then-above_20
-returns-then-above_20 c = let s = c.args in
+returns-then-above_20 c =
+    let s = c.args in
     c.refused_surface.ensures ∙ two-above-20 surfaces surfaces refused_surface (by_surface_entries s.f) s.a s.b c.above_20.ensures c.if-above_20.true
 
 pub surfaces_finite-requires : goal.surfaces_finite-requires
-surfaces_finite-requires c = let s = c.args in
+surfaces_finite-requires c =
+    let s = c.args in
     near s.a.order s.b.order c.above_20.ensures c.if-above_20.false c.smaller-k.ensures
 
 pub returns-then-not-surfaces_finite : goal.returns-then-not-surfaces_finite

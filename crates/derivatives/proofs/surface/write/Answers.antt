@@ -59,5 +59,6 @@ pub shape_of-out : goal.shape_of-out
 shape_of-out c = c.loop-i.invariant.0.long ∙ rows-length (surface_numbers c.args.a.now) 0 (suc c.args.n) ∙ sym c.requires.1
 
 pub returns : goal.returns
-returns c = let e : c.loop-i.j ≡ 0 = omega arith in
+returns c =
+    let e : c.loop-i.j ≡ 0 = omega arith in
     writing-ends (surface_entries (surface_numbers c.args.a.now) c.args.n) c.loop-i.invariant.0 (ap (surface_left (surface_numbers c.args.a.now) c.args.n c.loop-i.i) e ∙ surface-end (surface_numbers c.args.a.now) c.args.n c.loop-i-test.false)

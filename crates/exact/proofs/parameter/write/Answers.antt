@@ -23,6 +23,7 @@ loop-m-init c =
 
 pub offset_bounds-out-k : goal.offset_bounds-out-k
 offset_bounds-out-k c =
+    -- the pair of the order m is next, and has places in the list
     let next : let a = c.args in let u = curve_numbers a.u.now in let v = curve_numbers a.v.now in
     pairs_left u v a.n c.loop-m.m ≡ u c.loop-m.m ∷ (v c.loop-m.m ∷ pairs_left u v a.n (c.loop-m.m + 1)) = let a = c.args in
     pairs_next (curve_numbers a.u.now) (curve_numbers a.v.now) a.n c.loop-m.m c.loop-m-test.true in

@@ -26,6 +26,7 @@ index-k-requires c = omega (arith, entry-inside c.loop-i.invariant.0 c.loop-i-te
 
 pub offset_bounds-list-l : goal.offset_bounds-list-l
 offset_bounds-list-l c =
+    -- the number read stands in the list
     let read-place : c.loop-i.l < triangle (suc c.args.n) = rw c.loop-i.invariant.1 (list-place c.args.n c.loop-i.i c.loop-i.j (entry-inside c.loop-i.invariant.0 c.loop-i-test.true)) in
     omega (arith, read-place)
 

@@ -32,6 +32,7 @@ index-l-requires c = omega (arith, entry-inside c.loop-i.invariant c.loop-i-test
 
 pub offset_bounds-a-l : goal.offset_bounds-a-l
 offset_bounds-a-l c =
+    -- the entry read stands in the array
     let read-place : c.index-l.result < 231 = let a = c.args in
     in_array (c.loop-i.i + a.p) (c.loop-i.j + a.q) c.index-l.ensures (omega (arith, entry-inside c.loop-i.invariant c.loop-i-test.true)) in
     omega (arith, read-place)

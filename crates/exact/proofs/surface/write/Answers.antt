@@ -25,6 +25,7 @@ index-k-requires c = omega (arith, c.loop-i.invariant.1.1 c.loop-i-test.true)
 
 pub offset_bounds-a-k : goal.offset_bounds-a-k
 offset_bounds-a-k c =
+    -- where the entry stands in the array, and that it has a place in the list
     let place : c.index-k.result < 231 = in_array c.loop-i.i c.loop-i.j c.index-k.ensures (omega (arith, c.loop-i.invariant.1.1 c.loop-i-test.true)) in
     omega (arith, place)
 
@@ -69,6 +70,7 @@ loop-i-smaller-then-n-i c = omega (arith, c.loop-i.invariant.1.1 c.loop-i-test.t
 
 pub loop-i-preserved-then-n-i : goal.loop-i-preserved-then-n-i
 loop-i-preserved-then-n-i c =
+    -- the entry is written
     let goes_on : let s = surface_numbers c.args.a.now in let n = c.args.n in
     SFits w64 (get_or c.args.a.now c.index-k.result (pos 0)) →
     Writing (surface_entries s n) (set c.loop-i.out c.loop-i.l (to_z w64 (of_z w64 (get_or c.args.a.now c.index-k.result (pos 0))))) (surface_left s n c.loop-i.i (c.loop-i.j + 1)) (c.loop-i.l + 1) = λ f.

@@ -15,6 +15,7 @@ use Rattle.exact_formulas.proofs.curves.leibniz_term.Goals as goal
 
 pub offset_bounds-c-k : goal.offset_bounds-c-k
 offset_bounds-c-k c =
+    -- the coefficient stands in the table
     let place : c.index-k.result < 231 = in_table c.args.m c.args.i c.index-k.ensures c.requires.0 c.requires.1 in
     omega (arith, place)
 

@@ -14,6 +14,7 @@ use Rattle.exact_formulas.proofs.surfaces.entry.Goals as goal
 
 pub offset_bounds-a-k : goal.offset_bounds-a-k
 offset_bounds-a-k c =
+    -- where the entry stands in the array
     let place : c.index-k.result < 231 = in_array c.args.m c.args.n c.index-k.ensures c.requires.0 in
     omega (arith, place)
 

@@ -16,6 +16,7 @@ use Rattle.exact_formulas.proofs.surfaces.leibniz_term.Goals as goal
 
 pub offset_bounds-a-p : goal.offset_bounds-a-p
 offset_bounds-a-p c =
+    -- the two entries stand in their arrays, and the two coefficients in the table
     let first : c.index-p.result < 231 = let a = c.args in in_array a.i a.j c.index-p.ensures (search rules) in
     omega (arith, first)
 

@@ -8,10 +8,12 @@ use Rattle.exact_lists.proofs.deliver.surface.Goals as goal
 
 pub returns-then-c-ne0 : goal.returns-then-c-ne0
 unfolding deliver
-returns-then-c-ne0 c = let s = c.args in
+returns-then-c-ne0 c =
+    let s = c.args in
     refused s.out.now refl (into_list surfaces s.a.jet s.out.now) c.if-c-ne0.true
 
 pub returns : goal.returns
 unfolding deliver
-returns c = let s = c.args in
+returns c =
+    let s = c.args in
     allowed s.out.now refl c.if-c-ne0.false c.into_list.ensures

@@ -3,7 +3,8 @@ use Rattle.fillet_lists.specs.Records.{contact_of}
 use Rattle.fillet_lists.proofs.records.circle.Goals as goal
 
 pub returns : goal.returns
-returns c = let s = c.args in
+returns c =
+    let s = c.args in
     λ i. record {
       center = c.vector-center.ensures i;
       axis = c.vector-axis.ensures i;

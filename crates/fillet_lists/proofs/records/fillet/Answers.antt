@@ -2,7 +2,8 @@
 use Rattle.fillet_lists.proofs.records.fillet.Goals as goal
 
 pub returns : goal.returns
-returns c = let s = c.args in
+returns c =
+    let s = c.args in
     λ i. record {
       edge_curve = s.edge_curve;
       surface0 = s.surface0;

@@ -15,6 +15,7 @@ tensor-sum-requires c = (list-short c.args.list.now c.requires.0 c.requires.1, c
 
 pub int_to_float-coefficient : goal.int_to_float-coefficient
 int_to_float-coefficient c =
+    -- the number that the list counts is its multiplicity
     let same : c.in-Value.m ≡ multiplicity c.args.list.now = value_of c.in-Value.is (c.multiplicity-count.ensures ∙ counted-list c.args.list.now c.requires.0 c.requires.1) in
     subst (λ n. T (in_float binary64 (pos n))) (sym same) (held _ (multiplicity-below c.args.list.now c.requires.0 c.requires.1))
 

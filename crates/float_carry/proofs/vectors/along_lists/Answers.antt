@@ -21,6 +21,7 @@ loop-step-init c =
 
 pub slice_bounds-parts-end : goal.slice_bounds-parts-end
 slice_bounds-parts-end c =
+    -- a list was handed out, or the walk has ended
     let handed_out : c.loop-step.step.item.ended ≡ false = not-true c.loop-step.step.item.ended c.loop-step-test.true in
     let listed : let s = c.args in
     Is s.len s.order s.order (take s.len c.loop-step.step.item.parts) = c.loop-step.invariant.1 handed_out in
@@ -43,6 +44,7 @@ summand-term-requires c =
 pub loop-step-smaller : goal.loop-step-smaller
 loop-step-smaller c =
     let handed_out : c.loop-step.step.item.ended ≡ false = not-true c.loop-step.step.item.ended c.loop-step-test.true in
+    -- the step that the turn ends with
     let next : let s = c.args in
     Steps s.order s.len (remaining c.loop-step.step.walk) c.step-step-in-loop-step.result = let s = c.args in
     subst (Steps s.order s.len (remaining c.loop-step.step.walk)) (sym c.step-step-in-loop-step.ensures)

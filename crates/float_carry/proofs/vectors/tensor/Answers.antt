@@ -34,6 +34,7 @@ loop-mask-init c = (c.zero-sum.ensures, omega arith)
 
 pub overflow_cast-k : goal.overflow_cast-k
 overflow_cast-k c =
+    -- the mask is below 2 ^ len, so that it has at most len ones
     let below : c.loop-mask.mask < 2 ^ length c.args.list.now = subst (λ x. c.loop-mask.mask < x) (masks-shift (length c.args.list.now) c.requires.0) c.loop-mask-test.true in
     let few : ones c.loop-mask.mask ≤ length c.args.list.now = ones-le (length c.args.list.now) c.loop-mask.mask below in
     omega (arith, few, c.requires.0)

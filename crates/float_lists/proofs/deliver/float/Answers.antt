@@ -10,12 +10,14 @@ use Rattle.float_lists.proofs.deliver.float.Goals as goal
 
 pub returns-then-out-ne1 : goal.returns-then-out-ne1
 unfolding deliver_float
-returns-then-out-ne1 c = let s = c.args in
+returns-then-out-ne1 c =
+    let s = c.args in
     unwritten (c.in-Value.x ∷ []) s.out.now c.if-out-ne1.true ∙ sym (ap (λ (r : Real). deliver_float r s.out.now) c.in-Value.is)
 
 pub returns-else-out-ne1 : goal.returns-else-out-ne1
 unfolding deliver_float
-returns-else-out-ne1 c = let s = c.args in
+returns-else-out-ne1 c =
+    let s = c.args in
     let all : List Float = c.in-Value.x ∷ [] in
     all-written all s.out.now c.if-out-ne1.false (writing-ends all (writing-goes-on all (writing_begins all s.out.now refl c.if-out-ne1.false) refl) refl)
     ∙ sym (ap (λ (r : Real). deliver_float r s.out.now) c.in-Value.is)

@@ -12,14 +12,16 @@ use Rattle.float_lists.proofs.deliver.matrix2.Goals as goal
 
 pub returns-then-c-ne0 : goal.returns-then-c-ne0
 unfolding deliver_matrix2
-returns-then-c-ne0 c = let s = c.args in
+returns-then-c-ne0 c =
+    let s = c.args in
     let m = s.a.matrix in
     let all : List Float = m.a ∷ m.b ∷ m.c ∷ m.d ∷ [] in
     refused s.out.now refl (written all s.out.now) c.if-c-ne0.true
 
 pub returns-then-out-ne4 : goal.returns-then-out-ne4
 unfolding deliver_matrix2
-returns-then-out-ne4 c = let s = c.args in
+returns-then-out-ne4 c =
+    let s = c.args in
     let m = s.a.matrix in
     let all : List Float = m.a ∷ m.b ∷ m.c ∷ m.d ∷ [] in
     allowed s.out.now refl c.if-c-ne0.false (unwritten all s.out.now c.if-out-ne4.true)
@@ -29,7 +31,8 @@ bounds-out-3 c = simp length-set (omega arith)
 
 pub returns : goal.returns
 unfolding deliver_matrix2
-returns c = let s = c.args in
+returns c =
+    let s = c.args in
     let m = s.a.matrix in
     let all : List Float = m.a ∷ m.b ∷ m.c ∷ m.d ∷ [] in
     allowed s.out.now refl c.if-c-ne0.false (all-written all s.out.now c.if-out-ne4.false

@@ -12,14 +12,16 @@ use Rattle.float_lists.proofs.deliver.matrix3.Goals as goal
 
 pub returns-then-c-ne0 : goal.returns-then-c-ne0
 unfolding deliver_matrix3
-returns-then-c-ne0 c = let s = c.args in
+returns-then-c-ne0 c =
+    let s = c.args in
     let m = s.a.matrix in
     let all : List Float = m.c0.x ∷ m.c0.y ∷ m.c0.z ∷ m.c1.x ∷ m.c1.y ∷ m.c1.z ∷ m.c2.x ∷ m.c2.y ∷ m.c2.z ∷ [] in
     refused s.out.now refl (written all s.out.now) c.if-c-ne0.true
 
 pub returns-then-out-ne9 : goal.returns-then-out-ne9
 unfolding deliver_matrix3
-returns-then-out-ne9 c = let s = c.args in
+returns-then-out-ne9 c =
+    let s = c.args in
     let m = s.a.matrix in
     let all : List Float = m.c0.x ∷ m.c0.y ∷ m.c0.z ∷ m.c1.x ∷ m.c1.y ∷ m.c1.z ∷ m.c2.x ∷ m.c2.y ∷ m.c2.z ∷ [] in
     allowed s.out.now refl c.if-c-ne0.false (unwritten all s.out.now c.if-out-ne9.true)
@@ -50,7 +52,8 @@ shape_of-out c = simp length-set
 
 pub returns : goal.returns
 unfolding deliver_matrix3
-returns c = let s = c.args in
+returns c =
+    let s = c.args in
     let m = s.a.matrix in
     let all : List Float = m.c0.x ∷ m.c0.y ∷ m.c0.z ∷ m.c1.x ∷ m.c1.y ∷ m.c1.z ∷ m.c2.x ∷ m.c2.y ∷ m.c2.z ∷ [] in
     allowed s.out.now refl c.if-c-ne0.false (all-written all s.out.now c.if-out-ne9.false

@@ -10,14 +10,16 @@ use Rattle.float_lists.proofs.deliver.vector.Goals as goal
 
 pub returns-then-out-ne3 : goal.returns-then-out-ne3
 unfolding deliver_vector
-returns-then-out-ne3 c = let s = c.args in
+returns-then-out-ne3 c =
+    let s = c.args in
     let v = c.in-Value.v in
     let all : List Float = v.x ∷ v.y ∷ v.z ∷ [] in
     unwritten all s.out.now c.if-out-ne3.true ∙ sym (ap (λ (r : VectorAnswer). deliver_vector r s.out.now) c.in-Value.is)
 
 pub returns-else-out-ne3 : goal.returns-else-out-ne3
 unfolding deliver_vector
-returns-else-out-ne3 c = let s = c.args in
+returns-else-out-ne3 c =
+    let s = c.args in
     let v = c.in-Value.v in
     let all : List Float = v.x ∷ v.y ∷ v.z ∷ [] in
     all-written all s.out.now c.if-out-ne3.false (writing-ends all (writing-goes-on all (writing-goes-on all (writing-goes-on all (writing_begins all s.out.now refl c.if-out-ne3.false) refl) refl) refl) refl)

@@ -10,14 +10,16 @@ use Rattle.float_lists.proofs.deliver.vector2.Goals as goal
 
 pub returns-then-out-ne2 : goal.returns-then-out-ne2
 unfolding deliver_vector2
-returns-then-out-ne2 c = let s = c.args in
+returns-then-out-ne2 c =
+    let s = c.args in
     let v = c.in-Value.v in
     let all : List Float = v.x ∷ v.y ∷ [] in
     unwritten all s.out.now c.if-out-ne2.true ∙ sym (ap (λ (r : Vector2Answer). deliver_vector2 r s.out.now) c.in-Value.is)
 
 pub returns-else-out-ne2 : goal.returns-else-out-ne2
 unfolding deliver_vector2
-returns-else-out-ne2 c = let s = c.args in
+returns-else-out-ne2 c =
+    let s = c.args in
     let v = c.in-Value.v in
     let all : List Float = v.x ∷ v.y ∷ [] in
     all-written all s.out.now c.if-out-ne2.false (writing-ends all (writing-goes-on all (writing-goes-on all (writing_begins all s.out.now refl c.if-out-ne2.false) refl) refl) refl)

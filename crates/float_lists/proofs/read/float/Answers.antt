@@ -7,10 +7,12 @@ use Rattle.float_lists.proofs.read.float.Goals as goal
 
 pub returns-then-l-i : goal.returns-then-l-i
 unfolding div of_bits
-returns-then-l-i c = let s = c.args in
+returns-then-l-i c =
+    let s = c.args in
     sym (get_or-eq_default s.l.now nan (omega arith))
 
 pub returns-then-l-i-2 : goal.returns-then-l-i-2
 unfolding div of_bits
-returns-then-l-i-2 c = let s = c.args in
+returns-then-l-i-2 c =
+    let s = c.args in
     sym (get_or-eq_default s.l.now nan (omega arith))

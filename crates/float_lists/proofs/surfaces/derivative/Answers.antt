@@ -8,7 +8,8 @@ use Rattle.derivatives.specs.Answer.{surfaces}
 use Rattle.float_lists.proofs.surfaces.derivative.Goals as goal
 
 pub returns-then-t-ne0 : goal.returns-then-t-ne0
-returns-then-t-ne0 c = let s = c.args in
+returns-then-t-ne0 c =
+    let s = c.args in
     let n = s.a_order in
     let a = s.a.now in
     let out = s.out.now in
@@ -16,7 +17,8 @@ returns-then-t-ne0 c = let s = c.args in
     c.lowered-t.ensures c.if-t-ne0.true
 
 pub returns : goal.returns
-returns c = let s = c.args in
+returns c =
+    let s = c.args in
     let n = s.a_order in
     let a = s.a.now in
     let out = s.out.now in

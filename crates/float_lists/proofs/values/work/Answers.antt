@@ -5,13 +5,16 @@ use Rattle.float_lists.specs.Operations.{vector_operation}
 use Rattle.float_lists.proofs.values.work.Goals as goal
 
 pub returns-in-Sum : goal.returns-in-Sum
-returns-in-Sum c = let s = c.args in
+returns-in-Sum c =
+    let s = c.args in
     c.vector_sum.ensures ∙ sym (ap (λ (o : VectorOperation). vector_operation o s.a s.b) c.in-Sum.is)
 
 pub returns-in-Difference : goal.returns-in-Difference
-returns-in-Difference c = let s = c.args in
+returns-in-Difference c =
+    let s = c.args in
     c.vector_difference.ensures ∙ sym (ap (λ (o : VectorOperation). vector_operation o s.a s.b) c.in-Difference.is)
 
 pub returns-in-Cross : goal.returns-in-Cross
-returns-in-Cross c = let s = c.args in
+returns-in-Cross c =
+    let s = c.args in
     c.vector_cross.ensures ∙ sym (ap (λ (o : VectorOperation). vector_operation o s.a s.b) c.in-Cross.is)

@@ -6,11 +6,13 @@ use native.Mathlib.Omega.{arith}
 use Rattle.formulas.proofs.curve_entries.entries.Goals as goal
 
 pub loop-m-init : goal.loop-m-init
-loop-m-init c = let s = c.args in
+loop-m-init c =
+    let s = c.args in
     (numbers-none (curve_of s.f (curve_numbers s.a.now) (curve_numbers s.b.now)), omega arith)
 
 pub loop-m-preserved : goal.loop-m-preserved
-loop-m-preserved c = let l = c.loop-m in
+loop-m-preserved c =
+    let l = c.loop-m in
     let s = c.args in
     let x = curve_numbers s.a.now in
     let y = curve_numbers s.b.now in (
@@ -20,5 +22,6 @@ loop-m-preserved c = let l = c.loop-m in
     )
 
 pub returns : goal.returns
-returns c = let s = c.args in
+returns c =
+    let s = c.args in
     numbers-all (curve_of s.f (curve_numbers s.a.now) (curve_numbers s.b.now)) (suc s.n) c.loop-m.invariant.0 (omega arith)

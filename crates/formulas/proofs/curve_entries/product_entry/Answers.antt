@@ -19,6 +19,7 @@ pub loop-i-preserved : goal.loop-i-preserved
 loop-i-preserved c = (one_more real.plus positive_zero _ c.loop-i.invariant.0 c.leibniz_term-t.ensures (add-one c.loop-i.i), omega arith)
 
 pub returns : goal.returns
-returns c = let s = c.args in
+returns c =
+    let s = c.args in
     let e : c.loop-i.i ≡ suc s.m = omega arith in
     c.loop-i.invariant.0 ∙ ap (in_turn real.plus positive_zero (leibniz (regular real) real.times (curve_numbers s.a.now) (curve_numbers s.b.now) s.m)) e

@@ -14,7 +14,8 @@ unfolding in_turn
 loop-i-init c = (refl, omega arith, omega arith)
 
 pub loop-i-preserved : goal.loop-i-preserved
-loop-i-preserved c = let s = c.args in
+loop-i-preserved c =
+    let s = c.args in
     let j : c.loop-i.i ≡ suc (c.loop-i.i - 1) = omega arith in
     let k : c.loop-i.i + 1 - 1 ≡ suc (c.loop-i.i - 1) = omega arith in (
       one_more real.plus _ (λ k. rational_term (regular real) real.over (curve_numbers s.w.now) (curve_numbers s.q.now) s.m (suc k)) c.loop-i.invariant.0
@@ -24,7 +25,8 @@ loop-i-preserved c = let s = c.args in
     )
 
 pub returns : goal.returns
-returns c = let s = c.args in
+returns c =
+    let s = c.args in
     let e : c.loop-i.i - 1 ≡ s.m - 1 = omega arith in
     ap (λ x. real.over (real.minus (curve_numbers s.x.now s.m) x) (curve_numbers s.w.now 0))
     (c.loop-i.invariant.0 ∙ ap (in_turn real.plus (real.times (curve_numbers s.q.now 0) (curve_numbers s.w.now s.m))

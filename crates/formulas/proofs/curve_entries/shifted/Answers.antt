@@ -11,9 +11,11 @@ pub loop-m-init : goal.loop-m-init
 loop-m-init c = (numbers-none (derivative (curve_numbers c.args.a.now)), omega arith)
 
 pub loop-m-preserved : goal.loop-m-preserved
-loop-m-preserved c = let x = curve_numbers c.args.a.now in
+loop-m-preserved c =
+    let x = curve_numbers c.args.a.now in
     (numbers_more (derivative x) _ c.loop-m.invariant.0 (omega arith) (ap x (sym (add-one c.loop-m.m))), omega arith)
 
 pub returns : goal.returns
-returns c = let s = c.args in
+returns c =
+    let s = c.args in
     numbers-all (derivative (curve_numbers s.a.now)) (suc s.n) c.loop-m.invariant.0 (omega arith)

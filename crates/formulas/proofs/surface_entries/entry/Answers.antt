@@ -35,17 +35,21 @@ pub bounds-b-k-in-Difference : goal.bounds-b-k-in-Difference
 bounds-b-k-in-Difference c = omega (arith, c.index-k.ensures, index-231 c.args.m c.args.n c.requires.0)
 
 pub returns-in-Sum : goal.returns-in-Sum
-returns-in-Sum c = let s = c.args in
+returns-in-Sum c =
+    let s = c.args in
     ap₂ real.plus (ap (λ (k : ℕ). get_or s.a.now k nan) c.index-k.ensures) (ap (λ (k : ℕ). get_or s.b.now k nan) c.index-k.ensures) ∙ sym (ap (λ f. surface_formula f (surface_numbers s.a.now) (surface_numbers s.b.now) (surface_numbers s.q.now) s.m s.n) c.in-Sum.is)
 
 pub returns-in-Difference : goal.returns-in-Difference
-returns-in-Difference c = let s = c.args in
+returns-in-Difference c =
+    let s = c.args in
     ap₂ real.minus (ap (λ (k : ℕ). get_or s.a.now k nan) c.index-k.ensures) (ap (λ (k : ℕ). get_or s.b.now k nan) c.index-k.ensures) ∙ sym (ap (λ f. surface_formula f (surface_numbers s.a.now) (surface_numbers s.b.now) (surface_numbers s.q.now) s.m s.n) c.in-Difference.is)
 
 pub returns-in-Product : goal.returns-in-Product
-returns-in-Product c = let s = c.args in
+returns-in-Product c =
+    let s = c.args in
     c.product_entry.ensures ∙ sym (ap (λ f. surface_formula f (surface_numbers s.a.now) (surface_numbers s.b.now) (surface_numbers s.q.now) s.m s.n) c.in-Product.is)
 
 pub returns-in-Quotient : goal.returns-in-Quotient
-returns-in-Quotient c = let s = c.args in
+returns-in-Quotient c =
+    let s = c.args in
     c.rational_entry.ensures ∙ sym (ap (λ f. surface_formula f (surface_numbers s.a.now) (surface_numbers s.b.now) (surface_numbers s.q.now) s.m s.n) c.in-Quotient.is)

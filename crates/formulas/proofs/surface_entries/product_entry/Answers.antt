@@ -19,5 +19,6 @@ pub loop-i-preserved : goal.loop-i-preserved
 loop-i-preserved c = (one-row-more real.plus positive_zero (leibniz (regular real) real.times (surface_numbers c.args.a.now) (surface_numbers c.args.b.now) c.args.m c.args.n) (suc c.args.n) c.loop-i.invariant.0 c.product_row-sum.ensures (add-one c.loop-i.i), omega arith)
 
 pub returns : goal.returns
-returns c = let e : c.loop-i.i ≡ suc c.args.m = omega arith in
+returns c =
+    let e : c.loop-i.i ≡ suc c.args.m = omega arith in
     c.loop-i.invariant.0 ∙ ap (λ (k : ℕ). in_rows real.plus positive_zero (leibniz (regular real) real.times (surface_numbers c.args.a.now) (surface_numbers c.args.b.now) c.args.m c.args.n) k (suc c.args.n)) e

@@ -18,6 +18,7 @@ pub loop-j-preserved : goal.loop-j-preserved
 loop-j-preserved c = (one_more real.plus c.args.start _ c.loop-j.invariant.0 c.leibniz_term-t.ensures (add-one c.loop-j.j), omega arith)
 
 pub returns : goal.returns
-returns c = let s = c.args in
+returns c =
+    let s = c.args in
     let e : c.loop-j.j ≡ suc s.n = omega arith in
     c.loop-j.invariant.0 ∙ ap (in_turn real.plus s.start (leibniz (regular real) real.times (surface_numbers s.a.now) (surface_numbers s.b.now) s.m s.n s.i)) e

@@ -30,6 +30,7 @@ bounds-x-k c = omega (arith, c.index-k.ensures, index-231 c.args.m c.args.n c.re
 
 pub returns : goal.returns
 unfolding index
-returns c = let s = c.args in
+returns c =
+    let s = c.args in
     let e : c.loop-i.i ≡ suc s.m = omega arith in
     ap₂ (λ x y. real.over (real.minus x y) (get_or s.w.now 0 nan)) (ap (λ (k : ℕ). get_or s.x.now k nan) c.index-k.ensures) (c.loop-i.invariant.0 ∙ ap (λ (k : ℕ). in_rows real.plus positive_zero (surface_rational_term (regular real) real.over (surface_numbers c.args.w.now) (surface_numbers c.args.q.now) c.args.m c.args.n) k (suc c.args.n)) e)

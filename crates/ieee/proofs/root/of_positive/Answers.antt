@@ -13,6 +13,7 @@ float_to_bits-b c = no_nan c.args.x c.requires
 
 pub of_units-requires : goal.of_units-requires
 of_units-requires c =
+    -- what owning an `f64` tells: the format holds it
     let held : T (fits binary64 c.args.x) = subst T (sym c.well_formed.0.1) tt in
     let fields : Read c.args.x false (to_bits binary64 c.args.x / 2 ^ 52) (to_bits binary64 c.args.x % 2 ^ 52) = read c.args.x held c.requires in
     ((fields.subnormal c.if-e-eq0.true).0, omega arith, omega arith)

@@ -40,9 +40,6 @@ overflow_shl-m c =
     let h = shift-high (count_leading_zeros 64 c.args.m) p.at c.args.j p.zeros p.narrow in
     omega arith
 
-pub digits-d-requires : goal.digits-d-requires
-digits-d-requires c = tt
-
 pub rounded-q-requires : goal.rounded-q-requires
 rounded-q-requires c = c.digits-d.ensures.2
 
@@ -52,6 +49,7 @@ overflow_mul-result c = omega arith
 pub overflow_add-result : goal.overflow_add-result
 overflow_add-result c =
     let at : Place c.args.m = place c.args.m c.requires.0 c.requires.1 in
+    -- what the two calls ensure
     let found : Digits (c.args.m * 2 ^ shift (count_leading_zeros 64 c.args.m) c.args.j % 2 ^ 64) c.digits-d.result.root c.digits-d.result.rest = let d = c.digits-d.ensures in
     record { value = d.0; below = d.1; small = d.2 } in
     let ends : (2 ^ 52 ≤ c.rounded-q.result) × (c.rounded-q.result ≤ 2 ^ 53) = let d = c.digits-d.result in

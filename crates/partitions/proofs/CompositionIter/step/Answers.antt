@@ -14,6 +14,7 @@ returns-then-self c = c.ended.ensures ∙ step-ended c.args.self (sym c.refusal-
 
 pub slice_bounds-current-end : goal.slice_bounds-current-end
 slice_bounds-current-end c =
+    -- past the first two tests, and past the next two
     let ready : Ready c.args.self = record { none = sym c.refusal-number.ensures ∙ c.if-number-ne0.false; going = c.if-self.false; long = search rules } in
     len-fits ready
 

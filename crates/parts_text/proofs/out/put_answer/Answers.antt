@@ -30,6 +30,7 @@ returns-then-ended c =
 
 pub slice_bounds-parts-end : goal.slice_bounds-parts-end
 slice_bounds-parts-end c =
+    -- the list that the step hands out
     let handed : Next c.loop-next.invariant c.step-next.result = next c.loop-next.invariant c.step-next.ensures c.if-ended.false in
     parts-fit c.loop-next.invariant handed
 

@@ -11,6 +11,7 @@ use Rattle.roads.proofs.SurfaceRecipe.build.Goals as goal
 
 pub slice_bounds-some_above_20-end : goal.slice_bounds-some_above_20-end
 slice_bounds-some_above_20-end c =
+    -- what the orders and the count of the jets given are
     let given : let r = c.args.self in Given surface_steps r.surfaces r.inputs c.orders-all.result c.given-count.result = record { four = c.orders-all.ensures.1; all = c.orders-all.ensures.0; count = c.given-count.ensures } in
     given-length given
 
@@ -23,6 +24,7 @@ returns-then-some_above_20 c =
 pub returns-then-not-well_formed : goal.returns-then-not-well_formed
 returns-then-not-well_formed c =
     let given : let r = c.args.self in Given surface_steps r.surfaces r.inputs c.orders-all.result c.given-count.result = record { four = c.orders-all.ensures.1; all = c.orders-all.ensures.0; count = c.given-count.ensures } in
+    -- past the first test no order is above 20
     let low : some_above20 (take c.given-count.result c.orders-all.result) ≡ false = sym c.some_above_20.ensures ∙ c.if-some_above_20.false in
     let r = c.args.self in
     c.refused_surface-then-not-well_formed.ensures ∙ ill-formed given r.steps r.program low (sym c.well_formed-2.ensures ∙ c.if-not-well_formed.true)
@@ -34,6 +36,7 @@ slice_bounds-smallest-end c =
 
 pub cut-jet_of-requires : goal.cut-jet_of-requires
 cut-jet_of-requires c =
+    -- past the second the recipe is well formed
     let formed : let r = c.args.self in well_formed r.inputs r.steps (take r.steps r.program) ≡ true = sym c.well_formed-2.ensures ∙ c.if-not-well_formed.false in
     let number : let r = c.args.self in Counts r.inputs r.steps (take r.steps r.program) = let r = c.args.self in counts r.inputs r.steps (take r.steps r.program) formed in
     number.four

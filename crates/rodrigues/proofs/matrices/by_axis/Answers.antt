@@ -5,18 +5,6 @@ use native.Mathlib.Omega.{arith}
 use Rattle.rodrigues.proofs.Orders.{at_x, third}
 use Rattle.rodrigues.proofs.matrices.by_axis.Goals as goal
 
-pub not_by_x-requires : goal.not_by_x-requires
-not_by_x-requires c = tt
-
-pub once_by_x-requires : goal.once_by_x-requires
-once_by_x-requires c = tt
-
-pub twice_by_x-requires : goal.twice_by_x-requires
-twice_by_x-requires c = tt
-
-pub zero-requires : goal.zero-requires
-zero-requires c = tt
-
 pub returns-in-0 : goal.returns-in-0
 returns-in-0 c =
     let r = c.args in

@@ -5,36 +5,6 @@ use native.Mathlib.Omega.{arith}
 use Rattle.rodrigues.proofs.Orders.{at, third}
 use Rattle.rodrigues.proofs.matrices.not_by_x.Goals as goal
 
-pub rodrigues-requires : goal.rodrigues-requires
-rodrigues-requires c = tt
-
-pub by_z-requires : goal.by_z-requires
-by_z-requires c = tt
-
-pub symmetric-requires : goal.symmetric-requires
-symmetric-requires c = tt
-
-pub zero-requires : goal.zero-requires
-zero-requires c = tt
-
-pub by_y-requires : goal.by_y-requires
-by_y-requires c = tt
-
-pub symmetric-requires-in-1-z-2 : goal.symmetric-requires-in-1-z-2
-symmetric-requires-in-1-z-2 c = tt
-
-pub zero-requires-in_default-z-2 : goal.zero-requires-in_default-z-2
-zero-requires-in_default-z-2 c = tt
-
-pub symmetric-requires-in-0-z-3 : goal.symmetric-requires-in-0-z-3
-symmetric-requires-in-0-z-3 c = tt
-
-pub zero-requires-in_default-z-3 : goal.zero-requires-in_default-z-3
-zero-requires-in_default-z-3 c = tt
-
-pub zero-requires-in_default : goal.zero-requires-in_default
-zero-requires-in_default c = tt
-
 pub returns-in-0-z : goal.returns-in-0-z
 returns-in-0-z c =
     let r = c.args in

@@ -5,24 +5,6 @@ use native.Mathlib.Omega.{arith}
 use Rattle.rodrigues.proofs.Orders.{at, third}
 use Rattle.rodrigues.proofs.matrices.once_by_x.Goals as goal
 
-pub by_x-requires : goal.by_x-requires
-by_x-requires c = tt
-
-pub symmetric-requires : goal.symmetric-requires
-symmetric-requires c = tt
-
-pub zero-requires : goal.zero-requires
-zero-requires c = tt
-
-pub symmetric-requires-in-0-z-2 : goal.symmetric-requires-in-0-z-2
-symmetric-requires-in-0-z-2 c = tt
-
-pub zero-requires-in_default-z-2 : goal.zero-requires-in_default-z-2
-zero-requires-in_default-z-2 c = tt
-
-pub zero-requires-in_default : goal.zero-requires-in_default
-zero-requires-in_default c = tt
-
 pub returns-in-0-z : goal.returns-in-0-z
 returns-in-0-z c =
     let r = c.args in

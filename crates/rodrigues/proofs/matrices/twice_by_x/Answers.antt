@@ -5,15 +5,6 @@ use native.Mathlib.Omega.{arith}
 use Rattle.rodrigues.proofs.Orders.{at, third}
 use Rattle.rodrigues.proofs.matrices.twice_by_x.Goals as goal
 
-pub symmetric-requires : goal.symmetric-requires
-symmetric-requires c = tt
-
-pub zero-requires : goal.zero-requires
-zero-requires c = tt
-
-pub zero-requires-in_default : goal.zero-requires-in_default
-zero-requires-in_default c = tt
-
 pub returns-in-0-z : goal.returns-in-0-z
 returns-in-0-z c =
     let r = c.args in

@@ -9,21 +9,6 @@ use Rattle.vectors.proofs.Picked.{vector-from}
 use Rattle.rolling_ball_fillet.specs.Answers.{finite_circle, derivative}
 use Rattle.rolling_ball_fillet.proofs.ContactCircle.derivative_n.Goals as goal
 
-pub order_served-requires : goal.order_served-requires
-order_served-requires c = tt
-
-pub is_finite-requires : goal.is_finite-requires
-is_finite-requires c = tt
-
-pub finite_with-inputs-requires : goal.finite_with-inputs-requires
-finite_with-inputs-requires c = tt
-
-pub along_arc-requires : goal.along_arc-requires
-along_arc-requires c = tt
-
-pub vector_from-requires : goal.vector_from-requires
-vector_from-requires c = tt
-
 pub returns-then-order_served : goal.returns-then-order_served
 returns-then-order_served c =
     let r = c.args in

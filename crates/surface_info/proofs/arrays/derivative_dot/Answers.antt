@@ -11,15 +11,6 @@ use Rattle.calculus.proofs.LoopCut.{uncut}
 use Rattle.surface_info.proofs.Entries.{dot-left}
 use Rattle.surface_info.proofs.arrays.derivative_dot.Goals as goal
 
-pub smaller-k-requires : goal.smaller-k-requires
-smaller-k-requires c = tt
-
-pub derivative-d-requires : goal.derivative-d-requires
-derivative-d-requires c = tt
-
-pub dot-requires : goal.dot-requires
-dot-requires c = tt
-
 pub returns : goal.returns
 returns c =
     let k = c.smaller-k in

@@ -7,12 +7,6 @@ use Rattle.vector_formulas.specs.Vector.{vectors, vector_numbers}
 use Rattle.surface_info.proofs.Entries.{dot-right}
 use Rattle.surface_info.proofs.arrays.dot_difference.Goals as goal
 
-pub difference-e-requires : goal.difference-e-requires
-difference-e-requires c = tt
-
-pub dot-requires : goal.dot-requires
-dot-requires c = tt
-
 pub returns : goal.returns
 returns c =
     let a = c.args in

@@ -6,9 +6,6 @@ use Rattle.calculus.specs.Carry.{composite_derivative}
 use Rattle.calculus.proofs.LoopCut.{uncut}
 use Rattle.surface_info.proofs.products.along.Goals as goal
 
-pub derivative-requires : goal.derivative-requires
-derivative-requires c = tt
-
 pub returns : goal.returns
 returns c =
     let a = c.args in

@@ -5,12 +5,6 @@ use Rattle.calculus.specs.Surface.{derivative_u}
 use Rattle.surface_info.proofs.Entries.{along-derived}
 use Rattle.surface_info.proofs.products.along_u.Goals as goal
 
-pub derivative_u-d-requires : goal.derivative_u-d-requires
-derivative_u-d-requires c = tt
-
-pub derivative-requires : goal.derivative-requires
-derivative-requires c = tt
-
 pub returns : goal.returns
 returns c =
     let a = c.args in

@@ -5,12 +5,6 @@ use Rattle.calculus.specs.Surface.{derivative_v}
 use Rattle.surface_info.proofs.Entries.{along-derived}
 use Rattle.surface_info.proofs.products.along_v.Goals as goal
 
-pub derivative_v-d-requires : goal.derivative_v-d-requires
-derivative_v-d-requires c = tt
-
-pub derivative-requires : goal.derivative-requires
-derivative-requires c = tt
-
 pub returns : goal.returns
 returns c =
     let a = c.args in

@@ -6,9 +6,6 @@ use Rattle.vector_formulas.specs.Vector.{vectors, vector_numbers}
 use Rattle.calculus.proofs.LoopCut.{uncut}
 use Rattle.surface_info.proofs.products.cross_entry.Goals as goal
 
-pub cross-requires : goal.cross-requires
-cross-requires c = tt
-
 pub returns : goal.returns
 returns c =
     let a = c.args in

@@ -11,12 +11,6 @@ use Rattle.calculus.proofs.LoopCut.{uncut}
 use Rattle.surface_info.proofs.Entries.{product-left}
 use Rattle.surface_info.proofs.products.derivative_product.Goals as goal
 
-pub derivative-d-requires : goal.derivative-d-requires
-derivative-d-requires c = tt
-
-pub product-requires : goal.product-requires
-product-requires c = tt
-
 pub returns : goal.returns
 returns c =
     let a = c.args in

@@ -11,12 +11,6 @@ use Rattle.calculus.proofs.LoopCut.{uncut}
 use Rattle.vector_formulas.proofs.Vectors.{vectors-agree}
 use Rattle.surface_info.proofs.products.rational_entry.Goals as goal
 
-pub rational-q-requires : goal.rational-q-requires
-rational-q-requires c = tt
-
-pub vector_at-requires : goal.vector_at-requires
-vector_at-requires c = tt
-
 pub returns : goal.returns
 returns c =
     let a = c.args in

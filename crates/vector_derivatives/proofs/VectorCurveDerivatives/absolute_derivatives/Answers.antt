@@ -14,7 +14,8 @@ use mathlib.Core.Path.{sym, ap, ◌∙◌}
 use Rattle.vector_derivatives.proofs.VectorCurveDerivatives.absolute_derivatives.Goals as goal
 
 pub returns-then-n-gt20 : goal.returns-then-n-gt20
-returns-then-n-gt20 c = let s = c.args in
+returns-then-n-gt20 c =
+    let s = c.args in
     c.refused_curve.ensures ∙ one-above-20 vector_curves refused_curve (λ x n. cond (ltb 0 n && is_zero (vector_norm x 0)) (refused_curve 7) (returned_curve n (vector_norm x))) s.self c.if-n-gt20.true
 
 pub returns-then-not-curve_finite : goal.returns-then-not-curve_finite

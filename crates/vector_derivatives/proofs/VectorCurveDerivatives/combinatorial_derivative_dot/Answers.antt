@@ -14,11 +14,13 @@ use mathlib.Core.Path.{ap, ◌∙◌}
 use Rattle.vector_derivatives.proofs.VectorCurveDerivatives.combinatorial_derivative_dot.Goals as goal
 
 pub returns-then-above_20_at : goal.returns-then-above_20_at
-returns-then-above_20_at c = let s = c.args in
+returns-then-above_20_at c =
+    let s = c.args in
     at-above-20 vector_curves vector_curves Refused (λ x y. returned (product_by (regular real) dot x y s.order)) s.self s.other s.order c.above_20_at.ensures c.if-above_20_at.true
 
 pub returns-then-smaller-order : goal.returns-then-smaller-order
-returns-then-smaller-order c = let s = c.args in
+returns-then-smaller-order c =
+    let s = c.args in
     at-beyond vector_curves vector_curves Refused (λ x y. returned (product_by (regular real) dot x y s.order)) s.self s.other s.order c.above_20_at.ensures c.if-above_20_at.false c.smaller.ensures c.if-smaller-order.true
 
 pub both_finite-requires : goal.both_finite-requires

@@ -13,11 +13,13 @@ use mathlib.Core.Path.{◌∙◌, ap}
 use Rattle.vector_derivatives.proofs.VectorCurveDerivatives.combinatorial_derivatives_dot.Goals as goal
 
 pub returns-then-above_20 : goal.returns-then-above_20
-returns-then-above_20 c = let s = c.args in
+returns-then-above_20 c =
+    let s = c.args in
     c.refused_curve.ensures ∙ two-above-20 vector_curves vector_curves refused_curve (λ x y n. returned_curve n (product_by (regular real) dot x y)) s.self s.other c.above_20.ensures c.if-above_20.true
 
 pub both_finite-requires : goal.both_finite-requires
-both_finite-requires c = let s = c.args in
+both_finite-requires c =
+    let s = c.args in
     near s.self.order s.other.order c.above_20.ensures c.if-above_20.false c.smaller-k.ensures
 
 pub returns-then-not-both_finite : goal.returns-then-not-both_finite

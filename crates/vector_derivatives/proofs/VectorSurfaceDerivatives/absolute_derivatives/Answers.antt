@@ -17,7 +17,8 @@ use mathlib.Core.Path.{sym, ap, ◌∙◌}
 use Rattle.vector_derivatives.proofs.VectorSurfaceDerivatives.absolute_derivatives.Goals as goal
 
 pub returns-then-n-gt20 : goal.returns-then-n-gt20
-returns-then-n-gt20 c = let s = c.args in
+returns-then-n-gt20 c =
+    let s = c.args in
     c.refused_surface.ensures ∙ one-above-20 vector_surfaces refused_surface (λ x n. cond (ltb 0 n && is_zero (vector_surface_norm x 0 0)) (refused_surface 7) (returned_surface n (vector_surface_norm x))) s.self c.if-n-gt20.true
 
 pub returns-then-not-surface_finite : goal.returns-then-not-surface_finite

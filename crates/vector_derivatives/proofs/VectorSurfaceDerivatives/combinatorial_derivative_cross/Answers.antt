@@ -14,15 +14,18 @@ use native.Mathlib.Omega.{arith}
 use Rattle.vector_derivatives.proofs.VectorSurfaceDerivatives.combinatorial_derivative_cross.Goals as goal
 
 pub returns-then-above_20_sum_at : goal.returns-then-above_20_sum_at
-returns-then-above_20_sum_at c = let s = c.args in
+returns-then-above_20_sum_at c =
+    let s = c.args in
     at-above-20 vector_surfaces vector_surfaces Refused (λ x y. returned_vector (product_by vectors cross x y s.m s.n)) s.self s.other (s.m + s.n) c.above_20_sum_at.ensures c.if-above_20_sum_at.true
 
 pub overflow_add-o : goal.overflow_add-o
-overflow_add-o c = let s = c.args in
+overflow_add-o c =
+    let s = c.args in
     omega (arith, near-at s.self.order s.other.order (s.m + s.n) c.above_20_sum_at.ensures c.if-above_20_sum_at.false)
 
 pub returns-then-smaller-o : goal.returns-then-smaller-o
-returns-then-smaller-o c = let s = c.args in
+returns-then-smaller-o c =
+    let s = c.args in
     at-beyond vector_surfaces vector_surfaces Refused (λ x y. returned_vector (product_by vectors cross x y s.m s.n)) s.self s.other (s.m + s.n) c.above_20_sum_at.ensures c.if-above_20_sum_at.false c.smaller.ensures c.if-smaller-o.true
 
 pub both_finite-requires : goal.both_finite-requires

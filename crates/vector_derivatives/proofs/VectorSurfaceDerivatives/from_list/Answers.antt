@@ -11,15 +11,18 @@ use Rattle.vector_derivatives.specs.Answer.{vector_surfaces}
 use Rattle.vector_derivatives.proofs.VectorSurfaceDerivatives.from_list.Goals as goal
 
 pub returns-then-order-gt20 : goal.returns-then-order-gt20
-returns-then-order-gt20 c = let s = c.args in
+returns-then-order-gt20 c =
+    let s = c.args in
     c.refused.ensures ∙ list-above-20 vector_surfaces s.order s.list.now c.if-order-gt20.true
 
 pub overflow_mul-k : goal.overflow_mul-k
-overflow_mul-k c = let n = c.args.order in
+overflow_mul-k c =
+    let n = c.args.order in
     omega (arith, counted n c.if-order-gt20.false c.surface_count-k.ensures, room-231 n c.if-order-gt20.false)
 
 pub returns-then-list-k : goal.returns-then-list-k
-returns-then-list-k c = let s = c.args in
+returns-then-list-k c =
+    let s = c.args in
     c.refused-then-list-k.ensures ∙ list_length vector_surfaces s.order s.list.now c.if-order-gt20.false (ap (◌*◌ 3) (counted s.order c.if-order-gt20.false c.surface_count-k.ensures)) c.if-list-k.true
 
 pub returns-then-not-finite_list : goal.returns-then-not-finite_list

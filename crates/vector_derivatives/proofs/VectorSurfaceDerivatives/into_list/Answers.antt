@@ -10,15 +10,18 @@ use mathlib.Core.Path.{ap, ◌∙◌}
 use Rattle.vector_derivatives.proofs.VectorSurfaceDerivatives.into_list.Goals as goal
 
 pub returns-then-n-gt20 : goal.returns-then-n-gt20
-returns-then-n-gt20 c = let s = c.args in
+returns-then-n-gt20 c =
+    let s = c.args in
     into-above-20 vector_surfaces s.self s.out.now c.if-n-gt20.true
 
 pub overflow_mul-k : goal.overflow_mul-k
-overflow_mul-k c = let n = c.args.self.order in
+overflow_mul-k c =
+    let n = c.args.self.order in
     omega (arith, counted n c.if-n-gt20.false c.surface_count-k.ensures, room-231 n c.if-n-gt20.false)
 
 pub returns-then-out-k : goal.returns-then-out-k
-returns-then-out-k c = let s = c.args in
+returns-then-out-k c =
+    let s = c.args in
     into-length vector_surfaces s.self s.out.now c.if-n-gt20.false (ap (◌*◌ 3) (counted s.self.order c.if-n-gt20.false c.surface_count-k.ensures)) c.if-out-k.true
 
 pub returns-then-not-surface_finite : goal.returns-then-not-surface_finite

@@ -14,11 +14,13 @@ use mathlib.Core.Path.{◌∙◌, ap}
 use Rattle.vector_derivatives.proofs.curve.on_two.Goals as goal
 
 pub returns-then-above_20 : goal.returns-then-above_20
-returns-then-above_20 c = let s = c.args in
+returns-then-above_20 c =
+    let s = c.args in
     c.refused.ensures ∙ two-above-20 vector_curves vector_curves refused_vector_curve (by_vector_entries s.f) s.a s.b c.above_20.ensures c.if-above_20.true
 
 pub both_finite-requires : goal.both_finite-requires
-both_finite-requires c = let s = c.args in
+both_finite-requires c =
+    let s = c.args in
     near s.a.order s.b.order c.above_20.ensures c.if-above_20.false c.smaller-k.ensures
 
 pub returns-then-not-both_finite : goal.returns-then-not-both_finite

@@ -14,11 +14,13 @@ use mathlib.Core.Path.{sym, ◌∙◌, ap}
 use Rattle.vector_derivatives.proofs.curve.on_weighted.Goals as goal
 
 pub returns-then-above_20 : goal.returns-then-above_20
-returns-then-above_20 c = let s = c.args in
+returns-then-above_20 c =
+    let s = c.args in
     c.refused.ensures ∙ two-above-20 vector_curves curves refused_vector_curve (by_weighted_entries s.f) s.a s.b c.above_20.ensures c.if-above_20.true
 
 pub weighted_finite-requires : goal.weighted_finite-requires
-weighted_finite-requires c = let s = c.args in
+weighted_finite-requires c =
+    let s = c.args in
     near s.a.order s.b.order c.above_20.ensures c.if-above_20.false c.smaller-k.ensures
 
 pub returns-then-not-weighted_finite : goal.returns-then-not-weighted_finite

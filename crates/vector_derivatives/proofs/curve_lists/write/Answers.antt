@@ -17,5 +17,6 @@ pub shape_of-out : goal.shape_of-out
 shape_of-out c = c.loop-i.invariant.0.long ∙ sym c.requires.1
 
 pub returns : goal.returns
-returns c = let s = c.args in
+returns c =
+    let s = c.args in
     written_all c.loop-i.invariant.0 (omega arith) ∙ flat-listed (curve_numbers s.a.now) 0 (suc s.n)

@@ -11,11 +11,13 @@ use mathlib.Core.Path.{sym, ap, ◌∙◌}
 use Rattle.vector_derivatives.proofs.lists.surface.Goals as goal
 
 pub returns-then-order-gt20 : goal.returns-then-order-gt20
-returns-then-order-gt20 c = let s = c.args in
+returns-then-order-gt20 c =
+    let s = c.args in
     c.refused.ensures ∙ rw (lt-ltb 20 s.order c.if-order-gt20.true)
 
 pub overflow_mul-k : goal.overflow_mul-k
-overflow_mul-k c = let n = c.args.order in
+overflow_mul-k c =
+    let n = c.args.order in
     omega (arith, counted n c.if-order-gt20.false c.surface_count-k.ensures, room-231 n c.if-order-gt20.false)
 
 pub returns-then-list-k : goal.returns-then-list-k

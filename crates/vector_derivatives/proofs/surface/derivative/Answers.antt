@@ -9,11 +9,13 @@ use Prim.Native.Nat.{◌-◌}
 use Rattle.vector_derivatives.proofs.surface.derivative.Goals as goal
 
 pub returns-then-n-gt20 : goal.returns-then-n-gt20
-returns-then-n-gt20 c = let s = c.args in
+returns-then-n-gt20 c =
+    let s = c.args in
     c.refused.ensures ∙ less-above-20 vector_surfaces (derivative_by s.by) s.a c.if-n-gt20.true
 
 pub returns-then-n-eq0 : goal.returns-then-n-eq0
-returns-then-n-eq0 c = let s = c.args in
+returns-then-n-eq0 c =
+    let s = c.args in
     c.refused-then-n-eq0.ensures ∙ less_none vector_surfaces (derivative_by s.by) s.a c.if-n-gt20.false c.if-n-eq0.true
 
 pub returns-then-not-surface_finite : goal.returns-then-not-surface_finite

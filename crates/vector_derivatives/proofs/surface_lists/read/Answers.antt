@@ -9,7 +9,8 @@ use Rattle.vector_derivatives.proofs.surface_lists.read.Goals as goal
 
 pub loop-i-init : goal.loop-i-init
 unfolding row_start
-loop-i-init c = let s = c.args in
+loop-i-init c =
+    let s = c.args in
     ((c.requires.0, surface-begins (λ x y. vector_numbers s.list.now (list_place s.n x y)) c.requires.0), refl)
 
 pub index-k-requires : goal.index-k-requires
@@ -59,5 +60,6 @@ loop-i-preserved c =
     ((p.invariant.0.0, surface-goes-on (λ x y. vector_numbers s.list.now (list_place s.n x y)) p.invariant.0.0 p.invariant.0.1 t (ap (vector_numbers s.list.now) (sym p.invariant.1) ∙ sym c.vector_at-e.ensures) c.index-k.ensures c.store.ensures c.if-n-i.false), omega (arith, p.invariant.1))
 
 pub returns : goal.returns
-returns c = let p = c.loop-i in let s = c.args in
+returns c =
+    let p = c.loop-i in let s = c.args in
     surface-ends (λ x y. vector_numbers s.list.now (list_place s.n x y)) p.invariant.0.0 p.invariant.0.1 c.loop-i-test.false

@@ -18,7 +18,8 @@ listed-length : (s : ℕ → ℕ → Vector3) (n : ℕ) → length (flat (surfac
 listed-length s n = flat-length (surface_entries s n) ∙ ap (◌*◌ 3) (rows-length s 0 (suc n))
 
 pub loop-i-init : goal.loop-i-init
-loop-i-init c = let s = c.args in
+loop-i-init c =
+    let s = c.args in
     let x = vector_surface_numbers s.a.now in
     (writing_begins (flat (surface_entries x s.n)) s.out.now (ap flat (surface-start x s.n)) (c.requires.1 ∙ sym (listed-length x s.n)), (omega arith, λ h. omega arith))
 
@@ -75,12 +76,14 @@ loop-i-preserved c =
     (w, (omega arith, λ h. c.if-n-i.false))
 
 pub shape_of-out : goal.shape_of-out
-shape_of-out c = let s = c.args in
+shape_of-out c =
+    let s = c.args in
     c.loop-i.invariant.0.long ∙ listed-length (vector_surface_numbers s.a.now) s.n ∙ sym c.requires.1
 
 pub returns : goal.returns
 unfolding flat
-returns c = let s = c.args in
+returns c =
+    let s = c.args in
     let x = vector_surface_numbers s.a.now in
     let e : c.loop-i.j ≡ 0 = omega arith in
     writing-ends (flat (surface_entries x s.n)) c.loop-i.invariant.0 (ap (λ (j : ℕ). flat (surface_left x s.n c.loop-i.i j)) e ∙ ap flat (surface-end x s.n c.loop-i-test.false))

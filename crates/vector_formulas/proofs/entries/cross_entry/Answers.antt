@@ -17,6 +17,7 @@ pub loop-i-preserved : goal.loop-i-preserved
 loop-i-preserved c = (c.add-sum.ensures ∙ one_more vectors.plus origin _ c.loop-i.invariant.0 c.cross_term-t.ensures (add-one c.loop-i.i), omega arith)
 
 pub returns : goal.returns
-returns c = let s = c.args in
+returns c =
+    let s = c.args in
     let e : c.loop-i.i ≡ suc s.m = omega arith in
     c.loop-i.invariant.0 ∙ ap (in_turn vectors.plus origin (leibniz vectors cross (vector_numbers s.a.now) (vector_numbers s.b.now) s.m)) e

@@ -7,21 +7,26 @@ use native.Mathlib.Omega.{arith}
 use Rattle.vector_formulas.proofs.entries.entries.Goals as goal
 
 pub loop-m-init : goal.loop-m-init
-loop-m-init c = let s = c.args in
+loop-m-init c =
+    let s = c.args in
     (vectors-none (vectors_of s.f (vector_numbers s.a.now) (vector_numbers s.b.now) (curve_numbers s.w.now)), omega arith)
 
 pub slice_bounds-store-end : goal.slice_bounds-store-end
-slice_bounds-store-end c = let s = c.args in
+slice_bounds-store-end c =
+    let s = c.args in
     vectors-long (vectors_of s.f (vector_numbers s.a.now) (vector_numbers s.b.now) (curve_numbers s.w.now)) c.loop-m.invariant.0
 
 pub store-requires : goal.store-requires
-store-requires c = let s = c.args in
+store-requires c =
+    let s = c.args in
     omega (arith, vectors-long (vectors_of s.f (vector_numbers s.a.now) (vector_numbers s.b.now) (curve_numbers s.w.now)) c.loop-m.invariant.0)
 
 pub loop-m-preserved : goal.loop-m-preserved
-loop-m-preserved c = let l = c.loop-m in let s = c.args in
+loop-m-preserved c =
+    let l = c.loop-m in let s = c.args in
     (vectors-stored (vectors_of s.f (vector_numbers s.a.now) (vector_numbers s.b.now) (curve_numbers s.w.now)) c.entry-e.result l.invariant.0 (omega arith) (vectors-formed s.f (vector_numbers s.a.now) (vector_numbers s.b.now) (curve_numbers s.w.now) l.invariant.0 (omega arith) ∙ sym c.entry-e.ensures) c.store.ensures, omega arith)
 
 pub returns : goal.returns
-returns c = let s = c.args in
+returns c =
+    let s = c.args in
     vectors-all (vectors_of s.f (vector_numbers s.a.now) (vector_numbers s.b.now) (curve_numbers s.w.now)) s.n c.loop-m.invariant.0 (omega arith)

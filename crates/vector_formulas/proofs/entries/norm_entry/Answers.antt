@@ -11,10 +11,12 @@ use mathlib.Core.Path.{◌≡◌, sym, ap, ◌∙◌}
 use Rattle.vector_formulas.proofs.entries.norm_entry.Goals as goal
 
 pub returns-then-m-eq0 : goal.returns-then-m-eq0
-returns-then-m-eq0 c = let s = c.args in
+returns-then-m-eq0 c =
+    let s = c.args in
     c.magnitude.ensures ∙ ap magnitude c.vector_at-v.ensures ∙ ap (norm_entry real square_root dot (vector_numbers s.s.now) (curve_numbers s.q.now)) (sym c.if-m-eq0.true)
 
 pub returns : goal.returns
-returns c = let s = c.args in
+returns c =
+    let s = c.args in
     let e : suc (s.m - 1) ≡ s.m = omega arith in
     ap (λ x. real.over x (curve_numbers s.q.now 0)) c.norm_sum-sum.ensures ∙ ap (norm_entry real square_root dot (vector_numbers s.s.now) (curve_numbers s.q.now)) e

@@ -10,7 +10,8 @@ use mathlib.Core.Path.{ap, ap₂, ◌∙◌}
 use Rattle.vector_formulas.proofs.entries.norm_term.Goals as goal
 
 pub returns : goal.returns
-returns c = let s = c.args in
+returns c =
+    let s = c.args in
     let q = curve_numbers s.q.now in
     ap₂ (λ d k. real.times (real.minus d (real.times (q (s.i + 1)) (q (s.m - s.i)))) k)
     (c.dot-p.ensures ∙ ap₂ dot (c.vector_at-x.ensures ∙ ap (vector_numbers s.s.now) (add-one s.i)) c.vector_at-y.ensures) (c.float-k.ensures ∙ ap real.of_nat c.binomial.ensures)

@@ -6,9 +6,11 @@ use mathlib.Core.Path.{sym, ap, ◌∙◌}
 use Rattle.vector_formulas.proofs.entries.number.Goals as goal
 
 pub returns-in-Dot : goal.returns-in-Dot
-returns-in-Dot c = let s = c.args in
+returns-in-Dot c =
+    let s = c.args in
     c.dot_entry.ensures ∙ sym (ap (λ f. number_formula f (vector_numbers s.a.now) (vector_numbers s.b.now) (curve_numbers s.q.now) s.m) c.in-Dot.is)
 
 pub returns-in-Norm : goal.returns-in-Norm
-returns-in-Norm c = let s = c.args in
+returns-in-Norm c =
+    let s = c.args in
     c.norm_entry.ensures ∙ sym (ap (λ f. number_formula f (vector_numbers s.a.now) (vector_numbers s.b.now) (curve_numbers s.q.now) s.m) c.in-Norm.is)

@@ -7,11 +7,13 @@ use mathlib.Core.Path.{sym, ◌∙◌}
 use Rattle.vector_formulas.proofs.entries.numbers.Goals as goal
 
 pub loop-m-init : goal.loop-m-init
-loop-m-init c = let s = c.args in
+loop-m-init c =
+    let s = c.args in
     (numbers-none (numbers_of s.f (vector_numbers s.a.now) (vector_numbers s.b.now)), omega arith)
 
 pub loop-m-preserved : goal.loop-m-preserved
-loop-m-preserved c = let l = c.loop-m in
+loop-m-preserved c =
+    let l = c.loop-m in
     let s = c.args in
     let x = vector_numbers s.a.now in
     let y = vector_numbers s.b.now in (
@@ -21,5 +23,6 @@ loop-m-preserved c = let l = c.loop-m in
     )
 
 pub returns : goal.returns
-returns c = let s = c.args in
+returns c =
+    let s = c.args in
     numbers-all (numbers_of s.f (vector_numbers s.a.now) (vector_numbers s.b.now)) (suc s.n) c.loop-m.invariant.0 (omega arith)

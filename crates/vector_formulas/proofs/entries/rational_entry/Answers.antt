@@ -14,7 +14,8 @@ unfolding in_turn
 loop-i-init c = (c.mul-sum.ensures ∙ ap (λ v. multiple v (curve_numbers c.args.w.now c.args.m)) c.vector_at-first.ensures, omega arith, omega arith)
 
 pub loop-i-preserved : goal.loop-i-preserved
-loop-i-preserved c = let s = c.args in
+loop-i-preserved c =
+    let s = c.args in
     let j : c.loop-i.i ≡ suc (c.loop-i.i - 1) = omega arith in
     let k : c.loop-i.i + 1 - 1 ≡ suc (c.loop-i.i - 1) = omega arith in (
       c.add-sum.ensures ∙ one_more vectors.plus _ (λ k. rational_term vectors quotient (curve_numbers s.w.now) (vector_numbers s.q.now) s.m (suc k)) c.loop-i.invariant.0
@@ -24,7 +25,8 @@ loop-i-preserved c = let s = c.args in
     )
 
 pub returns : goal.returns
-returns c = let s = c.args in
+returns c =
+    let s = c.args in
     let e : c.loop-i.i - 1 ≡ s.m - 1 = omega arith in
     c.unchecked_div.ensures ∙ ap (λ x. quotient x (curve_numbers s.w.now 0))
     (c.sub-d.ensures ∙ ap₂ vectors.minus c.vector_at-e.ensures

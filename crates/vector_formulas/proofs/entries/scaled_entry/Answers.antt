@@ -18,6 +18,7 @@ pub loop-i-preserved : goal.loop-i-preserved
 loop-i-preserved c = (c.add-sum.ensures ∙ one_more vectors.plus origin _ c.loop-i.invariant.0 c.scaled_term-t.ensures (add-one c.loop-i.i), omega arith)
 
 pub returns : goal.returns
-returns c = let s = c.args in
+returns c =
+    let s = c.args in
     let e : c.loop-i.i ≡ suc s.m = omega arith in
     c.loop-i.invariant.0 ∙ ap (in_turn vectors.plus origin (leibniz vectors multiple (vector_numbers s.a.now) (curve_numbers s.b.now) s.m)) e

@@ -6,6 +6,7 @@ use mathlib.Core.Path.{ap, ◌∙◌}
 use Rattle.vector_formulas.proofs.entries.shifted.Goals as goal
 
 pub returns : goal.returns
-returns c = let s = c.args in
+returns c =
+    let s = c.args in
     let x = vector_numbers s.a.now in
     c.entries_from.ensures ∙ vectors-upto (λ m. x (1 + m)) (λ m. x (suc m)) s.n (λ k l. ap x (after_one k))

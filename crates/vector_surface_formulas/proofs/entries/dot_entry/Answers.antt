@@ -16,10 +16,12 @@ unfolding in_rows
 loop-i-init c = (refl, omega arith)
 
 pub loop-i-preserved : goal.loop-i-preserved
-loop-i-preserved c = let s = c.args in
+loop-i-preserved c =
+    let s = c.args in
     (one-row-more real.plus positive_zero (leibniz (regular real) dot (vector_surface_numbers s.a.now) (vector_surface_numbers s.b.now) s.m s.n) (suc s.n) c.loop-i.invariant.0 c.dot_row-sum.ensures (add-one c.loop-i.i), omega arith)
 
 pub returns : goal.returns
-returns c = let s = c.args in
+returns c =
+    let s = c.args in
     let e : c.loop-i.i ≡ suc s.m = omega arith in
     c.loop-i.invariant.0 ∙ ap (λ (k : ℕ). in_rows real.plus positive_zero (leibniz (regular real) dot (vector_surface_numbers s.a.now) (vector_surface_numbers s.b.now) s.m s.n) k (suc s.n)) e

@@ -10,7 +10,8 @@ use native.Mathlib.Omega.{arith}
 use Rattle.vector_surface_formulas.proofs.entries.dots.Goals as goal
 
 pub loop-i-init : goal.loop-i-init
-loop-i-init c = let s = c.args in
+loop-i-init c =
+    let s = c.args in
     (c.requires, surface-begins (product_by (regular real) dot (vector_surface_numbers s.a.now) (vector_surface_numbers s.b.now)) c.requires)
 
 pub dot_entry-e-requires : goal.dot_entry-e-requires
@@ -35,16 +36,19 @@ pub loop-i-smaller-then-n-i : goal.loop-i-smaller-then-n-i
 loop-i-smaller-then-n-i c = omega (arith, c.loop-i.invariant.1.inside.1 c.loop-i-test.true)
 
 pub loop-i-preserved-then-n-i : goal.loop-i-preserved-then-n-i
-loop-i-preserved-then-n-i c = let s = c.args in
+loop-i-preserved-then-n-i c =
+    let s = c.args in
     (c.loop-i.invariant.0, rw c.index-k.ensures (surface-turns (product_by (regular real) dot (vector_surface_numbers s.a.now) (vector_surface_numbers s.b.now)) c.loop-i.invariant.0 c.loop-i.invariant.1 c.loop-i-test.true (sym c.dot_entry-e.ensures) c.if-n-i.true))
 
 pub loop-i-smaller : goal.loop-i-smaller
 loop-i-smaller c = omega (arith, c.loop-i.invariant.1.inside.1 c.loop-i-test.true)
 
 pub loop-i-preserved : goal.loop-i-preserved
-loop-i-preserved c = let s = c.args in
+loop-i-preserved c =
+    let s = c.args in
     (c.loop-i.invariant.0, rw c.index-k.ensures (surface-goes-on (product_by (regular real) dot (vector_surface_numbers s.a.now) (vector_surface_numbers s.b.now)) c.loop-i.invariant.0 c.loop-i.invariant.1 c.loop-i-test.true (sym c.dot_entry-e.ensures) c.if-n-i.false))
 
 pub returns : goal.returns
-returns c = let s = c.args in
+returns c =
+    let s = c.args in
     surface-ends (product_by (regular real) dot (vector_surface_numbers s.a.now) (vector_surface_numbers s.b.now)) c.loop-i.invariant.0 c.loop-i.invariant.1 c.loop-i-test.false

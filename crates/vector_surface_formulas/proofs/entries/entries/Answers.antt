@@ -8,7 +8,8 @@ use native.Mathlib.Omega.{arith}
 use Rattle.vector_surface_formulas.proofs.entries.entries.Goals as goal
 
 pub loop-i-init : goal.loop-i-init
-loop-i-init c = let s = c.args in
+loop-i-init c =
+    let s = c.args in
     (c.requires, surface-begins (surface_of s.f (vector_surface_numbers s.a.now) (vector_surface_numbers s.b.now) (surface_numbers s.w.now)) c.requires)
 
 pub entry-e-requires : goal.entry-e-requires
@@ -18,11 +19,13 @@ pub index-k-requires : goal.index-k-requires
 index-k-requires c = omega (arith, c.loop-i.invariant.1.inside.1 c.loop-i-test.true)
 
 pub slice_bounds-store-end : goal.slice_bounds-store-end
-slice_bounds-store-end c = let p = c.loop-i in let s = c.args in
+slice_bounds-store-end c =
+    let p = c.loop-i in let s = c.args in
     surface-long (surface_of s.f (vector_surface_numbers s.a.now) (vector_surface_numbers s.b.now) (surface_numbers s.w.now)) p.invariant.0 p.invariant.1
 
 pub store-requires : goal.store-requires
-store-requires c = let p = c.loop-i in let s = c.args in
+store-requires c =
+    let p = c.loop-i in let s = c.args in
     omega (arith, surface-long (surface_of s.f (vector_surface_numbers s.a.now) (vector_surface_numbers s.b.now) (surface_numbers s.w.now)) p.invariant.0 p.invariant.1, c.index-k.ensures, index-231 p.i p.j (omega (arith, c.loop-i.invariant.1.inside.1 c.loop-i-test.true)))
 
 pub overflow_add-j : goal.overflow_add-j
@@ -35,7 +38,8 @@ pub loop-i-smaller-then-n-i : goal.loop-i-smaller-then-n-i
 loop-i-smaller-then-n-i c = omega (arith, c.loop-i.invariant.1.inside.1 c.loop-i-test.true)
 
 pub loop-i-preserved-then-n-i : goal.loop-i-preserved-then-n-i
-loop-i-preserved-then-n-i c = let p = c.loop-i in let s = c.args in
+loop-i-preserved-then-n-i c =
+    let p = c.loop-i in let s = c.args in
     let t = c.loop-i-test.true in
     (p.invariant.0, surface-turns (surface_of s.f (vector_surface_numbers s.a.now) (vector_surface_numbers s.b.now) (surface_numbers s.w.now)) p.invariant.0 p.invariant.1 t (surface-formed s.f (vector_surface_numbers s.a.now) (vector_surface_numbers s.b.now) (surface_numbers s.w.now) p.invariant.0 p.invariant.1.stored (p.invariant.1.inside.1 t) ∙ sym c.entry-e.ensures) c.index-k.ensures c.store.ensures c.if-n-i.true)
 
@@ -43,10 +47,12 @@ pub loop-i-smaller : goal.loop-i-smaller
 loop-i-smaller c = omega (arith, c.loop-i.invariant.1.inside.1 c.loop-i-test.true)
 
 pub loop-i-preserved : goal.loop-i-preserved
-loop-i-preserved c = let p = c.loop-i in let s = c.args in
+loop-i-preserved c =
+    let p = c.loop-i in let s = c.args in
     let t = c.loop-i-test.true in
     (p.invariant.0, surface-goes-on (surface_of s.f (vector_surface_numbers s.a.now) (vector_surface_numbers s.b.now) (surface_numbers s.w.now)) p.invariant.0 p.invariant.1 t (surface-formed s.f (vector_surface_numbers s.a.now) (vector_surface_numbers s.b.now) (surface_numbers s.w.now) p.invariant.0 p.invariant.1.stored (p.invariant.1.inside.1 t) ∙ sym c.entry-e.ensures) c.index-k.ensures c.store.ensures c.if-n-i.false)
 
 pub returns : goal.returns
-returns c = let p = c.loop-i in let s = c.args in
+returns c =
+    let p = c.loop-i in let s = c.args in
     surface-ends (surface_of s.f (vector_surface_numbers s.a.now) (vector_surface_numbers s.b.now) (surface_numbers s.w.now)) p.invariant.0 p.invariant.1 c.loop-i-test.false

@@ -17,6 +17,7 @@ pub loop-j-preserved : goal.loop-j-preserved
 loop-j-preserved c = (c.add-sum.ensures ∙ one_more vectors.plus c.args.start _ c.loop-j.invariant.0 c.term-t.ensures (add-one c.loop-j.j), omega arith)
 
 pub returns : goal.returns
-returns c = let s = c.args in
+returns c =
+    let s = c.args in
     let e : c.loop-j.j ≡ suc s.n = omega arith in
     c.loop-j.invariant.0 ∙ ap (in_turn vectors.plus s.start (term_by s.f (vector_surface_numbers s.a.now) (vector_surface_numbers s.b.now) (surface_numbers s.w.now) s.m s.n s.i)) e

@@ -13,10 +13,12 @@ unfolding in_turn
 loop-j-init c = (refl, omega arith)
 
 pub loop-j-preserved : goal.loop-j-preserved
-loop-j-preserved c = let s = c.args in
+loop-j-preserved c =
+    let s = c.args in
     (c.with_other-sum.ensures ∙ one_more (with_other (surface_numbers s.q.now) s.m s.n) s.start (λ j. (s.i, j)) c.loop-j.invariant.0 refl (add-one c.loop-j.j), omega arith)
 
 pub returns : goal.returns
-returns c = let s = c.args in
+returns c =
+    let s = c.args in
     let e : c.loop-j.j ≡ suc s.n = omega arith in
     c.loop-j.invariant.0 ∙ ap (in_turn (with_other (surface_numbers s.q.now) s.m s.n) s.start (λ j. (s.i, j))) e
