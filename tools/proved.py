@@ -19,6 +19,8 @@ ROOT = pathlib.Path(__file__).resolve().parent.parent
 PAGE = ROOT / "docs" / "PROVED.md"
 BEGIN, END = "<!-- public functions -->", "<!-- end -->"
 COUNT = re.compile(r"(?<=<!-- lines -->).*?(?=<!-- end of lines -->)", re.S)
+HANDED_FUNCTIONS = "given"  # the one crate whose public functions are handed functions, and ask
+CALLABLE = re.compile(r"\s*\w+\.IsAlwaysCallable \w+\s*")  # that these may be called
 TEST_TOOLS = "replay_"
 OF_THE_KIT = ["std", "core", "io", "libc"]
 
@@ -26,11 +28,11 @@ ENTRIES = ["whole", "partitions", "exact", "roads", "vectors", "derivatives", "v
 ARCHIVED = ["capi_exact", "capi_roads", "capi_floats", "capi_vectors", "capi_fillet", "bench_carry"]
 ARCHIVES = [f"{name}_c" for name in ARCHIVED]  # static libraries that say no more than these, so the page has no list of theirs
 BORDER = ARCHIVED
-ARITHMETIC = ["booleans", "calculus", "orders", "exact_formulas", "exact_carry", "ieee", "ieee_vectors", "formulas", "vector_formulas", "vector_surface_formulas", "float_carry",
+ARITHMETIC = ["refusals", "calculus", "orders", "exact_formulas", "exact_carry", "ieee", "ieee_vectors", "formulas", "vector_formulas", "vector_surface_formulas", "float_carry",
               "rodrigues", "surface_info", "contacts", "partials"]
-BORDER_PARTS = ["given", "exact_lists", "float_lists", "fillet_lists"]  # what the crates of the border share
+BORDER_PARTS = ["given", "exact_lists", "fillet_lists"]  # what the crates of the border share
 REFUSING_NUMBERS = ["whole", "partitions"]  # entries that arithmetic may stand on: they refuse by what is formed
-NO_CODE = ["part_counts", "figures"]
+NO_CODE = ["part_counts", "float_lists", "figures"]
 
 # What the crates of entries expose beside answers, and why it has no number to give.
 NUMBERLESS = {
@@ -68,7 +70,7 @@ def functions(text):
     found, owner = [], None
     lines = text.split("\n")
     for k, line in enumerate(lines):
-        if m := re.match(r"impl (\w+) \{", line):
+        if m := re.match(r"impl(?:<[^>]*>)? (\w+)(?:<[^>]*>)? \{", line):
             owner = m.group(1)
         elif line == "}":
             owner = None
@@ -100,6 +102,7 @@ def public(crate):
     root = (source / "lib.rt").read_text()
     open_modules = set(re.findall(r"^pub mod (\w+);", root, re.M))
     passed_on = set(re.findall(r"^pub use (\w+::\w+);", root, re.M))
+    passed_on |= {f"{module}::{name.strip()}" for module, names in re.findall(r"^pub use (\w+)::\{([^}]*)\};", root, re.M) for name in names.split(",")}
     open_types = set()
     for module in ["lib", *sorted(open_modules)]:
         open_types |= set(re.findall(r"^pub (?:struct|enum) (\w+)", (source / f"{module}.rt").read_text(), re.M))
@@ -119,15 +122,15 @@ def public(crate):
                     own, spec = names[first]
                     cited.append((own or rest, spec))
             full = "::".join(filter(None, [crate, module if module in open_modules else None, owner, name]))
-            yield full, file, list(dict.fromkeys(cited)), bool(clauses(head, "requires")), bool(ensures.strip())
+            asks = [clause for clause in clauses(head, "requires") if not (crate == HANDED_FUNCTIONS and CALLABLE.fullmatch(clause))]
+            yield full, file, list(dict.fromkeys(cited)), bool(asks), bool(ensures.strip())
 
 
 def answers():
-    """The types that say a refusal: an enum with the case, a struct with the number, or one that holds such a struct."""
+    """The types that say a refusal: a struct that holds a result of it."""
     source = "\n".join(f.read_text() for f in sorted(ROOT.glob("crates/*/src/**/*.rt")))
     types = dict(re.findall(r"^pub (?:struct|enum) (\w+) \{(.*?)^\}", source, re.M | re.S))
-    say = {name for name, body in types.items() if re.search(r"\bRefused\(u8\)|\brefusal: u8", body)}
-    return say | {name for name, body in types.items() if any(re.search(rf": {s},", body) for s in say)}
+    return {name for name, body in types.items() if re.search(r": Result<.*, Refusal>,", body)}
 
 
 def returned(head):
@@ -136,12 +139,13 @@ def returned(head):
 
 
 def without_number(crate, say):
-    """The public functions of a crate of entries that return neither an answer, nor a refusal's number, nor a test's outcome."""
+    """The public functions of a crate of entries that return neither an answer, nor a refusal or its number, nor a test's outcome."""
     for name, file, _, _, _ in public(crate):
         if name in NUMBERLESS:
             continue
         for owner, own, head in functions(file.read_text()):
-            if f"::{name}".endswith("::".join(["", *filter(None, [owner, own])])) and returned(head) not in say | {"u8", "bool"}:
+            answer = returned(head)
+            if f"::{name}".endswith("::".join(["", *filter(None, [owner, own])])) and not answer.endswith((", Refusal>", ", E>")) and answer not in say | {"u8", "bool"}:
                 yield name
 
 

@@ -2,6 +2,9 @@
 #![tactic(auto)]
 
 ghost use Rattle.std.specs.Prelude.{◌≡◌};
+ghost use Rattle.refusals.specs.Number.{number_of};
+ghost use Rattle.calculus.specs.JetKind.{jet_of};
+ghost use Rattle.exact.specs.Answer.{curves};
 ghost use Rattle.bench_carry.specs.Outcome.{carried};
 
 #[unsafe(no_mangle)]
@@ -12,7 +15,7 @@ pub extern "C" fn exact_composite_derivatives(
     order: usize,
     out: &mut [i64; 21],
 ) -> u8
-    ensures { (result ≡ (carried entries.now u.now v.now order).refusal) × (out.new ≡ (carried entries.now u.now v.now order).jet.entries) }
+    ensures { (result ≡ number_of (carried entries.now u.now v.now order)) × (out.new ≡ (jet_of curves (carried entries.now u.now v.now order)).entries) }
 {
     bench_carry::exact_composite_derivatives(entries, u, v, order, out)
 }

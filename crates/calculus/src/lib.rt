@@ -2,7 +2,7 @@
 #![tactic(auto)]
 
 ghost use Rattle.std.specs.Prelude.{◌≡◌, cond, suc, min, ltb};
-ghost use Rattle.calculus.specs.Choose.{binomial_table};
+ghost use Rattle.calculus.specs.Choose.{choose};
 ghost use Rattle.calculus.specs.Graded.{triangle};
 ghost use Rattle.calculus.specs.Orders.{some_above20, smallest as Smallest};
 
@@ -26,19 +26,17 @@ pub enum Operation {
 pub fn smaller(m: usize, n: usize) -> usize
     ensures { result ≡ min m n }
 {
-    if m < n { m } else { n }
+    m.min(n)
 }
 
 // Whether one of the orders is above 20.
 pub fn some_above_20(orders: &[usize]) -> bool
     ensures { result ≡ some_above20 orders.now }
 {
-    let mut i = 0;
-    while i < orders.len() {
-        if 20 < orders[i] {
+    for n in orders {
+        if 20 < *n {
             return true;
         }
-        i += 1;
     }
     false
 }
@@ -48,13 +46,8 @@ pub fn smallest(orders: &[usize]) -> usize
     ensures { result ≡ Smallest orders.now }
 {
     let mut least = 20;
-    let mut i = orders.len();
-    while 0 < i {
-        i -= 1;
-        let n = orders[i];
-        if n < least {
-            least = n;
-        }
+    for n in orders {
+        least = smaller(least, *n);
     }
     least
 }
@@ -69,7 +62,7 @@ pub fn surface_count(n: usize) -> usize
     (n + 1) * (n + 2) / 2
 }
 
-// Pascal's triangle.
+// Pascal's triangle: the coefficients of the order m stand from m (m + 1)/2 on.
 const BINOMIALS: [u32; 231] = [
     1, 1, 1, 1, 2, 1, 1, 3, 3, 1, 1, 4, 6, 4, 1, 1, 5, 10, 10, 5, 1, 1, 6, 15, 20, 15, 6, 1, 1, 7,
     21, 35, 35, 21, 7, 1, 1, 8, 28, 56, 70, 56, 28, 8, 1, 1, 9, 36, 84, 126, 126, 84, 36, 9, 1, 1,
@@ -85,9 +78,15 @@ const BINOMIALS: [u32; 231] = [
     184756, 167960, 125970, 77520, 38760, 15504, 4845, 1140, 190, 20, 1,
 ];
 
-// The binomial coefficients of the orders 0 to 20: those of the order m stand from m (m + 1)/2 on.
-pub fn binomials() -> [u32; 231]
-    ensures { result ≡ binomial_table }
+// The i-th binomial coefficient of the order m; 0 where the order is above 20, whose coefficients the table lacks.
+pub fn choose(m: usize, i: usize) -> u32
+    ensures { result ≡ cond (ltb 20 m) 0 (choose m i) }
 {
-    BINOMIALS
+    if 20 < m {
+        return 0;
+    }
+    if m < i {
+        return 0;
+    }
+    BINOMIALS[m * (m + 1) / 2 + i]
 }

@@ -4,46 +4,12 @@ ghost use Rattle.calculus.specs.Kind.{regular};
 ghost use Rattle.calculus.specs.Curve.{sum as sums, difference as differences, product, quotient as quotients, derivative};
 ghost use Rattle.exact_formulas.specs.Kinds.{checked};
 ghost use Rattle.exact.specs.Answer.{curves, on_curves, on_curves_at};
-ghost use Rattle.roads.specs.Roads.{curve_steps as kind};
-ghost use Rattle.exact_lists.specs.Lists.{to_whole};
+ghost use Rattle.given.specs.Values.{to_whole};
 ghost use Rattle.given.specs.Lists.{over_two_at, over_two, over_one, output, input};
 ghost use Rattle.calculus.specs.JetKind.{differentiated};
 
 use exact::CurveDerivatives;
-use exact_lists::deliver;
-use given::Shape;
-use roads::Operation;
-
-fn on_two(
-    op: Operation,
-    a_order: usize,
-    a: &[i64],
-    b_order: usize,
-    b: &[i64],
-    out: &mut [i64],
-) -> u8
-    ensures { ◌≡◌ {A = ℕ × List ℤ} (result, out.new) (over_two (input curves) (input curves) (output curves) (kind.apply op) a_order a.now b_order b.now out.old) }
-{
-    let t = given::two(
-        Shape::Curve,
-        a_order,
-        a.len(),
-        Shape::Curve,
-        b_order,
-        b.len(),
-        Shape::Curve,
-        out.len(),
-    );
-    if t != 0 {
-        return t;
-    }
-    let x = CurveDerivatives::from_list(a_order, a);
-    let y = CurveDerivatives::from_list(b_order, b);
-    let left = x.jet;
-    let right = y.jet;
-    let r = roads::on_curves(op, left, right);
-    deliver::curve(r, out)
-}
+use refusals::number_of;
 
 #[unsafe(no_mangle)]
 pub extern "C" fn sugamdely_exact_curve_sum(
@@ -55,7 +21,7 @@ pub extern "C" fn sugamdely_exact_curve_sum(
 ) -> u8
     ensures { ◌≡◌ {A = ℕ × List ℤ} (result, out.new) (over_two (input curves) (input curves) (output curves) (on_curves (sums (regular checked))) a_order a.now b_order b.now out.old) }
 {
-    on_two(Operation::Sum, a_order, a, b_order, b, out)
+    number_of(given::over_two(a_order, a, b_order, b, out, CurveDerivatives::sum))
 }
 
 #[unsafe(no_mangle)]
@@ -68,21 +34,15 @@ pub extern "C" fn sugamdely_exact_curve_difference(
 ) -> u8
     ensures { ◌≡◌ {A = ℕ × List ℤ} (result, out.new) (over_two (input curves) (input curves) (output curves) (on_curves (differences (regular checked))) a_order a.now b_order b.now out.old) }
 {
-    on_two(Operation::Difference, a_order, a, b_order, b, out)
+    number_of(given::over_two(a_order, a, b_order, b, out, CurveDerivatives::difference))
 }
 
 #[unsafe(no_mangle)]
 pub extern "C" fn sugamdely_exact_curve_derivative(a_order: usize, a: &[i64], out: &mut [i64]) -> u8
     ensures { ◌≡◌ {A = ℕ × List ℤ} (result, out.new) (over_one (input curves) (output curves) (a_order - 1) (differentiated curves derivative) a_order a.now out.old) }
 {
-    let t = given::lowered(Shape::Curve, a_order, a.len(), out.len());
-    if t != 0 {
-        return t;
-    }
-    let x = CurveDerivatives::from_list(a_order, a);
-    let jet = x.jet;
-    let r = jet.derivative();
-    deliver::curve(r, out)
+    let k = given::lower(a_order);
+    number_of(given::over_one(k, a_order, a, out, CurveDerivatives::derivative))
 }
 
 // One entry of the product, of the order m.
@@ -97,28 +57,15 @@ pub extern "C" fn sugamdely_exact_curve_combinatorial_derivative(
 ) -> u8
     ensures { ◌≡◌ {A = ℕ × List ℤ} (result, out.new) (over_two_at (input curves) (input curves) to_whole m (λ x y. on_curves_at (product checked) x y m) a_order a.now b_order b.now out.old) }
 {
-    let asked = given::order(m);
-    let t = given::two_at(
-        Shape::Curve,
+    number_of(given::over_two_at(
+        m,
         a_order,
-        a.len(),
-        Shape::Curve,
+        a,
         b_order,
-        b.len(),
-        asked,
-        Shape::Number,
-        0,
-        out.len(),
-    );
-    if t != 0 {
-        return t;
-    }
-    let x = CurveDerivatives::from_list(a_order, a);
-    let y = CurveDerivatives::from_list(b_order, b);
-    let left = x.jet;
-    let right = y.jet;
-    let r = left.combinatorial_derivative(right, m);
-    deliver::whole(r, out)
+        b,
+        out,
+        |x: CurveDerivatives, y: CurveDerivatives| x.combinatorial_derivative(y, m),
+    ))
 }
 
 #[unsafe(no_mangle)]
@@ -131,7 +78,14 @@ pub extern "C" fn sugamdely_exact_curve_combinatorial_derivatives(
 ) -> u8
     ensures { ◌≡◌ {A = ℕ × List ℤ} (result, out.new) (over_two (input curves) (input curves) (output curves) (on_curves (product checked)) a_order a.now b_order b.now out.old) }
 {
-    on_two(Operation::Product, a_order, a, b_order, b, out)
+    number_of(given::over_two(
+        a_order,
+        a,
+        b_order,
+        b,
+        out,
+        CurveDerivatives::combinatorial_derivatives,
+    ))
 }
 
 #[unsafe(no_mangle)]
@@ -144,5 +98,5 @@ pub extern "C" fn sugamdely_exact_curve_quotient(
 ) -> u8
     ensures { ◌≡◌ {A = ℕ × List ℤ} (result, out.new) (over_two (input curves) (input curves) (output curves) (on_curves (quotients checked)) a_order a.now b_order b.now out.old) }
 {
-    on_two(Operation::Quotient, a_order, a, b_order, b, out)
+    number_of(given::over_two(a_order, a, b_order, b, out, CurveDerivatives::quotient))
 }

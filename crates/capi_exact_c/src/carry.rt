@@ -1,7 +1,7 @@
 // The functions of `capi_exact::carry` under their names in C.
 ghost use Rattle.std.specs.Prelude.{◌≡◌, List, ℕ, ℤ};
 ghost use Rattle.exact.specs.Composite.{along_curve_at, along_curve};
-ghost use Rattle.exact_lists.specs.Lists.{to_whole};
+ghost use Rattle.given.specs.Values.{to_whole};
 ghost use Rattle.exact.specs.Answer.{surfaces, parameters, curves};
 ghost use Rattle.given.specs.Lists.{over_two_at, output, input};
 

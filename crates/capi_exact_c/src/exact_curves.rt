@@ -4,7 +4,7 @@ ghost use Rattle.calculus.specs.Kind.{regular};
 ghost use Rattle.calculus.specs.Curve.{sum as sums, difference as differences, product, quotient as quotients, derivative};
 ghost use Rattle.exact_formulas.specs.Kinds.{checked};
 ghost use Rattle.exact.specs.Answer.{curves, on_curves, on_curves_at};
-ghost use Rattle.exact_lists.specs.Lists.{to_whole};
+ghost use Rattle.given.specs.Values.{to_whole};
 ghost use Rattle.given.specs.Lists.{over_two_at, over_two, over_one, output, input};
 ghost use Rattle.calculus.specs.JetKind.{differentiated};
 

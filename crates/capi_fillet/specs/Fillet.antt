@@ -1,21 +1,18 @@
 -- The functions of the fillet over lists: what is given is tested, the records of the lists go to the fillet's function, and its answer goes
 -- into what is lent. Assumes nothing.
-use Rattle.std.specs.Prelude.{cond, List, ℕ, ◌+◌, ltb, length, Float}
+use Rattle.std.specs.Prelude.{List, ℕ, length, Float, Result}
 use Rattle.ieee_vectors.specs.Vectors.{positive_zero}
-use Rattle.vectors.specs.declared.VectorAnswer.{VectorAnswer}
+use Rattle.refusals.specs.declared.Refusal.{Refusal}
+use Rattle.ieee_vectors.specs.declared.Vector3.{Vector3}
 use Rattle.rolling_ball_fillet.specs.Answers.{rotation_answer, derivative_answer}
 use Rattle.rolling_ball_fillet.specs.Center.{center_contact_answer}
-use Rattle.rolling_ball_fillet.specs.Partials.{derivative_v, derivative_u_v, derivative_v_v}
 use Rattle.rolling_ball_fillet.specs.SubDer.{sub_der_mn}
-use Rattle.rolling_ball_fillet.specs.PartialAnswer.{vder_info_answer, partial_answer}
+use Rattle.rolling_ball_fillet.specs.PartialAnswer.{vder_info_answer}
 use Rattle.rolling_ball_fillet.specs.declared.VderInfo.{VderInfo}
-use Rattle.capi_fillet.specs.declared.fillet.Partial.{Partial}
-use Rattle.capi_fillet.specs.declared.fillet.Partial.TheVariants as partial
-use Rattle.given.specs.Given.{first, order_given, count_given, curve_given, parameter_given, vector_curve_given, vector_surface_given}
+use Rattle.given.specs.Given.{first, order_given, count_given, curve_given, vector_curve_given}
 use Rattle.given.specs.Lists.{admitted}
-use Rattle.float_lists.specs.Delivery.{deliver_vector, deliver_matrix3}
-use Rattle.float_lists.specs.Values.{vector_at}
-use Rattle.fillet_lists.specs.Records.{circle_of, Listed, circle_with, fillet_of, ders_of, info_of}
+use Rattle.given.specs.Values.{vector_at, to_vector, to_matrix3}
+use Rattle.fillet_lists.specs.Records.{circle_of, Listed, circle_with, fillet_of, ders_of, info_of, fillet_given, contacts_given, ders_given}
 use Rattle.fillet_lists.specs.Delivery.{Five, deliver_contacts, Three, deliver_info}
 use Rattle.derivatives.specs.Answer.{curves}
 use Rattle.calculus.specs.JetKind.{jet_of_list}
@@ -27,42 +24,19 @@ orders_given x y z n = first (order_given x) (first (order_given y) (first (orde
 unfoldable pub rotation_into : (x y z n : ℕ) → (axis : List Float) → (s c : Float) → List Float → ℕ × List Float
 rotation_into x y z n axis s c out =
     admitted (first (orders_given x y z n) (first (count_given 3 (length axis)) (count_given 9 (length out)))) out
-    (deliver_matrix3 (rotation_answer x y z n (vector_at axis 0) s c) out)
+    (to_matrix3.deliver (rotation_answer x y z n (vector_at axis 0) s c) out)
 
 -- ---- a circle; the parameters of its contact points are zero
 unfoldable pub circle_into : ℕ → (circle : List Float) → (s c : Float) → List Float → ℕ × List Float
 circle_into n circle s c out =
     admitted (first (order_given n) (first (count_given 13 (length circle)) (count_given 3 (length out)))) out
-    (deliver_vector (derivative_answer (circle_of circle positive_zero positive_zero positive_zero positive_zero) n s c) out)
-
--- ---- a fillet: a circle, the parameters of its contact points (feet), both normals, and the jets
-abbrev pub fillet_given : (circle feet normals : List Float) → (edge radius surface0 surface1 : Listed) → ℕ
-fillet_given circle feet normals edge radius surface0 surface1 =
-    first (count_given 13 (length circle)) (first (count_given 4 (length feet)) (first (count_given 6 (length normals))
-    (first (vector_curve_given edge.0 (length edge.1)) (first (curve_given radius.0 (length radius.1))
-    (first (vector_surface_given surface0.0 (length surface0.1)) (vector_surface_given surface1.0 (length surface1.1)))))))
-
--- ---- the centre, the contacts and their parameters along the edge, by orders and lengths: the centre's order ends at 19, as the others have one more
-abbrev pub five_given : (n center a contact0 b contact1 c uv0 d uv1 : ℕ) → ℕ
-five_given n center a contact0 b contact1 c uv0 d uv1 =
-    cond (ltb 19 n) 1
-    (first (vector_curve_given n center) (first (vector_curve_given a contact0) (first (vector_curve_given b contact1) (first (parameter_given c uv0) (parameter_given d uv1)))))
-
--- lent, for the centre at the order n
-abbrev pub contacts_given : ℕ → (center contact0 contact1 uv0 uv1 : ℕ) → ℕ
-contacts_given n center contact0 contact1 uv0 uv1 = let k = n + 1 in five_given n center k contact0 k contact1 k uv0 k uv1
+    (to_vector.deliver (derivative_answer (circle_of circle positive_zero positive_zero positive_zero positive_zero) n s c) out)
 
 unfoldable pub contacts_into : ℕ → (circle feet normals : List Float) → (edge radius surface0 surface1 : Listed) → Five → ℕ × Five
 contacts_into n circle feet normals edge radius surface0 surface1 out =
     admitted (first (fillet_given circle feet normals edge radius surface0 surface1)
     (contacts_given n (length out.0) (length out.1.0) (length out.1.1.0) (length out.1.1.1.0) (length out.1.1.1.1))) out
     (deliver_contacts (center_contact_answer (fillet_of normals edge radius surface0 surface1) (circle_with circle feet) n) out)
-
--- ---- these five jets, handed over
-abbrev pub ders_given : (center contact0 contact1 uv0 uv1 : Listed) → ℕ
-ders_given center contact0 contact1 uv0 uv1 =
-    five_given center.0 (length center.1) contact0.0 (length contact0.1) contact1.0 (length contact1.1)
-    uv0.0 (length uv0.1) uv1.0 (length uv1.1)
 
 -- ---- the axis, the angle and its cosine, from these jets and the radius', which with the contacts has one order more than the centre
 unfoldable pub vder_info_into : (center contact0 contact1 uv0 uv1 radius : Listed) → Float → Three → ℕ × Three
@@ -73,20 +47,15 @@ vder_info_into center contact0 contact1 uv0 uv1 radius t out =
     (deliver_info (vder_info_answer (ders_of center contact0 contact1 uv0 uv1) (jet_of_list curves radius.0 radius.1) t) out)
 
 -- ---- the partials, from these jets, the axis' and the angle's
-abbrev pub partial_by : Partial → VderInfo → (u s c : Float) → VectorAnswer
-partial_by partial.V = partial_answer derivative_v 1
-partial_by partial.Uv = partial_answer derivative_u_v 1
-partial_by partial.Vv = partial_answer derivative_v_v 2
-
 unfoldable pub partial_into :
-    (VderInfo → (u s c : Float) → VectorAnswer) → (center contact0 contact1 uv0 uv1 axis angle : Listed) → (u s c : Float) → List Float → ℕ × List Float
-partial_into op center contact0 contact1 uv0 uv1 axis angle u s c out =
+    (VderInfo → Result Vector3 Refusal) → (center contact0 contact1 uv0 uv1 axis angle : Listed) → List Float → ℕ × List Float
+partial_into op center contact0 contact1 uv0 uv1 axis angle out =
     admitted (first (ders_given center contact0 contact1 uv0 uv1) (first (vector_curve_given axis.0 (length axis.1))
     (first (curve_given angle.0 (length angle.1)) (count_given 3 (length out))))) out
-    (deliver_vector (op (info_of (ders_of center contact0 contact1 uv0 uv1) axis angle) u s c) out)
+    (to_vector.deliver (op (info_of (ders_of center contact0 contact1 uv0 uv1) axis angle)) out)
 
 -- ---- m times by u and n times by v, from the fillet itself
 unfoldable pub sub_der_into : (m n : ℕ) → (circle feet normals : List Float) → (edge radius surface0 surface1 : Listed) → (angle u s c : Float) → List Float → ℕ × List Float
 sub_der_into m n circle feet normals edge radius surface0 surface1 angle u s c out =
     admitted (first (fillet_given circle feet normals edge radius surface0 surface1) (first (order_given m) (first (order_given n) (count_given 3 (length out))))) out
-    (deliver_vector (sub_der_mn (fillet_of normals edge radius surface0 surface1) m n u (circle_with circle feet) angle s c) out)
+    (to_vector.deliver (sub_der_mn (fillet_of normals edge radius surface0 surface1) m n u (circle_with circle feet) angle s c) out)

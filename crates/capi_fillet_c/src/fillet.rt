@@ -152,7 +152,7 @@ pub extern "C" fn sugamdely_derivative_v(
     c: f64,
     out: &mut [f64],
 ) -> u8
-    ensures { ◌≡◌ {A = ℕ × List Float} (result, out.new) (partial_into (partial_answer derivative_v 1) (center_order, center.now) (contact0_order, contact0.now) (contact1_order, contact1.now) (uv0_order, uv0.now) (uv1_order, uv1.now) (axis_order, axis.now) (angle_order, angle.now) u s c out.old) }
+    ensures { ◌≡◌ {A = ℕ × List Float} (result, out.new) (partial_into (λ i. partial_answer derivative_v 1 i u s c) (center_order, center.now) (contact0_order, contact0.now) (contact1_order, contact1.now) (uv0_order, uv0.now) (uv1_order, uv1.now) (axis_order, axis.now) (angle_order, angle.now) out.old) }
 {
     capi_fillet::fillet::sugamdely_derivative_v(
         center_order,
@@ -197,7 +197,7 @@ pub extern "C" fn sugamdely_derivative_uv(
     c: f64,
     out: &mut [f64],
 ) -> u8
-    ensures { ◌≡◌ {A = ℕ × List Float} (result, out.new) (partial_into (partial_answer derivative_u_v 1) (center_order, center.now) (contact0_order, contact0.now) (contact1_order, contact1.now) (uv0_order, uv0.now) (uv1_order, uv1.now) (axis_order, axis.now) (angle_order, angle.now) u s c out.old) }
+    ensures { ◌≡◌ {A = ℕ × List Float} (result, out.new) (partial_into (λ i. partial_answer derivative_u_v 1 i u s c) (center_order, center.now) (contact0_order, contact0.now) (contact1_order, contact1.now) (uv0_order, uv0.now) (uv1_order, uv1.now) (axis_order, axis.now) (angle_order, angle.now) out.old) }
 {
     capi_fillet::fillet::sugamdely_derivative_uv(
         center_order,
@@ -242,7 +242,7 @@ pub extern "C" fn sugamdely_derivative_vv(
     c: f64,
     out: &mut [f64],
 ) -> u8
-    ensures { ◌≡◌ {A = ℕ × List Float} (result, out.new) (partial_into (partial_answer derivative_v_v 2) (center_order, center.now) (contact0_order, contact0.now) (contact1_order, contact1.now) (uv0_order, uv0.now) (uv1_order, uv1.now) (axis_order, axis.now) (angle_order, angle.now) u s c out.old) }
+    ensures { ◌≡◌ {A = ℕ × List Float} (result, out.new) (partial_into (λ i. partial_answer derivative_v_v 2 i u s c) (center_order, center.now) (contact0_order, contact0.now) (contact1_order, contact1.now) (uv0_order, uv0.now) (uv1_order, uv1.now) (axis_order, axis.now) (angle_order, angle.now) out.old) }
 {
     capi_fillet::fillet::sugamdely_derivative_vv(
         center_order,

@@ -6,12 +6,11 @@ ghost use Rattle.formulas.specs.Real.{real};
 ghost use Rattle.calculus.specs.Rational.{rational};
 ghost use Rattle.derivatives.specs.Answer.{curves, entry_at, by_division};
 ghost use Rattle.calculus.specs.JetKind.{by_formula, differentiated};
-ghost use Rattle.float_lists.specs.Lists.{to_float};
+ghost use Rattle.given.specs.Values.{to_float};
 ghost use Rattle.given.specs.Lists.{over_two_at, over_two, over_one, output, input};
 
-use calculus::Operation;
-use float_lists::{curves, deliver, lists};
-use given::Shape;
+use derivatives::CurveDerivatives;
+use refusals::number_of;
 
 #[unsafe(no_mangle)]
 pub extern "C" fn sugamdely_curve_sum(
@@ -23,7 +22,7 @@ pub extern "C" fn sugamdely_curve_sum(
 ) -> u8
     ensures { ◌≡◌ {A = ℕ × List Float} (result, out.new) (over_two (input curves) (input curves) (output curves) (by_formula curves curves curves (sum (regular real))) a_order a.now b_order b.now out.old) }
 {
-    curves::on_two(Operation::Sum, a_order, a, b_order, b, out)
+    number_of(given::over_two(a_order, a, b_order, b, out, CurveDerivatives::sum))
 }
 
 #[unsafe(no_mangle)]
@@ -36,20 +35,20 @@ pub extern "C" fn sugamdely_curve_difference(
 ) -> u8
     ensures { ◌≡◌ {A = ℕ × List Float} (result, out.new) (over_two (input curves) (input curves) (output curves) (by_formula curves curves curves (difference (regular real))) a_order a.now b_order b.now out.old) }
 {
-    curves::on_two(Operation::Difference, a_order, a, b_order, b, out)
+    number_of(given::over_two(a_order, a, b_order, b, out, CurveDerivatives::difference))
 }
 
 #[unsafe(no_mangle)]
 pub extern "C" fn sugamdely_curve_derivative(a_order: usize, a: &[f64], out: &mut [f64]) -> u8
     ensures { ◌≡◌ {A = ℕ × List Float} (result, out.new) (over_one (input curves) (output curves) (a_order - 1) (differentiated curves derivative) a_order a.now out.old) }
 {
-    let t = given::lowered(Shape::Curve, a_order, a.len(), out.len());
-    if t != 0 {
-        return t;
-    }
-    let x = lists::curve(a_order, a);
-    let r = x.derivative();
-    deliver::curve(r, out)
+    number_of(given::over_one(
+        given::lower(a_order),
+        a_order,
+        a,
+        out,
+        CurveDerivatives::derivative,
+    ))
 }
 
 // One entry of the product, of the order m.
@@ -64,26 +63,15 @@ pub extern "C" fn sugamdely_curve_combinatorial_derivative(
 ) -> u8
     ensures { ◌≡◌ {A = ℕ × List Float} (result, out.new) (over_two_at (input curves) (input curves) to_float m (λ x y. entry_at curves curves (λ p q. product real p q m) x y m) a_order a.now b_order b.now out.old) }
 {
-    let asked = given::order(m);
-    let t = given::two_at(
-        Shape::Curve,
+    number_of(given::over_two_at(
+        m,
         a_order,
-        a.len(),
-        Shape::Curve,
+        a,
         b_order,
-        b.len(),
-        asked,
-        Shape::Number,
-        0,
-        out.len(),
-    );
-    if t != 0 {
-        return t;
-    }
-    let x = lists::curve(a_order, a);
-    let y = lists::curve(b_order, b);
-    let r = x.combinatorial_derivative(y, m);
-    deliver::float(r, out)
+        b,
+        out,
+        |x: CurveDerivatives, y: CurveDerivatives| x.combinatorial_derivative(y, m),
+    ))
 }
 
 #[unsafe(no_mangle)]
@@ -96,7 +84,14 @@ pub extern "C" fn sugamdely_curve_combinatorial_derivatives(
 ) -> u8
     ensures { ◌≡◌ {A = ℕ × List Float} (result, out.new) (over_two (input curves) (input curves) (output curves) (by_formula curves curves curves (product real)) a_order a.now b_order b.now out.old) }
 {
-    curves::on_two(Operation::Product, a_order, a, b_order, b, out)
+    number_of(given::over_two(
+        a_order,
+        a,
+        b_order,
+        b,
+        out,
+        CurveDerivatives::combinatorial_derivatives,
+    ))
 }
 
 // The quotient of the curve a by the weights w.
@@ -110,5 +105,12 @@ pub extern "C" fn sugamdely_curve_rational_derivatives(
 ) -> u8
     ensures { ◌≡◌ {A = ℕ × List Float} (result, out.new) (over_two (input curves) (input curves) (output curves) (by_division curves curves curves (λ y. y 0) (rational (regular real) real.over)) a_order a.now w_order w.now out.old) }
 {
-    curves::on_two(Operation::Quotient, a_order, a, w_order, w, out)
+    number_of(given::over_two(
+        a_order,
+        a,
+        w_order,
+        w,
+        out,
+        CurveDerivatives::rational_derivatives,
+    ))
 }

@@ -6,13 +6,12 @@ ghost use Rattle.formulas.specs.Real.{real};
 ghost use Rattle.calculus.specs.Rational.{surface_rational};
 ghost use Rattle.derivatives.specs.Answer.{surfaces, parameters, curves, entry_at, by_division};
 ghost use Rattle.derivatives.specs.Composite.{along_curve_at, along_curve};
-ghost use Rattle.float_lists.specs.Lists.{to_float};
+ghost use Rattle.given.specs.Values.{to_float};
 ghost use Rattle.calculus.specs.JetKind.{by_formula, differentiated};
 ghost use Rattle.given.specs.Lists.{over_two_at, over_two, over_one, output, input};
 
-use calculus::{By, Operation};
-use float_lists::{deliver, lists, surfaces};
-use given::Shape;
+use derivatives::{ParameterCurve, SurfaceDerivatives};
+use refusals::number_of;
 
 #[unsafe(no_mangle)]
 pub extern "C" fn sugamdely_surface_sum(
@@ -24,7 +23,7 @@ pub extern "C" fn sugamdely_surface_sum(
 ) -> u8
     ensures { ◌≡◌ {A = ℕ × List Float} (result, out.new) (over_two (input surfaces) (input surfaces) (output surfaces) (by_formula surfaces surfaces surfaces (sum (regular real))) a_order a.now b_order b.now out.old) }
 {
-    surfaces::on_two(Operation::Sum, a_order, a, b_order, b, out)
+    number_of(given::over_two(a_order, a, b_order, b, out, SurfaceDerivatives::sum))
 }
 
 #[unsafe(no_mangle)]
@@ -37,21 +36,33 @@ pub extern "C" fn sugamdely_surface_difference(
 ) -> u8
     ensures { ◌≡◌ {A = ℕ × List Float} (result, out.new) (over_two (input surfaces) (input surfaces) (output surfaces) (by_formula surfaces surfaces surfaces (difference (regular real))) a_order a.now b_order b.now out.old) }
 {
-    surfaces::on_two(Operation::Difference, a_order, a, b_order, b, out)
+    number_of(given::over_two(a_order, a, b_order, b, out, SurfaceDerivatives::difference))
 }
 
 #[unsafe(no_mangle)]
 pub extern "C" fn sugamdely_surface_derivative_u(a_order: usize, a: &[f64], out: &mut [f64]) -> u8
     ensures { ◌≡◌ {A = ℕ × List Float} (result, out.new) (over_one (input surfaces) (output surfaces) (a_order - 1) (differentiated surfaces derivative_u) a_order a.now out.old) }
 {
-    surfaces::derivative(By::U, a_order, a, out)
+    number_of(given::over_one(
+        given::lower(a_order),
+        a_order,
+        a,
+        out,
+        SurfaceDerivatives::derivative_u,
+    ))
 }
 
 #[unsafe(no_mangle)]
 pub extern "C" fn sugamdely_surface_derivative_v(a_order: usize, a: &[f64], out: &mut [f64]) -> u8
     ensures { ◌≡◌ {A = ℕ × List Float} (result, out.new) (over_one (input surfaces) (output surfaces) (a_order - 1) (differentiated surfaces derivative_v) a_order a.now out.old) }
 {
-    surfaces::derivative(By::V, a_order, a, out)
+    number_of(given::over_one(
+        given::lower(a_order),
+        a_order,
+        a,
+        out,
+        SurfaceDerivatives::derivative_v,
+    ))
 }
 
 // One entry of the product: [m][n].
@@ -67,26 +78,16 @@ pub extern "C" fn sugamdely_surface_combinatorial_derivative(
 ) -> u8
     ensures { ◌≡◌ {A = ℕ × List Float} (result, out.new) (over_two_at (input surfaces) (input surfaces) to_float (m + n) (λ x y. entry_at surfaces surfaces (λ p q. product real p q m n) x y (m + n)) a_order a.now b_order b.now out.old) }
 {
-    let asked = given::order_sum(m, n);
-    let t = given::two_at(
-        Shape::Surface,
+    number_of(given::over_two_at_both(
+        m,
+        n,
         a_order,
-        a.len(),
-        Shape::Surface,
+        a,
         b_order,
-        b.len(),
-        asked,
-        Shape::Number,
-        0,
-        out.len(),
-    );
-    if t != 0 {
-        return t;
-    }
-    let x = lists::surface(a_order, a);
-    let y = lists::surface(b_order, b);
-    let r = x.combinatorial_derivative(y, m, n);
-    deliver::float(r, out)
+        b,
+        out,
+        |x: SurfaceDerivatives, y: SurfaceDerivatives| x.combinatorial_derivative(y, m, n),
+    ))
 }
 
 #[unsafe(no_mangle)]
@@ -99,7 +100,14 @@ pub extern "C" fn sugamdely_surface_combinatorial_derivatives(
 ) -> u8
     ensures { ◌≡◌ {A = ℕ × List Float} (result, out.new) (over_two (input surfaces) (input surfaces) (output surfaces) (by_formula surfaces surfaces surfaces (product real)) a_order a.now b_order b.now out.old) }
 {
-    surfaces::on_two(Operation::Product, a_order, a, b_order, b, out)
+    number_of(given::over_two(
+        a_order,
+        a,
+        b_order,
+        b,
+        out,
+        SurfaceDerivatives::combinatorial_derivatives,
+    ))
 }
 
 // The quotient of the surface a by the weights w.
@@ -113,7 +121,14 @@ pub extern "C" fn sugamdely_surface_rational_derivatives(
 ) -> u8
     ensures { ◌≡◌ {A = ℕ × List Float} (result, out.new) (over_two (input surfaces) (input surfaces) (output surfaces) (by_division surfaces surfaces surfaces (λ y. y 0 0) (surface_rational (regular real) real.over)) a_order a.now w_order w.now out.old) }
 {
-    surfaces::on_two(Operation::Quotient, a_order, a, w_order, w, out)
+    number_of(given::over_two(
+        a_order,
+        a,
+        w_order,
+        w,
+        out,
+        SurfaceDerivatives::rational_derivatives,
+    ))
 }
 
 // The derivative of order n of the surface a along the curve c in its parameters, which is zero at order 0.
@@ -128,26 +143,15 @@ pub extern "C" fn sugamdely_composite_derivative(
 ) -> u8
     ensures { ◌≡◌ {A = ℕ × List Float} (result, out.new) (over_two_at (input surfaces) (input parameters) to_float n (λ x y. along_curve_at x y n) a_order a.now c_order c.now out.old) }
 {
-    let asked = given::order(n);
-    let t = given::two_at(
-        Shape::Surface,
+    number_of(given::over_two_at(
+        n,
         a_order,
-        a.len(),
-        Shape::Parameter,
+        a,
         c_order,
-        c.len(),
-        asked,
-        Shape::Number,
-        0,
-        out.len(),
-    );
-    if t != 0 {
-        return t;
-    }
-    let x = lists::surface(a_order, a);
-    let y = lists::parameter(c_order, c);
-    let r = x.composite_derivative(y, n);
-    deliver::float(r, out)
+        c,
+        out,
+        |x: SurfaceDerivatives, y: ParameterCurve| x.composite_derivative(y, n),
+    ))
 }
 
 // The derivatives of all orders up to n, with the entry [0][0] of the surface at order 0.
@@ -162,24 +166,13 @@ pub extern "C" fn sugamdely_composite_derivatives(
 ) -> u8
     ensures { ◌≡◌ {A = ℕ × List Float} (result, out.new) (over_two_at (input surfaces) (input parameters) (output curves) n (λ x y. along_curve x y n) a_order a.now c_order c.now out.old) }
 {
-    let asked = given::order(n);
-    let t = given::two_at(
-        Shape::Surface,
-        a_order,
-        a.len(),
-        Shape::Parameter,
-        c_order,
-        c.len(),
-        asked,
-        Shape::Curve,
+    number_of(given::over_two_at(
         n,
-        out.len(),
-    );
-    if t != 0 {
-        return t;
-    }
-    let x = lists::surface(a_order, a);
-    let y = lists::parameter(c_order, c);
-    let r = x.composite_derivatives(y, n);
-    deliver::curve(r, out)
+        a_order,
+        a,
+        c_order,
+        c,
+        out,
+        |x: SurfaceDerivatives, y: ParameterCurve| x.composite_derivatives(y, n),
+    ))
 }

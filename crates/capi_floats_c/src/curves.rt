@@ -6,7 +6,7 @@ ghost use Rattle.formulas.specs.Real.{real};
 ghost use Rattle.calculus.specs.Rational.{rational};
 ghost use Rattle.derivatives.specs.Answer.{curves, entry_at, by_division};
 ghost use Rattle.calculus.specs.JetKind.{by_formula, differentiated};
-ghost use Rattle.float_lists.specs.Lists.{to_float};
+ghost use Rattle.given.specs.Values.{to_float};
 ghost use Rattle.given.specs.Lists.{over_two_at, over_two, over_one, output, input};
 
 #[unsafe(no_mangle)]

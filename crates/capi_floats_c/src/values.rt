@@ -1,20 +1,17 @@
 // The functions of `capi_floats::values` under their names in C.
-ghost use Rattle.std.specs.Prelude.{◌≡◌, ◌&&◌, List, ℕ, length, Float};
+ghost use Rattle.std.specs.Prelude.{◌≡◌, ◌&&◌, List, ℕ, Float};
 ghost use Rattle.std.specs.Float.Ieee.Scale.{finite};
 ghost use Rattle.vectors.specs.Answers.{real_from, root_answer, vector2_from, vector_from, quotient_from, inverse_answer2, inverse_answer3};
 ghost use Rattle.ieee_vectors.specs.Vectors.{sum, difference, multiple, dot, cross, magnitude};
 ghost use Rattle.ieee_vectors.specs.Matrices.{determinant2, determinant3, image2, image3};
 ghost use Rattle.ieee_vectors.specs.Finite.{finite_vector2, finite_vector, finite_matrix2, finite_matrix3};
-ghost use Rattle.given.specs.Given.{count_given};
-ghost use Rattle.given.specs.Lists.{over_two, over_one, admitted};
-ghost use Rattle.float_lists.specs.Delivery.{deliver_float};
-ghost use Rattle.float_lists.specs.Values.{a_vector2, a_vector, a_matrix2, a_matrix3, to_vector2, to_matrix2, to_matrix3};
-ghost use Rattle.float_lists.specs.Lists.{to_float, to_vector};
+ghost use Rattle.given.specs.Lists.{alone, over_two, over_one};
+ghost use Rattle.given.specs.Values.{a_vector2, a_vector, a_matrix2, a_matrix3, to_float, to_vector2, to_vector, to_matrix2, to_matrix3};
 
 // 10 for the root of a negative number.
 #[unsafe(no_mangle)]
 pub extern "C" fn sugamdely_square_root(x: f64, out: &mut [f64]) -> u8
-    ensures { ◌≡◌ {A = ℕ × List Float} (result, out.new) (admitted (count_given 1 (length out.old)) out.old (deliver_float (root_answer x) out.old)) }
+    ensures { ◌≡◌ {A = ℕ × List Float} (result, out.new) (alone to_float (root_answer x) out.old) }
 {
     capi_floats::values::sugamdely_square_root(x, out)
 }

@@ -2,37 +2,36 @@
 -- curve and the order that they describe: the number is that of the road's refusal, or 0, and the list lent holds all entries of the jet that the road
 -- answers, or stays as it was. The same holds of recipes. `ListsOfRoad` and `ListsOfRecipe` say what it takes that the lists are jets; the tests before
 -- the road pass just there. Assumes nothing.
-use mathlib.Core.Path.{◌≡◌, refl, sym, ap, ◌∙◌}
-use mathlib.Core.Bool.{Bool, true, false, cond}
-use mathlib.Core.List.{List, [], ◌∷◌, map}
-use Prim.Native.Nat.{ℕ, zero, suc, ◌+◌, ◌*◌, ◌/◌, ◌%◌, ◌≤◌, ◌<◌}
+use Rattle.std.specs.Prelude.{Bool, true, false, cond, List, [], ◌∷◌, map, ◌≡◌, ℕ, zero, suc, ◌+◌, ◌*◌, ◌/◌, ◌%◌, ◌≤◌, ◌<◌, ltb, eqb, ℤ, length, get_or, take, drop, Result, Ok, Err}
+use mathlib.Core.Path.{refl, sym, ap, ◌∙◌}
 use native.Mathlib.Nat.{not-suc-le-zero, le_of_suc-le-suc}
 use native.Mathlib.Decide.{ℕ_discrete, dec_lt}
 use native.Mathlib.Omega.{arith}
-use lib.Dec.{ltb, eqb}
-use lib.IntN.{ℤ}
-use lib.ListN.{length, get_or, take, drop, length-drop, length-map}
+use lib.ListN.{length-drop, length-map}
 use lib.Seq.{length-take-le, get_or-take, ext_get_or}
 use borrow.Author.Tests.{lt-ltb, le-ltb, ltb-false, eq-eqb, ne_eqb}
+use Rattle.refusals.specs.declared.Refusal.{Refusal}
 use Rattle.calculus.specs.Array.{filled}
+use Rattle.calculus.specs.Graded.{triangle}
 use Rattle.calculus.specs.Orders.{some_above20, smallest}
-use Rattle.calculus.specs.JetKind.{JetKind, answered, from_list, jet_of_list}
+use Rattle.calculus.specs.JetKind.{JetKind, jet_of, answered, from_list, jet_of_list}
 use Rattle.calculus.proofs.LoopFilling.{filled-length, filled_at}
 use Rattle.calculus.proofs.Tested.{plain-is, list-is}
-use Rattle.exact.specs.declared.CurveAnswer.{CurveAnswer}
+use Rattle.exact.specs.declared.CurveDerivatives.{CurveDerivatives}
+use Rattle.exact.specs.declared.SurfaceDerivatives.{SurfaceDerivatives}
 use Rattle.exact.specs.declared.ParameterCurve.{ParameterCurve}
 use Rattle.exact.specs.Answer.{surfaces, parameters, curves}
 use Rattle.roads.specs.declared.Step.{Step}
-use Rattle.roads.specs.declared.SurfaceRecipe.{SurfaceRecipe}
+use Rattle.roads.specs.declared.Recipe.{Recipe}
 use Rattle.roads.specs.Recipe.{names_earlier, well_formed}
 use Rattle.roads.specs.Roads.{built_surface, built_curve, build_then_carry, carry_then_build}
 use Rattle.roads.proofs.Inputs.{at_map, smallest-20}
 use Rattle.roads.proofs.Answered.{surfaces-keep, curves-keep, built-order, first-road-order, second-road-order}
-use Rattle.given.specs.Given.{first}
+use Rattle.given.specs.Given.{first, list_given}
 use Rattle.given.specs.Lists.{deliver, admitted}
 use Rattle.given.proofs.Delivered.{whole, delivered}
 use Rattle.given.proofs.Admission.{one-fits, rest-fits, count_fits}
-use Rattle.capi_roads.specs.Recipes.{surface_size, total, jet_at, step_at, blank_step, blank_surface, blank_curve, surface_recipe, curve_recipe, result_given, lent_given, recipe_given, road_given, surface_recipe_into, curve_recipe_into, road_into}
+use Rattle.capi_roads.specs.Recipes.{surface_size, total, jet_at, step_of, step_at, blank_step, recipe_of, surface_recipe, curve_recipe, result_given, lent_given, recipe_given, road_given, recipe_into, surface_recipe_into, curve_recipe_into, road_into}
 use Rattle.capi_roads.proofs.RecipeChecks.{untaken, fit}
 use Rattle.capi_roads.proofs.RecipeLists.{below-20, within-entries}
 
@@ -55,11 +54,11 @@ pub record ListsOfRoad (orders : List ℕ) (entries : List ℤ) (steps : List �
   pub lent : n ≤ 20 → length out ≡ suc n
 
 -- what a caller gets of an answer: all entries of the jet, beside 0; or the refusal's number, and the list lent as it was
-abbrev pub handed : {X E J A : Type 0} → JetKind X E J A → A → List X → ℕ × List X
+abbrev pub handed : {X E J : Type 0} → JetKind X E J → Result J Refusal → List X → ℕ × List X
 handed K = (whole K).deliver
 
 -- ---- the jets of the lists
-module _ {E J A : Type 0} (K : JetKind ℤ E J A) (orders : List ℕ) (entries : List ℤ) {steps : List ℕ} (g : ListsOfJets K.count orders entries steps) (i : ℕ) (h : i < length orders) where
+module _ {E J : Type 0} (K : JetKind ℤ E J) (orders : List ℕ) (entries : List ℤ) {steps : List ℕ} (g : ListsOfJets K.count orders entries steps) (i : ℕ) (h : i < length orders) where
   abbrev order : ℕ
   order = get_or orders i 0
 
@@ -80,12 +79,12 @@ module _ {E J A : Type 0} (K : JetKind ℤ E J A) (orders : List ℕ) (entries :
   pub piece-answered : ((l : List ℤ) → true ≡ K.finite_list l) → from_list K order piece ≡ answered K order (K.in_list order piece)
   piece-answered finite = sym (list-is K order piece low refl piece-length (finite piece) refl)
 
-  jet-order : ((n : ℕ) (x : E) → K.order (K.jet (answered K n x)) ≡ n) → K.order (jet_at K.count (jet_of_list K) orders entries i) ≡ order
+  jet-order : ((n : ℕ) (x : E) → K.order (K.made n x) ≡ n) → K.order (jet_at K.count (jet_of_list K) orders entries i) ≡ order
   unfolding jet_at
-  jet-order made = ap (λ (a : A). K.order (K.jet a)) (sym (plain-is K order piece low refl piece-length)) ∙ made order (K.in_list order piece)
+  jet-order made = ap (λ (a : Result J Refusal). K.order (jet_of K a)) (sym (plain-is K order piece low refl piece-length)) ∙ made order (K.in_list order piece)
 
 -- the orders of a recipe's jets are those given
-module _ {E J A : Type 0} (K : JetKind ℤ E J A) (made : (n : ℕ) (x : E) → K.order (K.jet (answered K n x)) ≡ n) (blank : J)
+module _ {E J : Type 0} (K : JetKind ℤ E J) (made : (n : ℕ) (x : E) → K.order (K.made n x) ≡ n) (blank : J)
     (orders : List ℕ) (entries : List ℤ) {steps : List ℕ} (g : ListsOfJets K.count orders entries steps) (four : length orders ≤ 4) where
   abbrev jet : ℕ → J
   jet = jet_at K.count (jet_of_list K) orders entries
@@ -121,25 +120,25 @@ module _ (n o : ℕ) where
   lent_fits e h = count_fits (suc n) o (rw (le-ltb 20 n h) at e)
 
 module _ (size : ℕ → ℕ) (orders : List ℕ) (o : ℕ) where
-  result-tested : (0 < length orders → o ≡ size (smallest orders)) → result_given size orders o ≡ 0
+  result-tested : (0 < length orders → o ≡ size (smallest orders)) → result_given (list_given size) orders o ≡ 0
   result-tested h = by (ℕ_discrete (length orders) 0)
     where
-      by : Dec (length orders ≡ 0) → result_given size orders o ≡ 0
+      by : Dec (length orders ≡ 0) → result_given (list_given size) orders o ≡ 0
       by (yes q) = rw (eq-eqb (length orders) 0 q)
       by (no q) = rw (ne_eqb (length orders) 0 q, le-ltb 20 (smallest orders) (smallest-20 orders), eq-eqb o (size (smallest orders)) (h (omega arith)))
 
-  result_fits : result_given size orders o ≡ 0 → 0 < length orders → o ≡ size (smallest orders)
+  result_fits : result_given (list_given size) orders o ≡ 0 → 0 < length orders → o ≡ size (smallest orders)
   result_fits e p =
       count_fits (size (smallest orders)) o (rw (ne_eqb (length orders) 0 (λ q. omega arith), le-ltb 20 (smallest orders) (smallest-20 orders)) at e)
 
 module _ (size : ℕ → ℕ) (orders : List ℕ) (entries : List ℤ) (steps : List ℕ) (out : List ℤ) where
-  pub recipe-tested : ListsOfRecipe size orders entries steps out → recipe_given size orders (length entries) steps (length out) ≡ 0
+  pub recipe-tested : ListsOfRecipe size orders entries steps out → recipe_given size (list_given size) orders (length entries) steps (length out) ≡ 0
   unfolding recipe_given first
   recipe-tested g =
       rw (g.jets.low, eq-eqb (length entries) (total size orders) g.jets.all, eq-eqb (length steps % 3) 0 g.jets.threes)
       (result-tested size orders (length out) g.lent)
 
-  pub tested-recipe : recipe_given size orders (length entries) steps (length out) ≡ 0 → ListsOfRecipe size orders entries steps out
+  pub tested-recipe : recipe_given size (list_given size) orders (length entries) steps (length out) ≡ 0 → ListsOfRecipe size orders entries steps out
   unfolding recipe_given
   tested-recipe e =
       let p = fit size orders (length entries) (one-fits _ _ e) in
@@ -169,52 +168,69 @@ module _ (orders : List ℕ) (entries : List ℤ) (steps : List ℕ) (m : ℕ) (
 
 -- ---- THE THEOREMS: the two roads, and the two recipes
 module _ (orders : List ℕ) (entries : List ℤ) (steps : List ℕ) (m : ℕ) (c : List ℤ) (n : ℕ) (out : List ℤ) (g : ListsOfRoad orders entries steps m c n out) where
-  abbrev recipe : SurfaceRecipe
+  abbrev recipe : Recipe SurfaceDerivatives
   recipe = surface_recipe orders entries steps
 
   abbrev curve : ParameterCurve
   curve = jet_of_list parameters m c
 
-  road-handed : (road : SurfaceRecipe → ParameterCurve → ℕ → CurveAnswer) →
-      ((road recipe curve n).refusal ≡ 0 → ((road recipe curve n).jet.order ≡ n) × (n ≤ 20)) →
+  -- an answer of the order n is handed over whole
+  asked : (a : Result CurveDerivatives Refusal) → ((j : CurveDerivatives) → a ≡ Ok j → (j.order ≡ n) × (n ≤ 20)) → deliver curves a out ≡ handed curves a out
+  unfolding deliver
+  asked (Ok j) h =
+      let o = h j refl in
+      delivered curves n (Ok j) out (record { order = o.0; low = o.1; finite = refl }) (g.lent o.1)
+  asked (Err c) h = refl
+
+  road-handed : (road : Recipe SurfaceDerivatives → ParameterCurve → ℕ → Result CurveDerivatives Refusal) →
+      ((j : CurveDerivatives) → road recipe curve n ≡ Ok j → (j.order ≡ n) × (n ≤ 20)) →
       road_into road orders entries steps m c n out ≡ handed curves (road recipe curve n) out
   unfolding road_into
   road-handed road h =
       let a = road recipe curve n in
-      ap (λ (t : ℕ). admitted t out (deliver curves a out)) (road-tested orders entries steps m c n out g)
-      ∙ delivered curves n a out (record { order = λ e. (h e).0; low = λ e. (h e).1; finite = λ e. refl }) (λ e. g.lent (h e).1)
+      ap (λ (t : ℕ). admitted t out (deliver curves a out)) (road-tested orders entries steps m c n out g) ∙ asked a h
 
   pub build-then-carry-is : road_into build_then_carry orders entries steps m c n out ≡ handed curves (build_then_carry recipe curve n) out
-  build-then-carry-is = road-handed build_then_carry (first-road-order curve n recipe)
+  build-then-carry-is = road-handed build_then_carry (λ j. first-road-order curve n recipe)
 
   pub carry-then-build-is : road_into carry_then_build orders entries steps m c n out ≡ handed curves (carry_then_build recipe curve n) out
-  unfolding surface_recipe
+  unfolding recipe_of
   carry-then-build-is =
       road-handed carry_then_build
-      (second-road-order curve n recipe (filled-length 4 blank_surface blank_surface (jet_at surface_size (jet_of_list surfaces) orders entries) (length orders)))
+      (λ j. second-road-order curve n recipe (filled-length 4 (jet_of_list surfaces 0 []) (jet_of_list surfaces 0 []) (jet_at surface_size (jet_of_list surfaces) orders entries) (length orders)))
 
 module _ (orders : List ℕ) (entries : List ℤ) (steps : List ℕ) (out : List ℤ) where
+  -- an answer of the smallest order is handed over whole
+  smallest-handed : {E J : Type 0} (K : JetKind ℤ E J) (finite : (x : E) (n : ℕ) → K.finite x n ≡ true) (lent : 0 < length orders → length out ≡ K.count (smallest orders))
+      (a : Result J Refusal) → ((j : J) → a ≡ Ok j → (0 < length orders) × (K.order j ≡ smallest orders)) → deliver K a out ≡ handed K a out
+  unfolding deliver
+  smallest-handed K finite lent (Ok j) h =
+      let o = h j refl in
+      delivered K (smallest orders) (Ok j) out (record { order = o.1; low = smallest-20 orders; finite = finite (K.numbers j) (smallest orders) }) (lent o.0)
+  smallest-handed K finite lent (Err c) h = refl
+
   pub recipe-surfaces-is : ListsOfRecipe surface_size orders entries steps out →
       surface_recipe_into orders entries steps out ≡ handed surfaces (built_surface (surface_recipe orders entries steps)) out
-  unfolding surface_recipe_into surface_recipe
+  unfolding recipe_into recipe_of
   recipe-surfaces-is g =
       let r = surface_recipe orders entries steps in
-      let o = built-order surfaces-keep r.inputs r.surfaces r.steps r.program in
       ap (λ (t : ℕ). admitted t out (deliver surfaces (built_surface r) out)) (recipe-tested surface_size orders entries steps out g)
-      ∙ delivered surfaces (smallest orders) (built_surface r) out
-      (record { order = λ e. (o e).2 ∙ ap smallest (orders-are surfaces (λ n x. refl) blank_surface orders entries g.jets (o e).1); low = λ e. smallest-20 orders; finite = λ e. refl })
-      (λ e. g.lent (o e).0)
+      ∙ smallest-handed surfaces (λ x n. refl) g.lent (built_surface r)
+      (λ j e. let o = built-order surfaces-keep r.inputs r.jets r.steps r.program e in (o.0, o.2 ∙ ap smallest (orders-are surfaces (λ n x. refl) (jet_of_list surfaces 0 []) orders entries g.jets o.1)))
 
   pub recipe-curves-is : ListsOfRecipe suc orders entries steps out →
       curve_recipe_into orders entries steps out ≡ handed curves (built_curve (curve_recipe orders entries steps)) out
-  unfolding curve_recipe_into curve_recipe
+  unfolding recipe_into recipe_of
   recipe-curves-is g =
       let r = curve_recipe orders entries steps in
-      let o = built-order curves-keep r.inputs r.curves r.steps r.program in
       ap (λ (t : ℕ). admitted t out (deliver curves (built_curve r) out)) (recipe-tested suc orders entries steps out g)
-      ∙ delivered curves (smallest orders) (built_curve r) out
-      (record { order = λ e. (o e).2 ∙ ap smallest (orders-are curves (λ n x. refl) blank_curve orders entries g.jets (o e).1); low = λ e. smallest-20 orders; finite = λ e. refl })
-      (λ e. g.lent (o e).0)
+      ∙ smallest-handed curves (λ x n. refl) g.lent (built_curve r)
+      (λ j e. let o = built-order curves-keep r.inputs r.jets r.steps r.program e in (o.0, o.2 ∙ ap smallest (orders-are curves (λ n x. refl) (jet_of_list curves 0 []) orders entries g.jets o.1)))
+
+-- past the jets that are given stands the zero jet of order 0
+pub past-given : (jet_of_list surfaces 0 [] ≡ surfaces.none) × (jet_of_list curves 0 [] ≡ curves.none)
+unfolding triangle
+past-given = (refl, refl)
 
 -- ---- a step of an operation that there is not: whatever else is given, the recipe is not well formed, and so is refused 4 where the road comes to it
 names-later : (ss : List Step) (m i : ℕ) → i < length ss → m + i ≤ (get_or ss i blank_step).left → names_earlier m ss ≡ false
@@ -242,7 +258,10 @@ module _ (orders steps : List ℕ) (i : ℕ) (h : i < length steps / 3) (unknown
       ap (λ (s : Step). s.left)
       (get_or-take count program i blank_step h ∙ filled_at 12 blank_step blank_step (step_at steps) count i (omega arith)
       ∙ ap (λ (t : Bool). cond t (step_at steps i) blank_step) (lt-ltb i count h))
-      ∙ rw (lt-ltb 3 (get_or steps (3 * i) 0) unknown)
+      ∙ none (get_or steps (3 * i) 0) (get_or steps (3 * i + 1) 0) (get_or steps (3 * i + 2) 0) unknown
+    where
+      none : (op l r : ℕ) → 3 < op → (step_of op l r).left ≡ 16
+      none op l r u = rw (ne_eqb op 0 (λ e. omega arith), ne_eqb op 1 (λ e. omega arith), ne_eqb op 2 (λ e. omega arith), ne_eqb op 3 (λ e. omega arith))
 
   pub unknown-operation : well_formed (length orders) count (take count program) ≡ false
   unknown-operation =

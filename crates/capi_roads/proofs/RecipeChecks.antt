@@ -1,9 +1,9 @@
 -- What the tests of a recipe and of a road leave. Assumes nothing.
-use mathlib.Core.Path.{◌≡◌, refl, sym, ◌∙◌}
-use mathlib.Core.Bool.{Bool, true, false, cond}
-use mathlib.Core.List.{List}
-use Prim.Native.Nat.{ℕ, suc}
+use Rattle.std.specs.Prelude.{Bool, true, false, cond, List, ◌≡◌, ℕ, suc, ◌+◌, ◌*◌, ◌^◌, ◌<◌, max}
+use mathlib.Core.Path.{refl, sym, ◌∙◌}
 use native.Mathlib.Nat.{suc-ne-zero}
+use native.Mathlib.Omega.{arith}
+use prog.Memory.{up}
 use Rattle.calculus.specs.Orders.{some_above20}
 use Rattle.given.proofs.Admission.{one-fits, count_fits}
 use Rattle.capi_roads.specs.Recipes.{surface_size, total, lists_given, recipe_given, road_given}
@@ -20,11 +20,22 @@ module _ (size : ℕ → ℕ) (orders : List ℕ) (l : ℕ) where
       let p = untaken (some_above20 orders) 0 _ e in
       (p.0, count_fits (total size orders) l p.1)
 
-  pub recipe-fits : (steps : List ℕ) (o : ℕ) {r : ℕ} → r ≡ recipe_given size orders l steps o → r ≡ 0 → (some_above20 orders ≡ false) × (l ≡ total size orders)
+  pub recipe-fits : (test : ℕ → ℕ → ℕ) (steps : List ℕ) (o : ℕ) {r : ℕ} → r ≡ recipe_given size test orders l steps o → r ≡ 0 → (some_above20 orders ≡ false) × (l ≡ total size orders)
   unfolding recipe_given
-  recipe-fits steps o e z = fit (one-fits _ _ (sym e ∙ z))
+  recipe-fits test steps o e z = fit (one-fits _ _ (sym e ∙ z))
 
 pub road-fits : (orders : List ℕ) (l : ℕ) (steps : List ℕ) (m c n o : ℕ) {r : ℕ} → r ≡ road_given orders l steps m c n o → r ≡ 0 →
     (some_above20 orders ≡ false) × (l ≡ total surface_size orders)
 unfolding road_given
 road-fits orders l steps m c n o e z = fit surface_size orders l (one-fits _ _ (sym e ∙ z))
+
+-- a recipe fits in memory, where sixteen of its jets do: its counts, four jets and twelve steps, each at its alignment
+up-8 : (e : ℕ) → up 8 e < e + 8
+up-8 e = omega arith
+
+pub fits-memory : (a s : ℕ) → a ≡ 8 → 16 * s < 2 ^ 63 → up (max 8 (max a 8)) (up 8 (up 8 (up a 8 + 4 * s) + 8) + 288) < 2 ^ 63
+fits-memory a s e h =
+    let x = up 8 8 + 4 * s in
+    let y = up 8 x + 8 in
+    let z = up 8 y + 288 in
+    rw e (omega (arith, h, up-8 8, up-8 x, up-8 y, up-8 z))

@@ -15,8 +15,7 @@ use Rattle.calculus.specs.Orders.{some_above20}
 use Rattle.calculus.proofs.LoopFilling.{CurveStored, stored-all}
 use Rattle.roads.proofs.Inputs.{then-true}
 use Rattle.given.specs.Given.{count_given}
-use Rattle.capi_roads.specs.declared.recipe_steps.Jets.{Jets}
-use Rattle.capi_roads.specs.Recipes.{size_of, total}
+use Rattle.capi_roads.specs.Recipes.{total}
 
 -- ---- orders
 pub below-20 : (l : List ℕ) → some_above20 l ≡ false → (i : ℕ) → i < length l → get_or l i 0 ≤ 20
@@ -26,8 +25,8 @@ below-20 (x ∷ l) e zero h = ltb-false 20 x (then-true (ltb 20 x) (some_above20
 below-20 (x ∷ l) e (suc i) h = below-20 l (then-true (ltb 20 x) (some_above20 l) e).1 i (le_of_suc-le-suc h)
 
 -- how many numbers a jet has
-pub sized : (jets : Jets) (n : ℕ) {k : ℕ} → n ≤ 20 → k ≡ cond (ltb 20 n) 0 (size_of jets n) → k ≡ size_of jets n
-sized jets n h e = e ∙ rw (le-ltb 20 n h)
+pub sized : (size : ℕ → ℕ) (n : ℕ) {k : ℕ} → n ≤ 20 → k ≡ cond (ltb 20 n) 0 (size n) → k ≡ size n
+sized size n h e = e ∙ rw (le-ltb 20 n h)
 
 -- ---- the lists of the first i orders
 module _ (size : ℕ → ℕ) where
@@ -78,6 +77,13 @@ within-entries size l i h at k m e q t = omega (arith, total-more size l i h, to
 -- a jet among the first four is given
 pub among-four : (l : List ℕ) {count i : ℕ} → count ≡ min (length l) 4 → i < count → i < length l
 among-four l e h = omega (arith, e)
+
+-- the list of the jet i ends within the entries
+pub ends : (size : ℕ → ℕ) (os : List ℕ) {es count i at k : ℕ} → some_above20 os ≡ false → es ≡ total size os → count ≡ min (length os) 4 → i < count →
+    at ≡ total size (take i os) → k ≡ cond (ltb 20 (get_or os i 0)) 0 (size (get_or os i 0)) → at + k ≤ es
+ends size os {es} {count} {i} {at} {k} low all some t e q =
+    let here = among-four os some t in
+    within-entries size os i here at k es e (sized size _ (below-20 os low i here) q) all
 
 -- an array of w places holds the first w of what is given
 pub first-filled : {X : Type 0} (w : ℕ) (blank : X) (g : ℕ → X) (n : ℕ) {r : List X} {m : ℕ} → CurveStored w blank blank (λ k v. v ≡ g k) m r → m ≡ min n w →

@@ -3,6 +3,8 @@
 
 #![tactic(auto)]
 
+mod checks;
 pub mod curve_recipes;
+mod jets;
 mod recipe_steps;
 pub mod recipes;

@@ -5,7 +5,7 @@ ghost use Rattle.calculus.specs.Kind.{regular};
 ghost use Rattle.calculus.specs.Curve.{sum, difference, product_by, derivative};
 ghost use Rattle.formulas.specs.Real.{real};
 ghost use Rattle.vector_formulas.specs.Vector.{vectors, vector_norm};
-ghost use Rattle.float_lists.specs.Lists.{to_float, to_vector};
+ghost use Rattle.given.specs.Values.{to_float, to_vector};
 ghost use Rattle.vector_derivatives.specs.Answer.{vector_curves, vector_entry_at, by_norm};
 ghost use Rattle.derivatives.specs.Answer.{curves, entry_at, by_division};
 ghost use Rattle.calculus.specs.Rational.{rational};

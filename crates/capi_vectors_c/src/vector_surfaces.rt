@@ -2,11 +2,11 @@
 ghost use Rattle.std.specs.Prelude.{◌≡◌, List, ℕ, ◌+◌, ◌-◌, Float};
 ghost use Rattle.ieee_vectors.specs.Vectors.{quotient, multiple, dot, cross};
 ghost use Rattle.calculus.specs.Kind.{regular};
-ghost use Rattle.calculus.specs.Surface.{sum, difference, product_by, derivative_u, derivative_v};
+ghost use Rattle.calculus.specs.Surface.{sum, difference, product_by, derivative_u, derivative_v, derivative_by};
 ghost use Rattle.formulas.specs.Real.{real};
 ghost use Rattle.vector_formulas.specs.Vector.{vectors};
 ghost use Rattle.vector_derivatives.specs.Composite.{vector_along_curve_at, vector_along_curve};
-ghost use Rattle.float_lists.specs.Lists.{to_float, to_vector};
+ghost use Rattle.given.specs.Values.{to_float, to_vector};
 ghost use Rattle.vector_surface_formulas.specs.Formulas.{vector_surface_norm};
 ghost use Rattle.vector_derivatives.specs.Answer.{vector_surfaces, vector_curves, vector_entry_at, by_norm};
 ghost use Rattle.derivatives.specs.Answer.{surfaces, parameters, entry_at, by_division};

@@ -1,13 +1,15 @@
--- The centre and the contacts, by the tests for 6 and 7 that led to them. Assumes nothing.
+-- The centre and the contacts, by the tests for a zero that led to them. Assumes nothing.
 use mathlib.Core.Path.{◌≡◌, sym}
 use mathlib.Core.Bool.{Bool, cond}
 use Prim.Native.Nat.{ℕ}
 use lib.Dec.{eqb}
+use Rattle.std.specs.Prelude.{Ok, Err}
+use Rattle.refusals.specs.declared.Refusal.TheVariants.{ZeroDeterminant, DivisionByZero}
 use Rattle.ieee_vectors.specs.Matrices.{determinant2, determinant3}
 use Rattle.formulas.specs.Real.{is_zero}
 use Rattle.formulas.specs.Numbers.{curve_numbers}
 use Rattle.surface_info.specs.SurfaceInfo.{offset, form}
-use Rattle.contacts.specs.Center.{jet0, jet1, start, planes, formed, found, no_contacts, center_contacts}
+use Rattle.contacts.specs.Center.{jet0, jet1, start, planes, formed, found, center_contacts}
 use Rattle.contacts.specs.declared.Place.{Place}
 
 module _ (p : Place) where
@@ -29,10 +31,10 @@ module _ (p : Place) where
 
 module _ (p : Place) (n : ℕ) where
   pub solved : {b0 b1 b2 b3 b4 b5 : Bool} → eqb n 0 ≡ b0 → planes-zero p ≡ b1 → form0-zero p ≡ b2 → norm0-zero p ≡ b3 → form1-zero p ≡ b4 → norm1-zero p ≡ b5 →
-      cond b0 (found (formed p n)) (cond b1 (no_contacts 6) (cond b2 (no_contacts 6) (cond b3 (no_contacts 7)
-      (cond b4 (no_contacts 6) (cond b5 (no_contacts 7) (found (formed p n))))))) ≡ center_contacts p n
+      cond b0 (Ok (found (formed p n))) (cond b1 (Err ZeroDeterminant) (cond b2 (Err ZeroDeterminant) (cond b3 (Err DivisionByZero)
+      (cond b4 (Err ZeroDeterminant) (cond b5 (Err DivisionByZero) (Ok (found (formed p n)))))))) ≡ center_contacts p n
   unfolding center_contacts
   solved e0 e1 e2 e3 e4 e5 =
-      let r = found (formed p n) in
-      λ i. cond (sym e0 i) r (cond (sym e1 i) (no_contacts 6) (cond (sym e2 i) (no_contacts 6) (cond (sym e3 i) (no_contacts 7)
-      (cond (sym e4 i) (no_contacts 6) (cond (sym e5 i) (no_contacts 7) r)))))
+      let r = Ok (found (formed p n)) in
+      λ i. cond (sym e0 i) r (cond (sym e1 i) (Err ZeroDeterminant) (cond (sym e2 i) (Err ZeroDeterminant) (cond (sym e3 i) (Err DivisionByZero)
+      (cond (sym e4 i) (Err ZeroDeterminant) (cond (sym e5 i) (Err DivisionByZero) r)))))

@@ -1,7 +1,8 @@
 -- The derivatives of the ball's centre, its contact points and their parameters along the edge (the source's `der_routine` and
--- `sub_center_contacts_ders`). Each operation is rounded in the source's order; 6 and 7 where a step would meet one. Assumes nothing.
-use Rattle.std.specs.Prelude.{cond, List, ℕ, zero, suc, ◌-◌, eqb, replicate, Float}
-use Rattle.ieee_vectors.specs.Vectors.{minus, vector, dot, positive_zero}
+-- `sub_center_contacts_ders`). Each operation is rounded in the source's order; refused where a step would meet a zero determinant or a
+-- zero divisor. Assumes nothing.
+use Rattle.std.specs.Prelude.{cond, List, ℕ, zero, suc, ◌-◌, eqb, Float, Result, Ok, Err}
+use Rattle.ieee_vectors.specs.Vectors.{minus, vector, dot}
 use Rattle.ieee_vectors.specs.Matrices.{columns, transposed, determinant2, determinant3, inverse3, image3}
 use Rattle.ieee_vectors.specs.declared.Vector3.{Vector3}
 use Rattle.ieee_vectors.specs.declared.Matrix3.{Matrix3}
@@ -12,7 +13,8 @@ use Rattle.formulas.specs.Numbers.{curve_numbers}
 use Rattle.vector_formulas.specs.Vector.{vectors, vector_numbers, vector_surface_numbers, stored}
 use Rattle.surface_info.specs.SurfaceInfo.{first_only, initial, offset, form, routine}
 use Rattle.contacts.specs.declared.Place.{Place}
-use Rattle.surface_info.specs.declared.Parameters.{Parameters}
+use Rattle.refusals.specs.declared.Refusal.{Refusal}
+use Rattle.refusals.specs.declared.Refusal.TheVariants.{ZeroDeterminant, DivisionByZero}
 use Rattle.contacts.specs.declared.CenterContacts.{CenterContacts}
 use Rattle.surface_info.specs.declared.SurfaceInfo.{SurfaceInfo}
 use Rattle.contacts.specs.declared.steps.Formed.{Formed}
@@ -67,10 +69,9 @@ after e r s t inverse k (suc m) = next e r s t inverse (after e r s t inverse k 
 abbrev pub formed : Place → ℕ → Formed
 formed p n = after (edge p) (radii p) (jet0 p) (jet1 p) (inverse3 (planes p)) (start p) n
 
--- ---- the answer: the centre, the contact points and their parameters beside 0; or zeros beside a refusal's number
+-- ---- the answer: the centre, the contact points and their parameters
 abbrev pub found : Formed → CenterContacts
 found k = record {
-  refusal = 0;
   center = k.center;
   contact0 = k.info0.carried.point;
   contact1 = k.info1.carried.point;
@@ -78,28 +79,20 @@ found k = record {
   uv1 = k.info1.uv;
 }
 
-abbrev pub no_parameters : Parameters
-no_parameters = record { u = replicate 21 positive_zero; v = replicate 21 positive_zero }
-
-abbrev pub no_contacts : ℕ → CenterContacts
-no_contacts c =
-    let z = replicate 63 positive_zero in
-    record { refusal = c; center = z; contact0 = z; contact1 = z; uv0 = no_parameters; uv1 = no_parameters }
-
--- ---- 6 and 7. Every order inverts the same matrices and divides by the same entries of order 0 (proofs/Untouched.antt), first for the centre, then
--- for each surface: so the order 1 meets the first zero, if there is one, and without the order 1 nothing is inverted or divided.
-abbrev pub if_regular : (ℕ → ℕ → Vector3) → List Float → SurfaceInfo → CenterContacts → CenterContacts
+-- ---- refused for a zero. Every order inverts the same matrices and divides by the same entries of order 0 (proofs/Untouched.antt), first for the
+-- centre, then for each surface: so the order 1 meets the first zero, if there is one, and without the order 1 nothing is inverted or divided.
+abbrev pub if_regular : {A : Type 0} → (ℕ → ℕ → Vector3) → List Float → SurfaceInfo → Result A Refusal → Result A Refusal
 if_regular s center a r =
-    cond (is_zero (determinant2 (form s (offset center a.carried.point 0)))) (no_contacts 6)
-    (cond (is_zero (curve_numbers a.normal.norm 0)) (no_contacts 7) r)
+    cond (is_zero (determinant2 (form s (offset center a.carried.point 0)))) (Err ZeroDeterminant)
+    (cond (is_zero (curve_numbers a.normal.norm 0)) (Err DivisionByZero) r)
 
-abbrev pub if_solvable : Place → Formed → CenterContacts → CenterContacts
+abbrev pub if_solvable : {A : Type 0} → Place → Formed → Result A Refusal → Result A Refusal
 if_solvable p k r =
-    cond (is_zero (determinant3 (planes p))) (no_contacts 6)
+    cond (is_zero (determinant3 (planes p))) (Err ZeroDeterminant)
     (if_regular (jet0 p) k.center k.info0 (if_regular (jet1 p) k.center k.info1 r))
 
 -- on all floats, finite or not
-unfoldable pub center_contacts : Place → ℕ → CenterContacts
+unfoldable pub center_contacts : Place → ℕ → Result CenterContacts Refusal
 center_contacts p n =
-    let r = found (formed p n) in
+    let r = Ok (found (formed p n)) in
     cond (eqb n 0) r (if_solvable p (start p) r)

@@ -1,12 +1,13 @@
-// The ball's centre, its contact points and their parameters along the edge. NaN and infinities pass through; 6 where a determinant is zero, 7 where a
-// divisor is.
+// The ball's centre, its contact points and their parameters along the edge. NaN and infinities pass through; refused where a determinant or a divisor
+// is zero.
 #![tactic(auto)]
 
-ghost use Rattle.std.specs.Prelude.{◌≡◌, min};
-ghost use Rattle.contacts.specs.Center.{found as found_of, no_contacts, center_contacts};
+ghost use Rattle.std.specs.Prelude.{◌≡◌, min, Ok};
+ghost use Rattle.contacts.specs.Center.{start, found as found_of, if_solvable, center_contacts};
 
 use crate::steps::Formed;
 use ieee_vectors::{Vector2, Vector3};
+use refusals::Refusal;
 use surface_info::Parameters;
 
 mod steps;
@@ -26,10 +27,9 @@ pub struct Place {
     pub normal1: Vector3,
 }
 
-// The centre, the contact points and their parameters along the edge, beside 0; or zeros beside a refusal's number.
+// The centre, the contact points and their parameters along the edge.
 #[derive(Clone, Copy)]
 pub struct CenterContacts {
-    pub refusal: u8,
     pub center: [f64; 63],
     pub contact0: [f64; 63],
     pub contact1: [f64; 63],
@@ -40,15 +40,12 @@ pub struct CenterContacts {
 fn found(k: Formed) -> CenterContacts
     ensures { result ≡ found_of k }
 {
-    let a = k.info0;
-    let b = k.info1;
     let center = k.center;
-    let contact0 = a.carried.point;
-    let contact1 = b.carried.point;
-    let uv0 = a.uv;
-    let uv1 = b.uv;
+    let contact0 = k.info0.carried.point;
+    let contact1 = k.info1.carried.point;
+    let uv0 = k.info0.uv;
+    let uv1 = k.info1.uv;
     CenterContacts {
-        refusal: 0,
         center,
         contact0,
         contact1,
@@ -57,51 +54,26 @@ fn found(k: Formed) -> CenterContacts
     }
 }
 
-fn no_contacts(c: u8) -> CenterContacts
-    ensures { result ≡ no_contacts c }
+// Whether a step would meet a zero, first for the centre, then for each surface: every order inverts the same matrices and divides by the same norms.
+fn solvable(p: &Place) -> Result<(), Refusal>
+    ensures { result ≡ if_solvable p.now (start p.now) (Ok tt) }
 {
-    let z = [0.0f64; 63];
-    let y = [0.0f64; 21];
-    CenterContacts {
-        refusal: c,
-        center: z,
-        contact0: z,
-        contact1: z,
-        uv0: Parameters { u: y, v: y },
-        uv1: Parameters { u: y, v: y },
+    let k = steps::start(p);
+    if steps::planes(p).determinant() == 0.0 {
+        return Err(Refusal::ZeroDeterminant);
     }
+    steps::regular(&p.surface0, &k.center, &k.info0)?;
+    steps::regular(&p.surface1, &k.center, &k.info1)
 }
 
-// All entries up to the order n, at most 19; or 6 or 7 where a step would meet one.
-pub fn center_contacts(p: Place, n: usize) -> CenterContacts
+// All entries up to the order n, at most 19.
+#[tactic(auto, unfolding(crate::specs::Center::center_contacts))]
+pub fn center_contacts(p: Place, n: usize) -> Result<CenterContacts, Refusal>
     ensures { result ≡ center_contacts p (min n 19) }
 {
-    let n = calculus::smaller(n, 19);
-    if n == 0 {
-        return found(steps::up_to(p, n));
+    let n = n.min(19);
+    if n > 0 {
+        solvable(&p)?;
     }
-    let k = steps::start(p);
-    let center = k.center;
-    let a = k.info0;
-    let b = k.info1;
-    let s = p.surface0;
-    let t = p.surface1;
-    let x = a.normal.norm;
-    let y = b.normal.norm;
-    if steps::planes(p).determinant() == 0.0 {
-        return no_contacts(6);
-    }
-    if steps::form_at(&s, &center, a).determinant() == 0.0 {
-        return no_contacts(6);
-    }
-    if x[0] == 0.0 {
-        return no_contacts(7);
-    }
-    if steps::form_at(&t, &center, b).determinant() == 0.0 {
-        return no_contacts(6);
-    }
-    if y[0] == 0.0 {
-        return no_contacts(7);
-    }
-    found(steps::up_to(p, n))
+    Ok(found(steps::up_to(&p, n)))
 }

@@ -1,3 +1,3 @@
-pub mod Curves
+pub mod Passed
 pub mod Answers
-pub mod Parameters
+pub mod Listed

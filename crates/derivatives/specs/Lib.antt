@@ -1,4 +1,4 @@
+pub mod Jets
 pub mod Answer
-pub mod Names
 pub mod Composite
 pub mod Inner

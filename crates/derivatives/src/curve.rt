@@ -1,172 +1,131 @@
 // Jets of curves.
-ghost use Rattle.std.specs.Prelude.{◌≡◌, List, ℕ, suc, ◌≤◌, Float, length};
+ghost use Rattle.std.specs.Prelude.{◌≡◌, ◌≤◌, List, length, Float, Result, ⊤};
+ghost use Rattle.refusals.specs.declared.Refusal.{Refusal};
 ghost use Rattle.calculus.specs.Kind.{regular};
 ghost use Rattle.calculus.specs.Curve.{derivative, sum as sums, difference as differences, product};
 ghost use Rattle.calculus.specs.Rational.{rational};
-ghost use Rattle.calculus.specs.Order.{curve_entries};
 ghost use Rattle.formulas.specs.Real.{real};
-ghost use Rattle.formulas.specs.Numbers.{curve_numbers};
-ghost use Rattle.derivatives.specs.Names.{answered_curve, refused_curve};
 ghost use Rattle.derivatives.specs.Answer.{entry_at, curves, by_division};
-ghost use Rattle.calculus.specs.JetKind.{by_formula, differentiated, from_list, into_list, on_two};
+ghost use Rattle.calculus.specs.JetKind.{by_formula, differentiated, finite_up_to, from_list, into_list, on_two};
 ghost use Rattle.derivatives.specs.Inner.{by_curve_entries};
 
-use crate::{CurveAnswer, CurveDerivatives, formula};
+use crate::jets::Jet;
+use crate::{CurveDerivatives, formula, jets, lists};
 use calculus::Operation;
-use vectors::Real;
+use refusals::Refusal;
 
-fn on_two(f: Operation, a: CurveDerivatives, b: CurveDerivatives) -> CurveAnswer
-    ensures { result ≡ on_two curves curves refused_curve (by_curve_entries f) a b }
-{
-    let m = a.order;
-    let n = b.order;
-    if orders::above_20(m, n) {
-        return crate::refused_curve(1);
-    }
-    let k = calculus::smaller(m, n);
-    let x = a.entries;
-    let y = b.entries;
-    if !crate::curves_finite(&x, &y, k) {
-        return crate::refused_curve(5);
-    }
-    let w = y[0];
-    if formula::division_by_zero(f, w) {
-        return crate::refused_curve(7);
-    }
-    let r = formulas::curve(f, &x, &y, k);
-    crate::returned_curve(r, k)
-}
+impl Jet for CurveDerivatives {
+    ghost order = { curves.order };
 
-// The entries of a list, which has one for each order.
-pub fn read(list: &[f64], n: usize) -> CurveAnswer
-    requires { (n ≤ 20) × (length list.now ≡ suc n) }
-    ensures { result ≡ answered_curve n (curve_numbers list.now) }
-{
-    let mut r = [0.0f64; 21];
-    let mut m = 0;
-    while m <= n {
-        r[m] = list[m];
-        m += 1;
+    ghost finite = { finite_up_to curves };
+
+    fn order(&self) -> usize {
+        self.order
     }
-    CurveAnswer {
-        refusal: 0,
-        jet: CurveDerivatives {
-            order: n,
-            entries: r,
-        },
+
+    fn is_finite(&self, n: usize) -> bool {
+        formulas::finite_curve(&self.entries, n)
     }
 }
 
-fn write(a: &[f64; 21], n: usize, out: &mut [f64])
-    requires { (n ≤ 20) × (length out.old ≡ suc n) }
-    ensures { out.new ≡ curve_entries (curve_numbers a.now) n }
+// A list has one entry for each order.
+pub fn read(n: usize, list: &[f64]) -> CurveDerivatives
+    requires { (n ≤ 20) × (length list.now ≡ curves.count n) }
+    ensures { result ≡ curves.made n (curves.in_list n list.now) }
 {
-    let mut m = 0;
-    while m <= n {
-        out[m] = a[m];
-        m += 1;
+    let mut entries = [0.0f64; 21];
+    entries[..n + 1].copy_from_slice(list);
+    CurveDerivatives { order: n, entries }
+}
+
+fn write(a: &CurveDerivatives, out: &mut [f64])
+    requires { (a.now.order ≤ 20) × (length out.old ≡ curves.count a.now.order) }
+    ensures { out.new ≡ curves.list (curves.numbers a.now) a.now.order }
+{
+    out.copy_from_slice(&a.entries[..a.order + 1]);
+}
+
+// A formula on two jets, at the smaller order. Curves and surfaces, numbers and vectors have each their own: document 01 keeps their formulas apart.
+fn on_two(
+    f: Operation,
+    a: CurveDerivatives,
+    b: CurveDerivatives,
+) -> Result<CurveDerivatives, Refusal>
+    ensures { result ≡ on_two curves curves (by_curve_entries f) a b }
+{
+    let n = jets::both(&a, &b)?;
+    if formula::division_by_zero(f, b.entries[0]) {
+        return Err(Refusal::DivisionByZero);
     }
+    crate::returned_curve(formulas::curve(f, &a.entries, &b.entries, n), n)
 }
 
 impl CurveDerivatives {
-    pub fn from_list(order: usize, list: &[f64]) -> CurveAnswer
+    pub fn from_list(order: usize, list: &[f64]) -> Result<CurveDerivatives, Refusal>
         ensures { result ≡ from_list curves order list.now }
     {
-        if 20 < order {
-            return crate::refused_curve(1);
-        }
-        if list.len() != order + 1 {
-            return crate::refused_curve(2);
-        }
-        if !formulas::finite_list(list) {
-            return crate::refused_curve(5);
-        }
-        read(list, order)
+        let a = lists::curve(order, list)?;
+        jets::finite_list(list)?;
+        Ok(a)
     }
 
-    pub fn into_list(self, out: &mut [f64]) -> u8
-        ensures { ◌≡◌ {A = ℕ × List Float} (result, out.new) (into_list curves self out.old) }
+    pub fn into_list(self, out: &mut [f64]) -> Result<(), Refusal>
+        ensures { ◌≡◌ {A = Result ⊤ Refusal × List Float} (result, out.new) (into_list curves self out.old) }
     {
-        let n = self.order;
-        if 20 < n {
-            return 1;
-        }
-        if out.len() != n + 1 {
-            return 2;
-        }
-        let a = self.entries;
-        if !crate::finite_curve(&a, n) {
-            return 5;
-        }
-        write(&a, n, out);
-        0
+        jets::fits(self.order, out.len(), self.order.min(20) + 1)?;
+        jets::one(&self)?;
+        write(&self, out);
+        Ok(())
     }
 
-    pub fn sum(self, other: CurveDerivatives) -> CurveAnswer
+    pub fn sum(self, other: CurveDerivatives) -> Result<CurveDerivatives, Refusal>
         ensures { result ≡ by_formula curves curves curves (sums (regular real)) self other }
     {
         on_two(Operation::Sum, self, other)
     }
 
-    pub fn difference(self, other: CurveDerivatives) -> CurveAnswer
+    pub fn difference(self, other: CurveDerivatives) -> Result<CurveDerivatives, Refusal>
         ensures { result ≡ by_formula curves curves curves (differences (regular real)) self other }
     {
         on_two(Operation::Difference, self, other)
     }
 
-    pub fn derivative(self) -> CurveAnswer
+    pub fn derivative(self) -> Result<CurveDerivatives, Refusal>
         ensures { result ≡ differentiated curves derivative self }
     {
-        let n = self.order;
-        if 20 < n {
-            return crate::refused_curve(1);
-        }
-        if n == 0 {
-            return crate::refused_curve(2);
-        }
-        let a = self.entries;
-        if !crate::finite_curve(&a, n) {
-            return crate::refused_curve(5);
-        }
-        let k = n - 1;
-        let r = formulas::derivative(&a, k);
-        CurveAnswer {
-            refusal: 0,
-            jet: CurveDerivatives {
-                order: k,
-                entries: r,
-            },
-        }
+        let n = jets::less(&self)?;
+        Ok(CurveDerivatives {
+            order: n,
+            entries: formulas::derivative(&self.entries, n),
+        })
     }
 
     // One entry of the product.
-    pub fn combinatorial_derivative(self, other: CurveDerivatives, order: usize) -> Real
+    pub fn combinatorial_derivative(
+        self,
+        other: CurveDerivatives,
+        order: usize,
+    ) -> Result<f64, Refusal>
         ensures { result ≡ entry_at curves curves (λ p q. product real p q order) self other order }
     {
-        let m = self.order;
-        let n = other.order;
-        if orders::above_20_at(m, n, order) {
-            return Real::Refused(1);
-        }
-        if calculus::smaller(m, n) < order {
-            return Real::Refused(2);
-        }
-        let x = self.entries;
-        let y = other.entries;
-        if !crate::curves_finite(&x, &y, order) {
-            return Real::Refused(5);
-        }
-        vectors::returned(formulas::product(&x, &y, order))
+        let n = jets::asked(&self, &other, order)?;
+        vectors::returned(formulas::product(&self.entries, &other.entries, n))
     }
 
-    pub fn combinatorial_derivatives(self, other: CurveDerivatives) -> CurveAnswer
+    pub fn combinatorial_derivatives(
+        self,
+        other: CurveDerivatives,
+    ) -> Result<CurveDerivatives, Refusal>
         ensures { result ≡ by_formula curves curves curves (product real) self other }
     {
         on_two(Operation::Product, self, other)
     }
 
     // The quotient of this curve by the weights.
-    pub fn rational_derivatives(self, weights: CurveDerivatives) -> CurveAnswer
+    pub fn rational_derivatives(
+        self,
+        weights: CurveDerivatives,
+    ) -> Result<CurveDerivatives, Refusal>
         ensures { result ≡ by_division curves curves curves (λ y. y 0) (rational (regular real) real.over) self weights }
     {
         on_two(Operation::Quotient, self, weights)

@@ -9,9 +9,7 @@ pub fn division_by_zero(f: Operation, y: f64) -> bool
     ensures { result ≡ division_by_zero f y }
 {
     match f {
-        Operation::Sum => false,
-        Operation::Difference => false,
-        Operation::Product => false,
         Operation::Quotient => y == 0.0,
+        _ => false,
     }
 }

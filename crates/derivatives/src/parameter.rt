@@ -1,81 +1,66 @@
 // Jets of curves in the parameters of a surface.
-ghost use Rattle.std.specs.Prelude.{◌≡◌, List, ℕ, suc, ◌+◌, ◌*◌, ◌≤◌, Float, length, get_or};
-ghost use Rattle.std.specs.Float.{nan};
-ghost use Rattle.calculus.specs.Array.{curve_array};
-ghost use Rattle.ieee_vectors.specs.Vectors.{positive_zero};
-ghost use Rattle.formulas.specs.Numbers.{curve_numbers};
-ghost use Rattle.calculus.specs.Order.{pairs};
-ghost use Rattle.calculus.specs.JetKind.{from_list, into_list};
+ghost use Rattle.std.specs.Prelude.{◌≡◌, ◌≤◌, List, length, Float, Result, ⊤};
+ghost use Rattle.refusals.specs.declared.Refusal.{Refusal};
+ghost use Rattle.calculus.specs.JetKind.{finite_up_to, from_list, into_list};
 ghost use Rattle.derivatives.specs.Answer.{parameters};
 
-use crate::{ParameterAnswer, ParameterCurve};
+use crate::jets::Jet;
+use crate::{ParameterCurve, jets, lists};
+use refusals::Refusal;
 
-// Every other number of a list, from the one at `from` on.
-pub fn read(list: &[f64], n: usize, from: usize) -> [f64; 21]
-    requires { (n ≤ 20) × (from ≤ 1) × (length list.now ≡ 2 * suc n) }
-    ensures { result ≡ curve_array positive_zero (λ m. get_or list.now (2 * m + from) nan) n }
-{
-    let mut r = [0.0f64; 21];
-    let mut m = 0;
-    while m <= n {
-        let k = 2 * m + from;
-        r[m] = list[k];
-        m += 1;
+impl Jet for ParameterCurve {
+    ghost order = { parameters.order };
+
+    ghost finite = { finite_up_to parameters };
+
+    fn order(&self) -> usize {
+        self.order
     }
-    r
+
+    fn is_finite(&self, n: usize) -> bool {
+        formulas::finite_curve(&self.u, n) && formulas::finite_curve(&self.v, n)
+    }
 }
 
-// u and v side by side.
-fn write(u: &[f64; 21], v: &[f64; 21], n: usize, out: &mut [f64])
-    requires { (n ≤ 20) × (length out.old ≡ 2 * suc n) }
-    ensures { out.new ≡ pairs (curve_numbers u.now) (curve_numbers v.now) 0 (suc n) }
+// In a list u and v stand side by side.
+pub fn read(n: usize, list: &[f64]) -> ParameterCurve
+    requires { (n ≤ 20) × (length list.now ≡ parameters.count n) }
+    ensures { result ≡ parameters.made n (parameters.in_list n list.now) }
 {
-    let mut m = 0;
-    while m <= n {
-        let k = 2 * m;
-        out[k] = u[m];
-        out[k + 1] = v[m];
-        m += 1;
+    let mut u = [0.0f64; 21];
+    let mut v = [0.0f64; 21];
+    for m in 0..n + 1 {
+        u[m] = list[2 * m];
+        v[m] = list[2 * m + 1];
+    }
+    ParameterCurve { order: n, u, v }
+}
+
+fn write(a: &ParameterCurve, out: &mut [f64])
+    requires { (a.now.order ≤ 20) × (length out.old ≡ parameters.count a.now.order) }
+    ensures { out.new ≡ parameters.list (parameters.numbers a.now) a.now.order }
+{
+    for m in 0..a.order + 1 {
+        out[2 * m] = a.u[m];
+        out[2 * m + 1] = a.v[m];
     }
 }
 
 impl ParameterCurve {
-    pub fn from_list(order: usize, list: &[f64]) -> ParameterAnswer
+    pub fn from_list(order: usize, list: &[f64]) -> Result<ParameterCurve, Refusal>
         ensures { result ≡ from_list parameters order list.now }
     {
-        if 20 < order {
-            return crate::refused_parameter(1);
-        }
-        if list.len() != 2 * (order + 1) {
-            return crate::refused_parameter(2);
-        }
-        if !formulas::finite_list(list) {
-            return crate::refused_parameter(5);
-        }
-        let u = read(list, order, 0);
-        let v = read(list, order, 1);
-        ParameterAnswer {
-            refusal: 0,
-            jet: ParameterCurve { order, u, v },
-        }
+        let a = lists::parameter(order, list)?;
+        jets::finite_list(list)?;
+        Ok(a)
     }
 
-    pub fn into_list(self, out: &mut [f64]) -> u8
-        ensures { ◌≡◌ {A = ℕ × List Float} (result, out.new) (into_list parameters self out.old) }
+    pub fn into_list(self, out: &mut [f64]) -> Result<(), Refusal>
+        ensures { ◌≡◌ {A = Result ⊤ Refusal × List Float} (result, out.new) (into_list parameters self out.old) }
     {
-        let n = self.order;
-        if 20 < n {
-            return 1;
-        }
-        if out.len() != 2 * (n + 1) {
-            return 2;
-        }
-        let u = self.u;
-        let v = self.v;
-        if !crate::curves_finite(&u, &v, n) {
-            return 5;
-        }
-        write(&u, &v, n, out);
-        0
+        jets::fits(self.order, out.len(), 2 * (self.order.min(20) + 1))?;
+        jets::one(&self)?;
+        write(&self, out);
+        Ok(())
     }
 }

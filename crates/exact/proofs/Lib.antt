@@ -3,7 +3,8 @@ pub mod Judged
 pub mod CarryJudged
 -- jets that agree up to the order have the same answer
 pub mod Same
--- the answer that entries make, and the entries that a loop has stored
+-- an array that a loop or a copy fills; the answer that entries make
+pub mod Filled
 pub mod Answers
--- a parameter curve's list; the tests of the orders of a carry
+-- the tests of the orders of a carry
 pub mod Orders

@@ -1,38 +1,35 @@
--- The tests of the orders of a carry: the answer where all pass, and the outcome by the number of the refusal. Assumes nothing.
-use mathlib.Core.Path.{◌≡◌, refl}
-use mathlib.Core.Bool.{Bool, true, false, cond, ◌||◌}
-use Prim.Native.Nat.{ℕ, suc, ◌≤◌, min}
-use native.Mathlib.Nat.{suc-ne-zero}
-use native.Mathlib.Omega.{arith}
-use lib.Dec.{ltb}
+-- The tests of the orders of a carry: the answer where all pass. Assumes nothing.
+use Rattle.std.proofs.Common.{◌≡◌, Bool, true, false, ◌||◌, ℕ, ◌≤◌, min, ltb, Ok, Err, refl, sym, ap, ◌∙◌, arith}
 use borrow.Author.Tests.{le-ltb}
-use Rattle.calculus.specs.JetKind.{above20}
+use Rattle.std.specs.Prelude.{Result, ⊤}
+use Rattle.std.specs.Result.{result_and, is_err}
+use Rattle.refusals.specs.declared.Refusal.{Refusal}
+use Rattle.calculus.specs.JetKind.{tested, above20}
 use Rattle.calculus.proofs.Tested.{near-at}
 use Rattle.exact.specs.Inner.{within_orders}
 
-module _ {A : Type 0} (refuse : ℕ → A) (a : A) (s c n : ℕ) where
-  pub within : s ≤ 20 → c ≤ 20 → n ≤ 20 → n ≤ s → n ≤ c → a ≡ within_orders refuse a s c n
+abbrev Tested : Type 0
+Tested = Result ⊤ Refusal
+
+none-above : (p q : Bool) → ◌≡◌ {A = Tested} (tested Err p q true (Ok tt)) (Ok tt) → p ≡ false
+none-above true q e = ap is_err e
+none-above false q e = refl
+
+all-tested : {B : Type 0} (r : Result B Refusal) (p q : Bool) → result_and (tested {B = Tested} Err p q true (Ok tt)) r ≡ tested Err p q true r
+all-tested r true q = refl
+all-tested r false true = refl
+all-tested r false false = refl
+
+module _ (s c n : ℕ) where
+  pub ordered : {B : Type 0} (r : Result B Refusal) → result_and (within_orders s c n) r ≡ tested Err (above20 s c || ltb 20 n) (ltb (min s c) n) true r
+  ordered r = all-tested r (above20 s c || ltb 20 n) (ltb (min s c) n)
+
+  pub within : s ≤ 20 → c ≤ 20 → n ≤ 20 → n ≤ s → n ≤ c → within_orders s c n ≡ Ok tt
   within hs hc hn g h = rw (le-ltb 20 s hs, le-ltb 20 c hc, le-ltb 20 n hn, le-ltb (min s c) n (omega (arith, g, h)))
 
-  -- the outcome x beside the number m
-  record Says (x : A) (m : ℕ) : Type 0 where
-    none : m ≡ 0 → (a ≡ x) × (n ≤ 20)
-    some : ¬ (m ≡ 0) → refuse m ≡ x
+  module _ (e : within_orders s c n ≡ Ok tt) where
+    pub passed : {B : Type 0} (r : Result B Refusal) → r ≡ tested Err (above20 s c || ltb 20 n) (ltb (min s c) n) true r
+    passed r = ap (λ (w : Tested). result_and w r) (sym e) ∙ ordered r
 
-  test : (b : Bool) (x y : A) (m k : ℕ) → (b ≡ true → Says x m) → (b ≡ false → Says y k) → Says (cond b x y) (cond b m k)
-  test true x y m k f g = f refl
-  test false x y m k f g = g refl
-
-  no : (m : ℕ) → Says (refuse (suc m)) (suc m)
-  no m = record { none = λ e. absurd (suc-ne-zero m e); some = λ _. refl }
-
-  says : Says (within_orders refuse a s c n) (within_orders (λ r. r) 0 s c n)
-  says =
-      test (above20 s c || ltb 20 n) _ _ _ _ (λ _. no 0) (λ e. test (ltb (min s c) n) _ _ _ _ (λ _. no 1)
-      (λ _. record { none = λ _. (refl, near-at s c n refl e); some = λ f. absurd (f refl) }))
-
-  pub by-none : within_orders (λ r. r) 0 s c n ≡ 0 → (a ≡ within_orders refuse a s c n) × (n ≤ 20)
-  by-none = says.none
-
-  pub by-some : ¬ (within_orders (λ r. r) 0 s c n ≡ 0) → refuse (within_orders (λ r. r) 0 s c n) ≡ within_orders refuse a s c n
-  by-some = says.some
+    pub in-range : n ≤ 20
+    in-range = near-at s c n refl (none-above (above20 s c || ltb 20 n) (ltb (min s c) n) e)

@@ -1,22 +1,13 @@
 -- The answers of each kind of exact jet by names of their own, as the contracts of private functions and proofs cite them. Assumes nothing.
-use Rattle.std.specs.Prelude.{ℕ, ℤ}
-use Rattle.calculus.specs.JetKind.{refused, answered}
-use Rattle.exact.specs.declared.CurveAnswer.{CurveAnswer}
-use Rattle.exact.specs.declared.SurfaceAnswer.{SurfaceAnswer}
-use Rattle.exact.specs.declared.ParameterAnswer.{ParameterAnswer}
-use Rattle.exact.specs.Answer.{curves, surfaces, parameters}
+use Rattle.std.specs.Prelude.{ℕ, ℤ, Result}
+use Rattle.refusals.specs.declared.Refusal.{Refusal}
+use Rattle.calculus.specs.JetKind.{answered}
+use Rattle.exact.specs.declared.CurveDerivatives.{CurveDerivatives}
+use Rattle.exact.specs.declared.SurfaceDerivatives.{SurfaceDerivatives}
+use Rattle.exact.specs.Answer.{curves, surfaces}
 
-abbrev pub refused_curve : ℕ → CurveAnswer
-refused_curve = refused curves
-
-abbrev pub refused_surface : ℕ → SurfaceAnswer
-refused_surface = refused surfaces
-
-abbrev pub refused_parameter : ℕ → ParameterAnswer
-refused_parameter = refused parameters
-
-abbrev pub answered_curve : ℕ → (ℕ → ℤ) → CurveAnswer
+abbrev pub answered_curve : ℕ → (ℕ → ℤ) → Result CurveDerivatives Refusal
 answered_curve = answered curves
 
-abbrev pub answered_surface : ℕ → (ℕ → ℕ → ℤ) → SurfaceAnswer
+abbrev pub answered_surface : ℕ → (ℕ → ℕ → ℤ) → Result SurfaceDerivatives Refusal
 answered_surface = answered surfaces

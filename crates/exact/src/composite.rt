@@ -3,53 +3,41 @@ ghost use Rattle.std.specs.Prelude.{◌≡◌};
 ghost use Rattle.exact.specs.Composite.{along_curve_at, along_curve};
 ghost use Rattle.exact.specs.Inner.{within_orders};
 
-use crate::{CurveAnswer, ParameterCurve, SurfaceDerivatives};
-use whole::Whole;
+use crate::{CurveDerivatives, ParameterCurve, SurfaceDerivatives};
+use refusals::Refusal;
 
-// 0, or the number of the refusal.
-fn refusal(surface: usize, curve: usize, order: usize) -> u8
-    ensures { result ≡ within_orders (λ c. c) 0 surface curve order }
+// The orders of the surface and of the curve, and the order asked.
+fn refusal(surface: usize, curve: usize, order: usize) -> Result<(), Refusal>
+    ensures { result ≡ within_orders surface curve order }
 {
-    if 20 < surface {
-        return 1;
+    if 20 < surface || 20 < curve || 20 < order {
+        return Err(Refusal::OrderAbove20);
     }
-    if 20 < curve {
-        return 1;
+    if surface.min(curve) < order {
+        return Err(Refusal::Shape);
     }
-    if 20 < order {
-        return 1;
-    }
-    let least = calculus::smaller(surface, curve);
-    if least < order { 2 } else { 0 }
+    Ok(())
 }
 
 impl SurfaceDerivatives {
     // The derivative of one order, which is zero at order 0.
-    pub fn composite_derivative(self, curve: ParameterCurve, order: usize) -> Whole
+    pub fn composite_derivative(self, curve: ParameterCurve, order: usize) -> Result<i64, Refusal>
         ensures { result ≡ along_curve_at self curve order }
     {
-        let number = refusal(self.order, curve.order, order);
-        if number != 0 {
-            return Whole::Refused(number);
-        }
-        let entries = self.entries;
-        let u = curve.u;
-        let v = curve.v;
-        exact_carry::derivative(&entries, &u, &v, order)
+        refusal(self.order, curve.order, order)?;
+        exact_carry::derivative(&self.entries, &curve.u, &curve.v, order)
     }
 
     // The derivatives of all orders up to `order`, with the entry [0][0] at order 0.
-    pub fn composite_derivatives(self, curve: ParameterCurve, order: usize) -> CurveAnswer
+    pub fn composite_derivatives(
+        self,
+        curve: ParameterCurve,
+        order: usize,
+    ) -> Result<CurveDerivatives, Refusal>
         ensures { result ≡ along_curve self curve order }
     {
-        let number = refusal(self.order, curve.order, order);
-        if number != 0 {
-            return crate::refused_curve(number);
-        }
-        let entries = self.entries;
-        let u = curve.u;
-        let v = curve.v;
-        let formed = exact_carry::derivatives(&entries, &u, &v, order);
-        crate::curve_with(order, formed)
+        refusal(self.order, curve.order, order)?;
+        let entries = exact_carry::derivatives(&self.entries, &curve.u, &curve.v, order)?;
+        Ok(CurveDerivatives { order, entries })
     }
 }

@@ -1,2 +1,1 @@
--- the terms of the tensor, its coefficients and its entries, at the checked kind
 pub mod Masks

@@ -5,8 +5,8 @@ use Prim.Native.Nat.{ℕ, ◌+◌, ◌≤◌, ◌<◌}
 use native.Mathlib.Nat.{le_refl}
 use native.Mathlib.Omega.{arith}
 use lib.IntN.{ℤ, pos}
-use Rattle.whole.specs.declared.Whole.{Whole}
-use Rattle.whole.specs.declared.Whole.TheVariants.{Value}
+use Rattle.std.specs.Prelude.{Ok}
+use Rattle.whole.specs.Checked.{Whole}
 use Rattle.calculus.specs.Rising.{before, rising, before_entry, rising_rows}
 use Rattle.calculus.proofs.Related.{same}
 use Rattle.calculus.proofs.Alike.{dividend-alike, surface-dividend-alike}
@@ -18,7 +18,7 @@ use Rattle.calculus.specs.declared.Operation.TheVariants.{Sum, Difference, Produ
 use Rattle.exact_formulas.specs.Kinds.{checked}
 use Rattle.exact_formulas.specs.Entries.{curve_values, surface_values}
 use Rattle.exact_formulas.specs.Inner.{curve_formula, surface_formula}
-use Rattle.exact_formulas.proofs.Progress.{CurveProgress, SurfaceProgress, entry-inside}
+use Rattle.exact_formulas.proofs.Progress.{CurveProgress, SurfaceProgress}
 
 abbrev Eq : Whole → Whole → Type 0
 Eq a b = a ≡ b
@@ -38,7 +38,7 @@ pub curve-formed : (op : Operation) (a b : ℕ → Whole) {n m : ℕ} {r : List 
     curve_rising op a b m ≡ curve_formula op a b (curve_values r) m
 curve-formed op a b {n} {m} {r} p l =
     curve-reads op a b (before checked.zero (curve_formula op a b) m) (curve_values r) m
-    (λ i h. curve-earlier 21 (pos 0) (pos 0) Value (curve_formula op a b) p.stored i (omega arith))
+    (λ i h. curve-earlier 21 (pos 0) (pos 0) Ok (curve_formula op a b) p.stored i (omega arith))
 
 -- ---- the same for surfaces, up to the order N
 surface-reads : (op : Operation) (a b p q : ℕ → ℕ → Whole) (N m n : ℕ) → m + n ≤ N → ((i j : ℕ) → i + j ≤ N → p i j ≡ q i j) →
@@ -53,8 +53,8 @@ surface-reads Quotient a b p q N m n l h =
 abbrev pub surface_rising : Operation → (ℕ → ℕ → Whole) → (ℕ → ℕ → Whole) → ℕ → ℕ → Whole
 surface_rising op a b = rising_rows checked.zero (surface_formula op a b)
 
-pub surface-formed : (op : Operation) (a b : ℕ → ℕ → Whole) {N m n : ℕ} {r : List ℤ} → SurfaceProgress (surface_rising op a b) N m n r → m ≤ N →
+pub surface-formed : (op : Operation) (a b : ℕ → ℕ → Whole) {N m n : ℕ} {r : List ℤ} → SurfaceProgress (surface_rising op a b) N m n r → m + n ≤ N →
     surface_rising op a b m n ≡ surface_formula op a b (surface_values r) m n
 surface-formed op a b {N} {m} {n} {r} p h =
-    surface-reads op a b (before_entry checked.zero (surface_formula op a b) m n) (surface_values r) N m n (entry-inside p h)
-    (λ i j e. surface-earlier 231 (pos 0) (pos 0) N (room-231 N p.high) Value (surface_formula op a b) p.stored i j e)
+    surface-reads op a b (before_entry checked.zero (surface_formula op a b) m n) (surface_values r) N m n h
+    (λ i j e. surface-earlier 231 (pos 0) (pos 0) N (room-231 N p.high) Ok (surface_formula op a b) p.stored i j e)

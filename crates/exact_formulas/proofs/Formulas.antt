@@ -1,7 +1,7 @@
 -- The entries that the formulas of the loops form in turn are those of the four operations. Assumes nothing.
 use mathlib.Core.Path.{◌≡◌, refl}
 use Prim.Native.Nat.{ℕ}
-use Rattle.whole.specs.declared.Whole.{Whole}
+use Rattle.whole.specs.Checked.{Whole}
 use Rattle.calculus.specs.declared.Operation.{Operation}
 use Rattle.calculus.specs.declared.Operation.TheVariants.{Sum, Difference, Product, Quotient}
 use Rattle.calculus.specs.Operation.{curve_operation, surface_operation}

@@ -3,25 +3,26 @@ use mathlib.Core.Path.{◌≡◌, refl, sym, ap, ap₂, ◌∙◌}
 use mathlib.Core.List.{List, [], ◌∷◌, ◌++◌, map, map-append}
 use Prim.Native.Nat.{ℕ, zero, suc}
 use lib.IntN.{ℤ}
-use Rattle.whole.specs.declared.Whole.{Whole}
-use Rattle.whole.specs.declared.Whole.TheVariants.{Value, Refused}
+use Rattle.std.specs.Prelude.{Result, Ok, Err}
+use Rattle.refusals.specs.declared.Refusal.{Refusal}
+use Rattle.whole.specs.Checked.{Whole}
 use Rattle.calculus.specs.Array.{listed}
 use Rattle.calculus.specs.Order.{rows}
 use Rattle.exact_formulas.specs.Entries.{unless_refused}
 
 -- ---- the answer, by what is left
-module _ {A : Type 0} (refused : ℕ → A) (a : A) where
-  pub none_left : {ws : List Whole} → ws ≡ [] → a ≡ unless_refused refused ws a
+module _ {A : Type 0} (a : Result A Refusal) where
+  pub none_left : {ws : List Whole} → ws ≡ [] → a ≡ unless_refused ws a
   unfolding unless_refused
-  none_left e = sym (ap (λ (l : List Whole). unless_refused refused l a) e)
+  none_left e = sym (ap (λ (l : List Whole). unless_refused l a) e)
 
-  pub pass : {w : Whole} {z : ℤ} {ws vs : List Whole} → w ≡ Value z → ws ≡ w ∷ vs → unless_refused refused vs a ≡ unless_refused refused ws a
+  pub pass : {w : Whole} {z : ℤ} {ws vs : List Whole} → w ≡ Ok z → ws ≡ w ∷ vs → unless_refused vs a ≡ unless_refused ws a
   unfolding unless_refused
-  pass {w} {z} {ws} {vs} e h = sym (ap (λ (l : List Whole). unless_refused refused l a) h ∙ ap (λ (x : Whole). unless_refused refused (x ∷ vs) a) e)
+  pass {w} {z} {ws} {vs} e h = sym (ap (λ (l : List Whole). unless_refused l a) h ∙ ap (λ (x : Whole). unless_refused (x ∷ vs) a) e)
 
-  pub stop : {w : Whole} {c : ℕ} {ws vs : List Whole} → w ≡ Refused c → ws ≡ w ∷ vs → refused c ≡ unless_refused refused ws a
+  pub stop : {w : Whole} {c : Refusal} {ws vs : List Whole} → w ≡ Err c → ws ≡ w ∷ vs → Err c ≡ unless_refused ws a
   unfolding unless_refused
-  stop {w} {c} {ws} {vs} e h = sym (ap (λ (l : List Whole). unless_refused refused l a) h ∙ ap (λ (x : Whole). unless_refused refused (x ∷ vs) a) e)
+  stop {w} {c} {ws} {vs} e h = sym (ap (λ (l : List Whole). unless_refused l a) h ∙ ap (λ (x : Whole). unless_refused (x ∷ vs) a) e)
 
 -- ---- lists of values
 module _ {X Y : Type 0} (g : X → Y) where

@@ -1,6 +1,6 @@
 -- The formulas that the loops share: each entry of a jet from two jets and the entries before it. Assumes nothing.
 use Rattle.std.specs.Prelude.{ℕ}
-use Rattle.whole.specs.declared.Whole.{Whole}
+use Rattle.whole.specs.Checked.{Whole}
 use Rattle.calculus.specs.Kind.{regular}
 use Rattle.calculus.specs.Curve
 use Rattle.calculus.specs.Surface

@@ -1,15 +1,14 @@
 -- The kinds of exact number: checked as they are formed, which the code computes with, and with their history. Assumes nothing.
-use Rattle.std.specs.Prelude.{pos}
-use Rattle.whole.specs.declared.Whole.{Whole}
-use Rattle.whole.specs.declared.Whole.TheVariants.{Value}
+use Rattle.std.specs.Prelude.{pos, Ok}
 use Rattle.whole.specs.Checked
+use Rattle.whole.specs.Checked.{Whole}
 use Rattle.whole.specs.History.{Traced, bare, traced_plus, traced_minus, traced_times, traced_over, traced_of_nat}
 use Rattle.calculus.specs.Kind.{Kind}
 
 abbrev pub checked : Kind Whole
 checked = record {
-  zero = Value (pos 0);
-  one = Value (pos 1);
+  zero = Ok (pos 0);
+  one = Ok (pos 1);
   plus = Checked.plus;
   minus = Checked.minus;
   times = Checked.times;

@@ -1,64 +1,52 @@
-// The formulas on curves. In the loops, c is the table of the binomial coefficients.
-ghost use Rattle.std.specs.Prelude.{◌≡◌, ◌≤◌, ◌<◌};
+// The formulas on curves.
+ghost use Rattle.std.specs.Prelude.{◌≡◌, ◌≤◌};
 ghost use Rattle.calculus.specs.Kind.{regular};
 ghost use Rattle.calculus.specs.Rising.{rising};
-ghost use Rattle.calculus.specs.Choose.{binomial_table};
 ghost use Rattle.calculus.specs.Curve.{product, leibniz, dividend as dividend_of, quotient_entry};
 ghost use Rattle.exact_formulas.specs.Kinds.{checked};
 ghost use Rattle.exact_formulas.specs.Entries.{curve_values, formed_curve};
 ghost use Rattle.exact_formulas.specs.Inner.{curve_formula};
 
-use crate::CurveEntries;
 use calculus::Operation;
-use whole::Whole;
+use refusals::Refusal;
 
 // The i-th term of Leibniz's rule at the order m.
-fn leibniz_term(a: &[i64; 21], b: &[i64; 21], c: &[u32; 231], m: usize, i: usize) -> Whole
-    requires { (i ≤ m) × (m ≤ 20) × (c.now ≡ binomial_table) }
+fn leibniz_term(a: &[i64; 21], b: &[i64; 21], m: usize, i: usize) -> Result<i64, Refusal>
+    requires { (i ≤ m) × (m ≤ 20) }
     ensures { result ≡ leibniz (regular checked) checked.times (curve_values a.now) (curve_values b.now) m i }
 {
-    let j = m - i;
-    let k = crate::index(i, j);
-    crate::term(a[i], b[j], c[k])
+    crate::term(a[i], b[m - i], calculus::choose(m, i))
 }
 
-pub fn product_entry(a: &[i64; 21], b: &[i64; 21], c: &[u32; 231], m: usize) -> Whole
-    requires { (m ≤ 20) × (c.now ≡ binomial_table) }
+pub fn product_entry(a: &[i64; 21], b: &[i64; 21], m: usize) -> Result<i64, Refusal>
+    requires { m ≤ 20 }
     ensures { result ≡ product checked (curve_values a.now) (curve_values b.now) m }
 {
-    let mut sum = Whole::Value(0);
-    let mut i = 0;
-    while i <= m {
-        let t = leibniz_term(a, b, c, m, i);
-        sum = whole::plus(sum, t);
-        i += 1;
+    let mut sum = 0;
+    for i in 0..m + 1 {
+        sum = whole::add(sum, leibniz_term(a, b, m, i)?)?;
     }
-    sum
+    Ok(sum)
 }
 
 // What is left of num[m] for d[0] · q[m].
-fn dividend(num: &[i64; 21], d: &[i64; 21], q: &[i64; 21], c: &[u32; 231], m: usize) -> Whole
-    requires { (m ≤ 20) × (c.now ≡ binomial_table) }
+fn dividend(num: &[i64; 21], d: &[i64; 21], q: &[i64; 21], m: usize) -> Result<i64, Refusal>
+    requires { m ≤ 20 }
     ensures { result ≡ dividend_of checked (curve_values num.now) (curve_values d.now) (curve_values q.now) m }
 {
-    let x = num[m];
-    let mut rest = Whole::Value(x);
-    let mut i = 0;
-    while i < m {
-        let k = i + 1;
-        let t = leibniz_term(d, q, c, m, k);
-        rest = whole::minus(rest, t);
-        i += 1;
+    let mut rest = num[m];
+    for i in 0..m {
+        rest = whole::sub(rest, leibniz_term(d, q, m, i + 1)?)?;
     }
-    rest
+    Ok(rest)
 }
 
-fn quotient_entry(num: &[i64; 21], d: &[i64; 21], q: &[i64; 21], c: &[u32; 231], m: usize) -> Whole
-    requires { (m ≤ 20) × (c.now ≡ binomial_table) }
+fn quotient_entry(num: &[i64; 21], d: &[i64; 21], q: &[i64; 21], m: usize) -> Result<i64, Refusal>
+    requires { m ≤ 20 }
     ensures { result ≡ quotient_entry checked (curve_values num.now) (curve_values d.now) (curve_values q.now) m }
 {
     let y = d[0];
-    whole::over(dividend(num, d, q, c, m), Whole::Value(y))
+    whole::div(dividend(num, d, q, m)?, y)
 }
 
 // The entry of the order m, from two jets and the entries q before it.
@@ -67,46 +55,27 @@ fn entry(
     a: &[i64; 21],
     b: &[i64; 21],
     q: &[i64; 21],
-    c: &[u32; 231],
     m: usize,
-) -> Whole
-    requires { (m < 21) × (c.now ≡ binomial_table) }
+) -> Result<i64, Refusal>
+    requires { m ≤ 20 }
     ensures { result ≡ curve_formula op (curve_values a.now) (curve_values b.now) (curve_values q.now) m }
 {
     match op {
         Operation::Sum => whole::add(a[m], b[m]),
         Operation::Difference => whole::sub(a[m], b[m]),
-        Operation::Product => product_entry(a, b, c, m),
-        Operation::Quotient => quotient_entry(a, b, q, c, m),
+        Operation::Product => product_entry(a, b, m),
+        Operation::Quotient => quotient_entry(a, b, q, m),
     }
 }
 
 // The entries of the jet that an operation forms, one by one; the first refusal ends it.
-pub fn entries(op: Operation, a: &[i64; 21], b: &[i64; 21], n: usize) -> CurveEntries
+pub fn entries(op: Operation, a: &[i64; 21], b: &[i64; 21], n: usize) -> Result<[i64; 21], Refusal>
     requires { n ≤ 20 }
     ensures { result ≡ formed_curve (rising checked.zero (curve_formula op (curve_values a.now) (curve_values b.now))) n }
 {
-    let c = calculus::binomials();
     let mut r = [0i64; 21];
-    let mut m = 0;
-    while m <= n {
-        let e = entry(op, a, b, &r, &c, m);
-        match e {
-            Whole::Value(v) => {
-                r[m] = v;
-            }
-            Whole::Refused(u) => {
-                let none = [0i64; 21];
-                return CurveEntries {
-                    refusal: u,
-                    entries: none,
-                };
-            }
-        }
-        m += 1;
+    for m in 0..n + 1 {
+        r[m] = entry(op, a, b, &r, m)?;
     }
-    CurveEntries {
-        refusal: 0,
-        entries: r,
-    }
+    Ok(r)
 }

@@ -1,64 +1,32 @@
-// An answer goes into the list lent, or its refusal number is handed on.
+// A single number goes into the list lent, or its refusal is handed on. Jets go into lists by themselves: crates/exact.
 ghost use Rattle.std.specs.Prelude.{◌≡◌, List, ℕ, ℤ};
+ghost use Rattle.refusals.specs.Number.{number_of};
 ghost use Rattle.exact_lists.specs.Delivery.{deliver_whole, deliver_count};
-ghost use Rattle.exact.specs.Answer.{surfaces, curves};
-ghost use Rattle.given.specs.Lists.{deliver};
 
-use exact::{CurveAnswer, SurfaceAnswer};
-use partitions::Count;
-use whole::Whole;
+use refusals::Refusal;
 
-// A number goes into a list of one.
-pub fn whole(a: Whole, out: &mut [i64]) -> u8
-    ensures { ◌≡◌ {A = ℕ × List ℤ} (result, out.new) (deliver_whole a out.old) }
+// The list's test comes first.
+#[tactic(auto, unfolding(crate::specs::Delivery::deliver_whole))]
+pub fn whole(answer: Result<i64, Refusal>, out: &mut [i64]) -> Result<(), Refusal>
+    ensures { ◌≡◌ {A = ℕ × List ℤ} (number_of result, out.new) (deliver_whole answer out.old) }
 {
-    if out.len() != 1 {
-        return 2;
-    }
-    match a {
-        Whole::Value(v) => {
-            out[0] = v;
-            0
+    given::count(1, out.len())?;
+    out[0] = answer?;
+    Ok(())
+}
+
+// A count's list is tested after an order (1), and before a part list (3).
+#[tactic(auto, unfolding(crate::specs::Delivery::deliver_count))]
+pub fn count(answer: Result<u64, Refusal>, out: &mut [u64]) -> Result<(), Refusal>
+    ensures { ◌≡◌ {A = ℕ × List ℕ} (number_of result, out.new) (deliver_count answer out.old) }
+{
+    let tested = given::count(1, out.len());
+    match answer {
+        Ok(value) => {
+            tested?;
+            out[0] = value;
+            Ok(())
         }
-        Whole::Refused(c) => c,
+        Err(refusal) => given::first(Err(refusal), tested),
     }
-}
-
-// A count too; its list is tested after an order (1), and before a part list (3).
-pub fn count(a: Count, out: &mut [u64]) -> u8
-    ensures { ◌≡◌ {A = ℕ × List ℕ} (result, out.new) (deliver_count a out.old) }
-{
-    let t = given::count(1, out.len());
-    match a {
-        Count::Value(v) => {
-            if t != 0 {
-                return t;
-            }
-            out[0] = v;
-            0
-        }
-        Count::Refused(c) => given::first(c, t),
-    }
-}
-
-pub fn curve(a: CurveAnswer, out: &mut [i64]) -> u8
-    ensures { ◌≡◌ {A = ℕ × List ℤ} (result, out.new) (deliver curves a out.old) }
-{
-    let c = a.refusal;
-    if c != 0 {
-        return c;
-    }
-    let jet = a.jet;
-    jet.into_list(out)
-}
-
-pub fn surface(a: SurfaceAnswer, out: &mut [i64]) -> u8
-    ensures { ◌≡◌ {A = ℕ × List ℤ} (result, out.new) (deliver surfaces a out.old) }
-{
-    let c = a.refusal;
-    if c != 0 {
-        return c;
-    }
-    let jet = a.jet;
-    jet.into_list(out)
 }

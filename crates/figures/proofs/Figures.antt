@@ -1,6 +1,6 @@
 -- Document 01's figures that are to be proved, in its order, each as what a public function's contract says of it. By computation; assumes nothing.
 use mathlib.Core.Path.{◌≡◌, refl}
-use mathlib.Core.Bool.{true, false}
+use mathlib.Core.Bool.{false}
 use mathlib.Core.List.{List, [], ◌∷◌, ◌++◌, map}
 use Prim.Native.Nat.{ℕ, ◌^◌, ◌+◌, ◌-◌}
 use lib.IntN.{ℤ, pos}
@@ -9,11 +9,13 @@ use lib.Ieee.{of_bits, of_int, add, sub, mul, div, neg, eq}
 use Rattle.partitions.specs.Parts.{total, fact, parts, divide, runs_from, runs, multiplicity}
 use Rattle.partitions.specs.Count.{counted, falls, stirling, stirling_of}
 use Rattle.partitions.specs.Walk.{same, from, padded, started, remaining, stepped}
-use Rattle.partitions.specs.declared.Composition.{Composition}
-use Rattle.partitions.specs.declared.Count.{Count}
-use Rattle.partitions.specs.declared.Count.TheVariants.{Value, Refused}
-use Rattle.partitions.proofs.Walked.{items}
-use Rattle.whole.specs.declared.Whole.TheVariants as whole
+use Rattle.partitions.specs.declared.CompositionIter.{CompositionIter}
+use Rattle.partitions.proofs.Walked.{Item, items}
+use Rattle.std.specs.Prelude.{Some, None, Result, Ok, Err}
+use Rattle.refusals.specs.declared.Refusal.{Refusal}
+use Rattle.refusals.specs.declared.Refusal.TheVariants.{OutOfRange}
+use Rattle.refusals.specs.Number.{number_of}
+use Rattle.whole.specs.Checked.{Whole}
 use Rattle.whole.specs.Checked.{formed, divided}
 use Rattle.calculus.specs.InTurn.{in_turn, in_rows, along_list}
 use Rattle.calculus.specs.Rising.{before}
@@ -27,9 +29,7 @@ use Rattle.calculus.specs.Carry.{digits, factors, through_len, ones}
 use Rattle.exact.specs.declared.CurveDerivatives.{CurveDerivatives}
 use Rattle.exact.specs.declared.SurfaceDerivatives.{SurfaceDerivatives}
 use Rattle.exact.specs.declared.ParameterCurve.{ParameterCurve}
-use Rattle.exact.specs.declared.CurveAnswer.{CurveAnswer}
 use Rattle.exact_formulas.specs.Kinds.{checked}
-use Rattle.exact.specs.Names.{refused_curve}
 use Rattle.exact.specs.Answer.{on_curves, on_surfaces}
 use Rattle.exact_formulas.specs.Entries.{unless_refused}
 use Rattle.exact.specs.Composite.{along_curve_at, along_curve}
@@ -46,77 +46,87 @@ use Rattle.derivatives.specs.Answer.{curves}
 -- ---- part lists: `CompositionIter::{try_new, step}`, `multiplicity`, `stirling_number`
 
 -- `items n w` is what n steps of the walk w hand out, one after the other: each a list, with zeros past it, or that the walk has ended
-abbrev hands_out : List ℕ → Composition
-hands_out l = record { refusal = 0; ended = false; parts = padded l }
+abbrev hands_out : List ℕ → Item
+hands_out l = Ok (Some (padded l))
 
-abbrev says_ended : Composition
-says_ended = record { refusal = 0; ended = true; parts = replicate 20 0 }
+abbrev says_ended : Item
+says_ended = Ok None
+
+-- the walk of a start, which is none where it is refused
+abbrev walk_of : Result CompositionIter Refusal → CompositionIter
+walk_of (Ok w) = w
+walk_of (Err r) = record { order = 0; len = 0; current = replicate 20 0; end = false }
 
 -- the counts of the lists of len parts that are handed out; and counts added, where a refusal stays one
-abbrev counts : ℕ → List Composition → List Count
-counts len = map (λ c. counted (take len c.parts))
+abbrev count_of : ℕ → Item → Result ℕ Refusal
+count_of len (Ok (Some l)) = counted (take len l)
+count_of len (Ok None) = Ok 0
+count_of len (Err r) = Err r
 
-abbrev plus : Count → Count → Count
-plus (Value m) (Value n) = Value (m + n)
-plus (Value m) (Refused c) = Refused c
-plus (Refused c) n = Refused c
+abbrev counts : ℕ → List Item → List (Result ℕ Refusal)
+counts len = map (count_of len)
 
-unfoldable pub added : List Count → Count
-added [] = Value 0
+abbrev plus : Result ℕ Refusal → Result ℕ Refusal → Result ℕ Refusal
+plus (Ok m) (Ok n) = Ok (m + n)
+plus (Ok m) (Err r) = Err r
+plus (Err r) n = Err r
+
+unfoldable pub added : List (Result ℕ Refusal) → Result ℕ Refusal
+added [] = Ok 0
 added (c ∷ l) = plus c (added l)
 
 -- order 5, len 2: (4,1) counts 5, (3,2) counts 10, total 15
-pub start-5-2 : (started 5 2).refusal ≡ 0
+pub start-5-2 : number_of (started 5 2) ≡ 0
 unfolding started parts
 start-5-2 = refl
 
-pub lists-5-2 : items 3 (started 5 2).walk ≡ hands_out (4 ∷ 1 ∷ []) ∷ hands_out (3 ∷ 2 ∷ []) ∷ says_ended ∷ []
+pub lists-5-2 : items 3 (walk_of (started 5 2)) ≡ hands_out (4 ∷ 1 ∷ []) ∷ hands_out (3 ∷ 2 ∷ []) ∷ says_ended ∷ []
 unfolding items started stepped remaining from same parts
 lists-5-2 = refl
 
-pub count-4-1 : counted (4 ∷ 1 ∷ []) ≡ Value 5
+pub count-4-1 : counted (4 ∷ 1 ∷ []) ≡ Ok 5
 unfolding counted falls multiplicity divide runs runs_from total fact
 count-4-1 = refl
 
-pub count-3-2 : counted (3 ∷ 2 ∷ []) ≡ Value 10
+pub count-3-2 : counted (3 ∷ 2 ∷ []) ≡ Ok 10
 unfolding counted falls multiplicity divide runs runs_from total fact
 count-3-2 = refl
 
-pub total-5-2 : added (counts 2 (items 2 (started 5 2).walk)) ≡ Value 15
+pub total-5-2 : added (counts 2 (items 2 (walk_of (started 5 2)))) ≡ Ok 15
 unfolding items started stepped remaining from same parts counted falls multiplicity divide runs runs_from total fact added
 total-5-2 = refl
 
-pub stirling-5-2 : stirling_of 5 2 ≡ Value 15
+pub stirling-5-2 : stirling_of 5 2 ≡ Ok 15
 unfolding stirling_of stirling
 stirling-5-2 = refl
 
 -- order 4, len 3: (2,1,1) counts 6
-pub start-4-3 : (started 4 3).refusal ≡ 0
+pub start-4-3 : number_of (started 4 3) ≡ 0
 unfolding started parts
 start-4-3 = refl
 
-pub lists-4-3 : items 2 (started 4 3).walk ≡ hands_out (2 ∷ 1 ∷ 1 ∷ []) ∷ says_ended ∷ []
+pub lists-4-3 : items 2 (walk_of (started 4 3)) ≡ hands_out (2 ∷ 1 ∷ 1 ∷ []) ∷ says_ended ∷ []
 unfolding items started stepped remaining from same parts
 lists-4-3 = refl
 
-pub count-2-1-1 : counted (2 ∷ 1 ∷ 1 ∷ []) ≡ Value 6
+pub count-2-1-1 : counted (2 ∷ 1 ∷ 1 ∷ []) ≡ Ok 6
 unfolding counted falls multiplicity divide runs runs_from total fact
 count-2-1-1 = refl
 
 -- order 20: len 20 has one list, count 1; len 21 is refused 3
-pub start-20-20 : (started 20 20).refusal ≡ 0
+pub start-20-20 : number_of (started 20 20) ≡ 0
 unfolding started parts
 start-20-20 = refl
 
-pub lists-20-20 : items 2 (started 20 20).walk ≡ hands_out (replicate 20 1) ∷ says_ended ∷ []
+pub lists-20-20 : items 2 (walk_of (started 20 20)) ≡ hands_out (replicate 20 1) ∷ says_ended ∷ []
 unfolding items started stepped remaining from same parts
 lists-20-20 = refl
 
-pub count_ones : counted (replicate 20 1) ≡ Value 1
+pub count_ones : counted (replicate 20 1) ≡ Ok 1
 unfolding counted falls multiplicity divide runs runs_from total fact
 count_ones = refl
 
-pub len-21 : (started 20 21).refusal ≡ 3
+pub len-21 : number_of (started 20 21) ≡ 3
 unfolding started
 len-21 = refl
 
@@ -126,8 +136,8 @@ len-21 = refl
 abbrev pub jet : ℕ → List ℤ → CurveDerivatives
 jet n l = record { order = n; entries = l ++ replicate (20 - n) (pos 0) }
 
-abbrev answered : ℕ → List ℤ → CurveAnswer
-answered n l = record { refusal = 0; jet = jet n l }
+abbrev answered : ℕ → List ℤ → Result CurveDerivatives Refusal
+answered n l = Ok (jet n l)
 
 -- (1,2,3) times (4,5,6) is (4,13,38); divided by (1,2,3) it is (4,5,6)
 pub product-38 : on_curves (product checked) (jet 2 (pos 1 ∷ pos 2 ∷ pos 3 ∷ [])) (jet 2 (pos 4 ∷ pos 5 ∷ pos 6 ∷ [])) ≡ answered 2 (pos 4 ∷ pos 13 ∷ pos 38 ∷ [])
@@ -155,7 +165,7 @@ unfolding unless_refused formed listed index through_len along_list in_turn fact
 carried-48 = refl
 
 -- one order at a time, and zero at order 0
-pub carried-at : along_curve_at given curve 0 ∷ along_curve_at given curve 1 ∷ along_curve_at given curve 2 ∷ [] ≡ whole.Value (pos 0) ∷ whole.Value (pos 8) ∷ whole.Value (pos 48) ∷ []
+pub carried-at : ◌≡◌ {A = List Whole} (along_curve_at given curve 0 ∷ along_curve_at given curve 1 ∷ along_curve_at given curve 2 ∷ []) (Ok (pos 0) ∷ Ok (pos 8) ∷ Ok (pos 48) ∷ [])
 unfolding formed index through_len along_list in_turn factors digits ones multiplicity divide runs runs_from total fact parts
 carried-at = refl
 
@@ -163,7 +173,7 @@ carried-at = refl
 abbrev squared : SurfaceDerivatives
 squared = surface (pos 25 ∷ pos 30 ∷ pos 20 ∷ pos 78 ∷ pos 52 ∷ pos 18 ∷ [])
 
-pub surface-squared : on_surfaces (Surface.product checked) given given ≡ record { refusal = 0; jet = squared }
+pub surface-squared : on_surfaces (Surface.product checked) given given ≡ Ok squared
 unfolding unless_refused formed listed rows triangle index place in_turn in_rows choose
 surface-squared = refl
 
@@ -175,12 +185,12 @@ carried-608 = refl
 
 -- the vectors (3,4,0), (5,5,0) have the norm jet (5, 7)
 pub norm-5-7 : by_norm vector_curves curves (λ q. q 0) vector_norm (record { order = 1; entries = three ∷ four ∷ positive_zero ∷ five ∷ five ∷ positive_zero ∷ replicate 57 positive_zero })
-    ≡ record { refusal = 0; jet = record { order = 1; entries = five ∷ seven ∷ replicate 19 positive_zero } }
+    ≡ Ok (record { order = 1; entries = five ∷ seven ∷ replicate 19 positive_zero })
 unfolding square_root add sub mul div of_bits of_int before in_turn choose all_pass eq listed
 norm-5-7 = refl
 
 -- axis (0,0,1), s = 1, c = 0: columns (0,1,0), (−1,0,0), (0,0,1)
-pub quarter-turn : rotation_answer 0 0 0 0 (vector positive_zero positive_zero one) one positive_zero ≡ record { refusal = 0; matrix = columns (vector positive_zero one positive_zero) (vector minus_one positive_zero positive_zero) (vector positive_zero positive_zero one) }
+pub quarter-turn : rotation_answer 0 0 0 0 (vector positive_zero positive_zero one) one positive_zero ≡ Ok (columns (vector positive_zero one positive_zero) (vector minus_one positive_zero positive_zero) (vector positive_zero positive_zero one))
 unfolding add sub mul neg of_bits
 quarter-turn = refl
 
@@ -190,6 +200,6 @@ pub times-one : on_curves (product checked) (jet 0 (pos (2 ^ 62) ∷ [])) (jet 0
 unfolding choose in_turn listed formed unless_refused
 times-one = refl
 
-pub times-two : on_curves (product checked) (jet 0 (pos (2 ^ 62) ∷ [])) (jet 0 (pos 2 ∷ [])) ≡ refused_curve 9
+pub times-two : on_curves (product checked) (jet 0 (pos (2 ^ 62) ∷ [])) (jet 0 (pos 2 ∷ [])) ≡ Err OutOfRange
 unfolding choose in_turn listed formed unless_refused
 times-two = refl

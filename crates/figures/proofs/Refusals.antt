@@ -13,7 +13,8 @@ use Rattle.calculus.specs.Choose.{choose}
 use Rattle.calculus.specs.Array.{listed}
 use Rattle.calculus.specs.Curve.{product, quotient}
 use Rattle.exact_formulas.specs.Kinds.{checked}
-use Rattle.exact.specs.Names.{refused_curve, refused_surface}
+use Rattle.std.specs.Prelude.{Err}
+use Rattle.refusals.specs.declared.Refusal.TheVariants.{OrderAbove20, Shape, NoPartList, NoRecipe, DivisionByZero, Remainder, AnswerNotFinite}
 use Rattle.exact.specs.Answer.{on_curves}
 use Rattle.exact_formulas.specs.Entries.{unless_refused}
 use Rattle.exact.specs.Composite.{along_curve}
@@ -27,20 +28,20 @@ use Rattle.derivatives.specs.declared.CurveDerivatives.{CurveDerivatives}
 use Rattle.ieee_vectors.specs.Vectors.{positive_zero}
 use Rattle.formulas.specs.Real.{real}
 use Rattle.formulas.specs.Numbers.{all_pass}
-use Rattle.calculus.specs.JetKind.{refused, by_formula}
+use Rattle.calculus.specs.JetKind.{by_formula}
 use Rattle.derivatives.specs.Answer.{curves}
 use Rattle.figures.proofs.Figures.{jet, given, curve}
 
 -- 1: a jet of order 21
-pub order-21 : (l : List ℤ) → on_curves (product checked) (jet 3 l) (record { order = 21; entries = l }) ≡ refused_curve 1
+pub order-21 : (l : List ℤ) → on_curves (product checked) (jet 3 l) (record { order = 21; entries = l }) ≡ Err OrderAbove20
 order-21 l = refl
 
 -- 2: carried at order 3 along a curve of order 2
-pub carried-at-3 : along_curve given curve 3 ≡ refused_curve 2
+pub carried-at-3 : along_curve given curve 3 ≡ Err Shape
 carried-at-3 = refl
 
 -- 3: order 2, len 3
-pub len-3 : (started 2 3).refusal ≡ 3
+pub len-3 : started 2 3 ≡ Err NoPartList
 unfolding started
 len-3 = refl
 
@@ -48,19 +49,19 @@ len-3 = refl
 abbrev step : ℕ → Step
 step m = record { operation = Sum; left = 0; right = m }
 
-pub names-5 : built_surface (record { inputs = 1; surfaces = replicate 4 given; steps = 1; program = replicate 12 (step 5) }) ≡ refused_surface 4
+pub names-5 : built_surface (record { inputs = 1; jets = replicate 4 given; steps = 1; program = replicate 12 (step 5) }) ≡ Err NoRecipe
 unfolding names_earlier some_above20
 names-5 = refl
 
 -- 5 and 6 are `radius-nan` and `normals-equal` of rolling_ball_fillet/proofs/CenterFigures.antt
 
 -- 7: (4)/(0)
-pub by_zero : on_curves (quotient checked) (jet 0 (pos 4 ∷ [])) (jet 0 (pos 0 ∷ [])) ≡ refused_curve 7
+pub by_zero : on_curves (quotient checked) (jet 0 (pos 4 ∷ [])) (jet 0 (pos 0 ∷ [])) ≡ Err DivisionByZero
 unfolding choose in_turn before formed divided unless_refused listed
 by_zero = refl
 
 -- 8: (5)/(2)
-pub with-remainder : on_curves (quotient checked) (jet 0 (pos 5 ∷ [])) (jet 0 (pos 2 ∷ [])) ≡ refused_curve 8
+pub with-remainder : on_curves (quotient checked) (jet 0 (pos 5 ∷ [])) (jet 0 (pos 2 ∷ [])) ≡ Err Remainder
 unfolding choose in_turn before formed divided unless_refused listed
 with-remainder = refl
 
@@ -70,7 +71,7 @@ with-remainder = refl
 abbrev single : Float → CurveDerivatives
 single x = record { order = 0; entries = x ∷ replicate 20 positive_zero }
 
-pub overflow : by_formula curves curves curves (product real) (single huge) (single huge) ≡ refused curves 10
+pub overflow : by_formula curves curves curves (product real) (single huge) (single huge) ≡ Err AnswerNotFinite
 unfolding choose in_turn add mul of_bits of_int all_pass
 overflow = refl
 

@@ -1,7 +1,7 @@
 -- What the fillet's functions answer is delivered whole: the functions that write its jets refuse none of them, where each list lent has just
 -- the length that is due. Assumes nothing.
-use mathlib.Core.Path.{◌≡◌, refl, sym, ap, subst}
-use mathlib.Core.Bool.{Bool, true, false, cond, ◌&&◌, ◌||◌}
+use mathlib.Core.Path.{◌≡◌, refl, sym, ap, ap₂, ◌∙◌, subst}
+use mathlib.Core.Bool.{Bool, true, false, cond, not, ◌&&◌, ◌||◌}
 use mathlib.Core.List.{List, [], ◌∷◌}
 use Prim.Native.Nat.{ℕ, suc, ◌+◌, ◌*◌, ◌≤◌}
 use native.Mathlib.Omega.{arith}
@@ -9,32 +9,30 @@ use lib.Dec.{ltb, eqb}
 use lib.ListN.{length}
 use lib.Ieee.{Float}
 use lib.Ieee.Scale.{finite}
-use borrow.Author.Tests.{eqb-false, ltb-false}
-use Rattle.calculus.specs.Array.{listed}
+use borrow.Author.Tests.{ltb-false, eq-eqb}
+use Rattle.std.specs.Prelude.{Result, Ok, Err, ⊤}
+use Rattle.refusals.specs.declared.Refusal.{Refusal}
+use Rattle.refusals.specs.declared.Refusal.TheVariants.{OrderAbove20, Shape, InputNotFinite, AnswerNotFinite}
 use Rattle.calculus.specs.Order.{curve_entries, pairs}
-use Rattle.formulas.specs.Numbers.{curve_numbers, finite_curve}
-use Rattle.calculus.specs.JetKind.{finite_up_to, above20 as above20_of, into_list}
-use Rattle.vector_formulas.specs.Vector.{vector_numbers, finite_vector_curve, flat}
+use Rattle.calculus.specs.JetKind.{JetKind, finite_up_to, into_list}
+use Rattle.calculus.proofs.Tested.{into-worked}
+use Rattle.formulas.specs.Numbers.{curve_numbers}
+use Rattle.vector_formulas.specs.Vector.{vector_numbers, flat}
 use Rattle.derivatives.specs.declared.CurveDerivatives.{CurveDerivatives}
 use Rattle.derivatives.specs.declared.ParameterCurve.{ParameterCurve}
 use Rattle.vector_derivatives.specs.declared.VectorCurveDerivatives.{VectorCurveDerivatives}
-use Rattle.derivatives.proofs.Answers as curves
-use Rattle.derivatives.proofs.Parameters as parameters
-use Rattle.vector_derivatives.proofs.Answers as vectors
-use Rattle.rolling_ball_fillet.specs.Jets.{contacts_above20, short_contacts}
+use Rattle.partials.specs.declared.AxisAngle.{AxisAngle}
 use Rattle.partials.specs.AxisAngle.{axis_angle}
-use Rattle.rolling_ball_fillet.specs.PartialAnswer.{refused_info, info_of, vder_info, returned_info, vder_info_answer, finite_info}
+use Rattle.rolling_ball_fillet.specs.PartialAnswer as partial
+use Rattle.contacts.specs.declared.CenterContacts.{CenterContacts}
 use Rattle.contacts.specs.Center.{center_contacts as contacts_at}
 use Rattle.rolling_ball_fillet.specs.Center as center
 use Rattle.rolling_ball_fillet.specs.declared.ContactCircle.{ContactCircle}
 use Rattle.rolling_ball_fillet.specs.declared.RollingBallFilletSurface.{RollingBallFilletSurface}
-use Rattle.rolling_ball_fillet.specs.declared.CenterContactAnswer.{CenterContactAnswer}
 use Rattle.rolling_ball_fillet.specs.declared.CenterContactDers.{CenterContactDers}
-use Rattle.rolling_ball_fillet.specs.declared.VderInfoAnswer.{VderInfoAnswer}
-use Rattle.rolling_ball_fillet.proofs.Tests.{order_below, or_left}
-use Rattle.float_lists.proofs.Lengths.{all-written}
+use Rattle.rolling_ball_fillet.specs.declared.VderInfoWithCosine.{VderInfoWithCosine}
 use Rattle.fillet_lists.specs.Delivery.{Three, Five, deliver_info, deliver_contacts}
-use Rattle.given.proofs.Admission.{allowed}
+use Rattle.given.specs.Values.{written}
 use Rattle.given.proofs.Delivered.{by-test}
 use Rattle.vector_derivatives.specs.Answer.{vector_curves}
 use Rattle.derivatives.specs.Answer.{parameters, curves}
@@ -48,175 +46,157 @@ and_right true q e = e
 and_right false true e = refl
 and_right false false e = e
 
-positive : {X : Type 0} (k : ℕ) → suc k ≡ 0 → X
-positive k e = absurd (omega (arith, e))
+or_left : (p q : Bool) → (p || q) ≡ false → p ≡ false
+or_left true q e = e
+or_left false q e = refl
+
+-- ---- one jet of the order k, into a list of just its length
+module _ {X E J : Type 0} (K : JetKind X E J) where
+  left : (a : J) (out : List X) (k : ℕ) → k ≤ 20 → K.order a ≡ k → length out ≡ K.count k → finite_up_to K a k ≡ true →
+      K.list (K.numbers a) (K.order a) ≡ (into_list K a out).1
+  left a out k h o e p =
+      ap (λ (r : Result ⊤ Refusal × List X). r.1)
+      (into-worked K a out (subst (λ (j : ℕ). j ≤ 20) (sym o) h) (ap K.count (sym o)) e (sym p ∙ ap (finite_up_to K a) (sym o)) refl)
+
+one_written : (x : Float) (out : List Float) → length out ≡ 1 → x ∷ [] ≡ (written (x ∷ []) out).1
+one_written x out e = ap (λ (b : Bool). (cond {A = ℕ × List Float} b (0, x ∷ []) (2, out)).1) (sym (eq-eqb (length out) 1 e))
 
 -- ---- axis, angle and cosine
 module _ (d : CenterContactDers) (r : CurveDerivatives) (t : Float) where
   abbrev n : ℕ
   n = d.center_ders.order
 
-  -- where it is no refusal, both jets have the centre's order, and are finite
-  abbrev Orders : VderInfoAnswer → Type 0
-  Orders a = (a.info.axis_ders.order ≡ n) × (a.info.angle_ders.order ≡ n)
+  -- both jets have the centre's order, and are finite
+  pub record Entire (a : VderInfoWithCosine) : Type 0 where
+    pub low : n ≤ 19
+    pub axis : a.info.axis_ders.order ≡ n
+    pub angle : a.info.angle_ders.order ≡ n
+    pub axis-finite : finite_up_to vector_curves a.info.axis_ders n ≡ true
+    pub angle-finite : finite_up_to curves a.info.angle_ders n ≡ true
 
-  abbrev Finite : VderInfoAnswer → Type 0
-  Finite a = (n ≤ 19) × ((finite_up_to vector_curves a.info.axis_ders n ≡ true) × (finite_up_to curves a.info.angle_ders n ≡ true))
+  abbrev Whole : Result VderInfoWithCosine Refusal → Type 0
+  Whole (Ok a) = Entire a
+  Whole (Err c) = ⊤
 
-  abbrev Whole : VderInfoAnswer → Type 0
-  Whole a = a.refusal ≡ 0 → Orders a × Finite a
-
-  abbrev worked : VderInfoAnswer
-  worked = vder_info d (curve_numbers r.entries) t n
-
-  abbrev above20 : Bool
-  above20 = ltb 19 n || contacts_above20 d || ltb 20 r.order
-
-  abbrev unfit : Bool
-  unfit = short_contacts d (suc n) || ltb r.order (suc n)
-
-  abbrev given : Bool
-  given = center.finite_contacts d n && finite_up_to curves r (suc n) && finite t
-
-  orders : worked.refusal ≡ 0 → Orders worked
-  orders =
-      let x = axis_angle d.center_ders.entries d.contact0_ders.entries d.contact1_ders.entries (curve_numbers r.entries) t n in
-      by-test (λ (a : VderInfoAnswer). a.refusal ≡ 0 → Orders a) (eqb x.refusal 0) (record { refusal = 0; info = info_of d n x; cosine = x.cosine })
-      (refused_info x.refusal) (λ _ _. (refl, refl)) (λ e z. absurd (eqb-false x.refusal 0 e z))
-
-  returned : above20 ≡ false → Whole (returned_info worked n)
-  returned near =
-      let a = worked in
+  returned : n ≤ 19 → (x : Result AxisAngle Refusal) → Whole (partial.returned_info (partial.info_answer d n x) n)
+  returned h (Ok x) =
+      let a = partial.with_cosine d n x in
       let p = center.finite_contacts a.info.cc_ders n in
       let q = finite_up_to vector_curves a.info.axis_ders n in
       let s = finite_up_to curves a.info.angle_ders n in
       let w = finite a.cosine in
-      by-test Whole (eqb a.refusal 0) (cond (finite_info a.info n && w) a (refused_info 10)) a
-      (λ _. by-test Whole (finite_info a.info n && w) a (refused_info 10)
-      (λ f z. (
-        orders z,
-        (
-          order_below 19 n (contacts_above20 d) (ltb 20 r.order) near,
-          (and_right p q (and_left (p && q) s (and_left (p && q && s) w f)), and_right (p && q) s (and_left (p && q && s) w f)),
-        ),
-      ))
-      (λ _ e. positive 9 e))
-      (λ e z. absurd (eqb-false a.refusal 0 e z))
+      by-test Whole (partial.finite_info a.info n && w) (Ok a) (Err AnswerNotFinite)
+      (λ f. record {
+        low = h;
+        axis = refl;
+        angle = refl;
+        axis-finite = and_right p q (and_left (p && q) s (and_left (p && q && s) w f));
+        angle-finite = and_right (p && q) s (and_left (p && q && s) w f);
+      })
+      (λ _. tt)
+  returned h (Err c) = tt
 
-  whole : Whole (vder_info_answer d r t)
+  abbrev answer : Result VderInfoWithCosine Refusal
+  answer = partial.vder_info_answer d r t
+
+  whole : Whole answer
+  unfolding partial.vder_info
   whole =
-      let last = cond given (returned_info worked n) (refused_info 5) in
-      by-test Whole above20 (refused_info 1) (cond unfit (refused_info 2) last) (λ _ e. positive 0 e)
-      (λ near. by-test Whole unfit (refused_info 2) last (λ _ e. positive 1 e)
-      (λ _. by-test Whole given (returned_info worked n) (refused_info 5) (λ _. returned near) (λ _ e. positive 4 e)))
+      let x = axis_angle d.center_ders.entries d.contact0_ders.entries d.contact1_ders.entries (curve_numbers r.entries) t n in
+      let back = partial.returned_info (partial.info_answer d n x) n in
+      let given = partial.finite_given d r t n in
+      let short = partial.short d r (suc n) in
+      by-test Whole (partial.beyond d r) (Err OrderAbove20) (cond short (Err Shape) (cond given back (Err InputNotFinite))) (λ _. tt)
+      (λ near. by-test Whole short (Err Shape) (cond given back (Err InputNotFinite)) (λ _. tt)
+      (λ _. by-test Whole given back (Err InputNotFinite) (λ _. returned (low near) x) (λ _. tt)))
+    where
+      low : partial.beyond d r ≡ false → n ≤ 19
+      low near = ltb-false 19 n (or_left (ltb 19 n) _ (or_left (ltb 19 n || _) (ltb 20 r.order) near))
 
-  abbrev answer : VderInfoAnswer
-  answer = vder_info_answer d r t
-
-  pub info-delivered : (axis angle cosine : List Float) → length axis ≡ 3 * suc n → length angle ≡ suc n → length cosine ≡ 1 → answer.refusal ≡ 0 →
-      let x = answer.info.axis_ders in
-      let y = answer.info.angle_ders in
+  pub info-delivered : (a : VderInfoWithCosine) → answer ≡ Ok a → (axis angle cosine : List Float) → length axis ≡ 3 * suc n → length angle ≡ suc n → length cosine ≡ 1 →
+      let x = a.info.axis_ders in
+      let y = a.info.angle_ders in
       ◌≡◌ {A = ℕ × Three} (deliver_info answer (axis, (angle, cosine)))
-      (0, (flat (listed (vector_numbers x.entries) 0 (suc x.order)), (curve_entries (curve_numbers y.entries) y.order, answer.cosine ∷ [])))
+      (0, (flat (curve_entries (vector_numbers x.entries) x.order), (curve_entries (curve_numbers y.entries) y.order, a.cosine ∷ [])))
   unfolding deliver_info
-  info-delivered axis angle cosine e f g z =
-      let x = answer.info.axis_ders in
-      let y = answer.info.angle_ders in
-      let m = whole z in
-      let o : x.order ≡ n = m.0.0 in
-      let k : y.order ≡ n = m.0.1 in
-      let b : n ≤ 19 = m.1.0 in
-      let v = vectors.into-is x axis (omega (arith, o, b)) (omega (arith, o, e)) (subst (λ (j : ℕ). finite_up_to vector_curves x j ≡ true) (sym o) m.1.1.0) in
-      let c = curves.into-is y angle (omega (arith, k, b)) (omega (arith, k, f)) (subst (λ (j : ℕ). finite_up_to curves y j ≡ true) (sym k) m.1.1.1) in
-      sym (allowed {L = Three} (axis, (angle, cosine)) refl z (λ i. (0, ((v i).1, ((c i).1, (all-written (answer.cosine ∷ []) cosine g refl i).1)))))
-
--- ---- one jet of the order k
-abbrev vector_list : VectorCurveDerivatives → List Float
-vector_list a = flat (listed (vector_numbers a.entries) 0 (suc a.order))
-
-abbrev parameter_list : ParameterCurve → List Float
-parameter_list a = pairs (curve_numbers a.u) (curve_numbers a.v) 0 (suc a.order)
-
-abbrev list : ℕ × List Float → List Float
-list r = r.1
-
-vector-left : (a : VectorCurveDerivatives) (out : List Float) (k : ℕ) → k ≤ 20 → a.order ≡ k → length out ≡ 3 * suc k →
-    finite_vector_curve (vector_numbers a.entries) k ≡ true → vector_list a ≡ (into_list vector_curves a out).1
-vector-left a out k h o e p =
-    ap list (vectors.into-is a out (omega (arith, o, h)) (omega (arith, o, e)) (subst (λ (j : ℕ). finite_vector_curve (vector_numbers a.entries) j ≡ true) (sym o) p))
-
-parameter-left : (a : ParameterCurve) (out : List Float) (k : ℕ) → k ≤ 20 → a.order ≡ k → length out ≡ 2 * suc k →
-    finite_curve (curve_numbers a.u) k ≡ true → finite_curve (curve_numbers a.v) k ≡ true → parameter_list a ≡ (into_list parameters a out).1
-parameter-left a out k h o e p q =
-    ap list
-    (parameters.into-is a out (omega (arith, o, h)) (omega (arith, o, e)) (subst (λ (j : ℕ). finite_curve (curve_numbers a.u) j ≡ true) (sym o) p)
-    (subst (λ (j : ℕ). finite_curve (curve_numbers a.v) j ≡ true) (sym o) q))
+  info-delivered a z axis angle cosine e f g =
+      let m : Entire a = subst Whole z whole in
+      let x = a.info.axis_ders in
+      let y = a.info.angle_ders in
+      let h : n ≤ 20 = omega (arith, m.low) in
+      let three : List Float → List Float → List Float → ℕ × Three = λ i j k. (0, (i, (j, k))) in
+      ap (λ (k : Result VderInfoWithCosine Refusal). deliver_info k (axis, (angle, cosine))) z
+      ∙ sym (ap (λ i. three i (curve_entries (curve_numbers y.entries) y.order) (a.cosine ∷ [])) (left vector_curves x axis n h m.axis e m.axis-finite)
+      ∙ ap (λ j. three (into_list vector_curves x axis).1 j (a.cosine ∷ [])) (left curves y angle n h m.angle f m.angle-finite)
+      ∙ ap (three (into_list vector_curves x axis).1 (into_list curves y angle).1) (one_written a.cosine cosine g))
 
 -- ---- the centre, the contacts and their parameters
 module _ (f : RollingBallFilletSurface) (cc : ContactCircle) (n : ℕ) where
-  abbrev Ordered : CenterContactAnswer → Type 0
-  Ordered a =
-      (a.ders.center_ders.order ≡ n) × ((a.ders.contact0_ders.order ≡ n + 1) × ((a.ders.contact1_ders.order ≡ n + 1)
-      × ((a.ders.uv0_ders.order ≡ n + 1) × (a.ders.uv1_ders.order ≡ n + 1))))
+  pub record Full (d : CenterContactDers) : Type 0 where
+    pub low : n ≤ 19
+    pub center-order : d.center_ders.order ≡ n
+    pub contact0-order : d.contact0_ders.order ≡ n + 1
+    pub contact1-order : d.contact1_ders.order ≡ n + 1
+    pub uv0-order : d.uv0_ders.order ≡ n + 1
+    pub uv1-order : d.uv1_ders.order ≡ n + 1
+    pub all-finite : center.finite_contacts d n ≡ true
 
-  abbrev Held : CenterContactAnswer → Type 0
-  Held a = a.refusal ≡ 0 → Ordered a
+  abbrev All : Result CenterContactDers Refusal → Type 0
+  All (Ok d) = Full d
+  All (Err c) = ⊤
 
-  ordered : Held (center.center_contacts f cc n)
-  unfolding center.center_contacts
-  ordered =
-      let a = contacts_at (center.placed f cc) n in
-      by-test Held (eqb a.refusal 0) (record { refusal = 0; ders = center.ders_of n a }) (center.refused_contacts a.refusal)
-      (λ _ _. (refl, (refl, (refl, (refl, refl))))) (λ e z. absurd (eqb-false a.refusal 0 e z))
+  back_full : n ≤ 19 → (x : Result CenterContacts Refusal) → All (center.returned_contacts (center.answered_contacts n x) n)
+  back_full h (Ok x) =
+      let d = center.ders_of n x in
+      by-test All (center.finite_contacts d n) (Ok d) (Err AnswerNotFinite)
+      (λ g. record { low = h; center-order = refl; contact0-order = refl; contact1-order = refl; uv0-order = refl; uv1-order = refl; all-finite = g }) (λ _. tt)
+  back_full h (Err c) = tt
 
-  abbrev Entire : CenterContactAnswer → Type 0
-  Entire a = a.refusal ≡ 0 → (n ≤ 19) × (Ordered a × (center.finite_contacts a.ders n ≡ true))
-
-  entire : Entire (center.center_contact_answer f cc n)
-  entire =
-      let k = center.center_contacts f cc n in
-      let back = center.returned_contacts k n in
-      let last = cond (center.finite_given f cc (n + 1)) back (center.refused_contacts 5) in
-      by-test Entire (center.beyond f n) (center.refused_contacts 1) (cond (center.short f (n + 1)) (center.refused_contacts 2) last) (λ _ e. positive 0 e)
-      (λ near. by-test Entire (center.short f (n + 1)) (center.refused_contacts 2) last (λ _ e. positive 1 e)
-      (λ _. by-test Entire (center.finite_given f cc (n + 1)) back (center.refused_contacts 5)
-      (λ _. by-test Entire (center.finite_contacts k.ders n) k (center.refused_contacts 10)
-      (λ g z. (ltb-false 19 n (or_left (ltb 19 n) (above20_of f.edge_curve.order f.radius.order || above20_of f.surface0.order f.surface1.order) near), (ordered z, g)))
-      (λ _ e. positive 9 e))
-      (λ _ e. positive 4 e)))
-
-  abbrev reply : CenterContactAnswer
+  abbrev reply : Result CenterContactDers Refusal
   reply = center.center_contact_answer f cc n
 
-  pub contacts-delivered : (x p q u v : List Float) → length x ≡ 3 * suc n → length p ≡ 3 * suc (n + 1) → length q ≡ 3 * suc (n + 1) → length u ≡ 2 * suc (n + 1) →
-      length v ≡ 2 * suc (n + 1) → reply.refusal ≡ 0 →
-      let d = reply.ders in
+  full : All reply
+  unfolding center.center_contacts
+  full =
+      let back = center.returned_contacts (center.answered_contacts n (contacts_at (center.placed f cc) n)) n in
+      let given = center.finite_given f cc (n + 1) in
+      let short = center.short f (n + 1) in
+      by-test All (center.beyond f n) (Err OrderAbove20) (cond short (Err Shape) (cond given back (Err InputNotFinite))) (λ _. tt)
+      (λ near. by-test All short (Err Shape) (cond given back (Err InputNotFinite)) (λ _. tt)
+      (λ _. by-test All given back (Err InputNotFinite)
+      (λ _. back_full (ltb-false 19 n (or_left (ltb 19 n) (center.jets_above20 f) near)) (contacts_at (center.placed f cc) n)) (λ _. tt)))
+
+  abbrev vector_list : VectorCurveDerivatives → List Float
+  vector_list a = flat (curve_entries (vector_numbers a.entries) a.order)
+
+  abbrev parameter_list : ParameterCurve → List Float
+  parameter_list a = pairs (curve_numbers a.u) (curve_numbers a.v) 0 (suc a.order)
+
+  pub contacts-delivered : (d : CenterContactDers) → reply ≡ Ok d → (x p q u v : List Float) → length x ≡ 3 * suc n → length p ≡ 3 * suc (n + 1) →
+      length q ≡ 3 * suc (n + 1) → length u ≡ 2 * suc (n + 1) → length v ≡ 2 * suc (n + 1) →
       ◌≡◌ {A = ℕ × Five} (deliver_contacts reply (x, (p, (q, (u, v)))))
       (0, (vector_list d.center_ders, (vector_list d.contact0_ders, (vector_list d.contact1_ders, (parameter_list d.uv0_ders, parameter_list d.uv1_ders)))))
   unfolding deliver_contacts
-  contacts-delivered x p q u v ex ep eq eu ev z =
-      let d = reply.ders in
-      let m = entire z in
-      let o = m.1.0 in
-      let g = m.1.1 in
-      let b : n ≤ 19 = m.0 in
-      let fx = finite_vector_curve (vector_numbers d.center_ders.entries) n in
-      let fp = finite_vector_curve (vector_numbers d.contact0_ders.entries) (n + 1) in
-      let fq = finite_vector_curve (vector_numbers d.contact1_ders.entries) (n + 1) in
-      let fu = finite_curve (curve_numbers d.uv0_ders.u) (n + 1) in
-      let fv = finite_curve (curve_numbers d.uv0_ders.v) (n + 1) in
-      let gu = finite_curve (curve_numbers d.uv1_ders.u) (n + 1) in
-      let gv = finite_curve (curve_numbers d.uv1_ders.v) (n + 1) in
-      let g0 : (fx && (fp && fq)) ≡ true = and_left (fx && (fp && fq)) ((fu && fv) && (gu && gv)) g in
-      let g1 : ((fu && fv) && (gu && gv)) ≡ true = and_right (fx && (fp && fq)) ((fu && fv) && (gu && gv)) g in
-      let g2 : (fp && fq) ≡ true = and_right fx (fp && fq) g0 in
-      let g3 : (fu && fv) ≡ true = and_left (fu && fv) (gu && gv) g1 in
-      let g4 : (gu && gv) ≡ true = and_right (fu && fv) (gu && gv) g1 in
-      let b0 : n ≤ 20 = omega (arith, b) in
-      let b1 : n + 1 ≤ 20 = omega (arith, b) in
-      let wx = vector-left d.center_ders x n b0 o.0 ex (and_left fx (fp && fq) g0) in
-      let wp = vector-left d.contact0_ders p (n + 1) b1 o.1.0 ep (and_left fp fq g2) in
-      let wq = vector-left d.contact1_ders q (n + 1) b1 o.1.1.0 eq (and_right fp fq g2) in
-      let wu = parameter-left d.uv0_ders u (n + 1) b1 o.1.1.1.0 eu (and_left fu fv g3) (and_right fu fv g3) in
-      let wv = parameter-left d.uv1_ders v (n + 1) b1 o.1.1.1.1 ev (and_left gu gv g4) (and_right gu gv g4) in
-      sym (allowed {L = Five} (x, (p, (q, (u, v)))) refl z (λ i. (0, (wx i, (wp i, (wq i, (wu i, wv i)))))))
+  contacts-delivered d z x p q u v ex ep eq eu ev =
+      let m : Full d = subst All z full in
+      let low : n ≤ 20 = omega (arith, m.low) in
+      let high : n + 1 ≤ 20 = omega (arith, m.low) in
+      let a = finite_up_to vector_curves d.center_ders n in
+      let b = finite_up_to vector_curves d.contact0_ders (n + 1) in
+      let c = finite_up_to vector_curves d.contact1_ders (n + 1) in
+      let s = finite_up_to parameters d.uv0_ders (n + 1) in
+      let t = finite_up_to parameters d.uv1_ders (n + 1) in
+      let vs = and_left (a && (b && c)) (s && t) m.all-finite in
+      let ps = and_right (a && (b && c)) (s && t) m.all-finite in
+      let bc = and_right a (b && c) vs in
+      let five : List Float → List Float → List Float → List Float → List Float → ℕ × Five = λ i j k l r. (0, (i, (j, (k, (l, r))))) in
+      let i = left vector_curves d.center_ders x n low m.center-order ex (and_left a (b && c) vs) in
+      let j = left vector_curves d.contact0_ders p (n + 1) high m.contact0-order ep (and_left b c bc) in
+      let k = left vector_curves d.contact1_ders q (n + 1) high m.contact1-order eq (and_right b c bc) in
+      let l = left parameters d.uv0_ders u (n + 1) high m.uv0-order eu (and_left s t ps) in
+      let r = left parameters d.uv1_ders v (n + 1) high m.uv1-order ev (and_right s t ps) in
+      ap (λ (w : Result CenterContactDers Refusal). deliver_contacts w (x, (p, (q, (u, v))))) z
+      ∙ sym (ap₂ (λ (e : List Float × List Float) (w : List Float × (List Float × List Float)). five e.0 e.1 w.0 w.1.0 w.1.1) (ap₂ pair i j) (ap₂ pair k (ap₂ pair l r)))
+    where
+      pair : {A B : Type 0} → A → B → A × B
+      pair y w = (y, w)

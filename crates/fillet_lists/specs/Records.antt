@@ -1,5 +1,5 @@
 -- The fillet's records, of lists. Assumes nothing.
-use Rattle.std.specs.Prelude.{List, ℕ, get_or, Float}
+use Rattle.std.specs.Prelude.{cond, List, ℕ, ◌+◌, ltb, length, get_or, Float}
 use Rattle.std.specs.Float.{nan}
 use Rattle.ieee_vectors.specs.declared.Vector3.{Vector3}
 use Rattle.derivatives.specs.declared.CurveDerivatives.{CurveDerivatives}
@@ -10,7 +10,8 @@ use Rattle.rolling_ball_fillet.specs.declared.ContactCircle.{ContactCircle}
 use Rattle.rolling_ball_fillet.specs.declared.RollingBallFilletSurface.{RollingBallFilletSurface}
 use Rattle.rolling_ball_fillet.specs.declared.CenterContactDers.{CenterContactDers}
 use Rattle.rolling_ball_fillet.specs.declared.VderInfo.{VderInfo}
-use Rattle.float_lists.specs.Values.{vector_at}
+use Rattle.given.specs.Given.{first, count_given, curve_given, parameter_given, vector_curve_given, vector_surface_given}
+use Rattle.given.specs.Values.{vector_at}
 use Rattle.vector_derivatives.specs.Answer.{vector_curves, vector_surfaces}
 use Rattle.derivatives.specs.Answer.{parameters, curves}
 use Rattle.calculus.specs.JetKind.{jet_of_list}
@@ -67,3 +68,26 @@ ders_of center contact0 contact1 uv0 uv1 =
 -- these, with the axis' and the angle's
 abbrev pub info_of : CenterContactDers → (axis angle : Listed) → VderInfo
 info_of d axis angle = record { cc_ders = d; axis_ders = jet_of_list vector_curves axis.0 axis.1; angle_ders = jet_of_list curves angle.0 angle.1 }
+
+-- ---- the tests of what is handed over: of a fillet: a circle, the parameters of its contact points (feet), both normals, and the jets
+abbrev pub fillet_given : (circle feet normals : List Float) → (edge radius surface0 surface1 : Listed) → ℕ
+fillet_given circle feet normals edge radius surface0 surface1 =
+    first (count_given 13 (length circle)) (first (count_given 4 (length feet)) (first (count_given 6 (length normals))
+    (first (vector_curve_given edge.0 (length edge.1)) (first (curve_given radius.0 (length radius.1))
+    (first (vector_surface_given surface0.0 (length surface0.1)) (vector_surface_given surface1.0 (length surface1.1)))))))
+
+-- ---- the centre, the contacts and their parameters along the edge, by orders and lengths: the centre's order ends at 19, as the others have one more
+abbrev pub five_given : (n center a contact0 b contact1 c uv0 d uv1 : ℕ) → ℕ
+five_given n center a contact0 b contact1 c uv0 d uv1 =
+    cond (ltb 19 n) 1
+    (first (vector_curve_given n center) (first (vector_curve_given a contact0) (first (vector_curve_given b contact1) (first (parameter_given c uv0) (parameter_given d uv1)))))
+
+-- lent, for the centre at the order n
+abbrev pub contacts_given : ℕ → (center contact0 contact1 uv0 uv1 : ℕ) → ℕ
+contacts_given n center contact0 contact1 uv0 uv1 = let k = n + 1 in five_given n center k contact0 k contact1 k uv0 k uv1
+
+-- ---- these five jets, handed over
+abbrev pub ders_given : (center contact0 contact1 uv0 uv1 : Listed) → ℕ
+ders_given center contact0 contact1 uv0 uv1 =
+    five_given center.0 (length center.1) contact0.0 (length contact0.1) contact1.0 (length contact1.1)
+    uv0.0 (length uv0.1) uv1.0 (length uv1.1)

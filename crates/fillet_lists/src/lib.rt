@@ -2,61 +2,56 @@
 #![tactic(auto)]
 
 ghost use Rattle.std.specs.Prelude.{◌≡◌, ℕ};
+ghost use Rattle.refusals.specs.Number.{number_of};
 ghost use Rattle.fillet_lists.specs.Delivery.{Five, deliver_contacts, Three, deliver_info};
 
-use float_lists::deliver;
-use rolling_ball_fillet::{CenterContactAnswer, VderInfoAnswer};
-use vectors::Real;
+use given::Lent;
+use refusals::Refusal;
+use rolling_ball_fillet::{CenterContactDers, VderInfoWithCosine};
 
 pub mod records;
 
-// The centre, the contacts and their parameters; or the refusal number, and the lists stay as they were.
+// The centre, the contacts and their parameters; or the refusal, and the lists stay as they were.
 pub fn deliver_contacts(
-    a: CenterContactAnswer,
+    answer: Result<CenterContactDers, Refusal>,
     center: &mut [f64],
     contact0: &mut [f64],
     contact1: &mut [f64],
     uv0: &mut [f64],
     uv1: &mut [f64],
-) -> u8
-    ensures { ◌≡◌ {A = ℕ × Five} (result, (center.new, (contact0.new, (contact1.new, (uv0.new, uv1.new))))) (deliver_contacts a (center.old, (contact0.old, (contact1.old, (uv0.old, uv1.old))))) }
+) -> Result<(), Refusal>
+    ensures { ◌≡◌ {A = ℕ × Five} (number_of result, (center.new, (contact0.new, (contact1.new, (uv0.new, uv1.new))))) (deliver_contacts answer (center.old, (contact0.old, (contact1.old, (uv0.old, uv1.old))))) }
 {
-    let c = a.refusal;
-    if c != 0 {
-        return c;
+    match answer {
+        Ok(d) => {
+            // A list of another length than is due stays as it was, which `deliver_contacts` says.
+            let _ = d.center_ders.into_list(center);
+            let _ = d.contact0_ders.into_list(contact0);
+            let _ = d.contact1_ders.into_list(contact1);
+            let _ = d.uv0_ders.into_list(uv0);
+            let _ = d.uv1_ders.into_list(uv1);
+            Ok(())
+        }
+        Err(refusal) => Err(refusal),
     }
-    let d = a.ders;
-    let x = d.center_ders;
-    let p = d.contact0_ders;
-    let q = d.contact1_ders;
-    let s = d.uv0_ders;
-    let t = d.uv1_ders;
-    x.into_list(center);
-    p.into_list(contact0);
-    q.into_list(contact1);
-    s.into_list(uv0);
-    t.into_list(uv1);
-    0
 }
 
-// Axis, angle and cosine; or the refusal number.
+// Axis, angle and cosine; or the refusal.
 pub fn deliver_info(
-    a: VderInfoAnswer,
+    answer: Result<VderInfoWithCosine, Refusal>,
     axis: &mut [f64],
     angle: &mut [f64],
     cosine: &mut [f64],
-) -> u8
-    ensures { ◌≡◌ {A = ℕ × Three} (result, (axis.new, (angle.new, cosine.new))) (deliver_info a (axis.old, (angle.old, cosine.old))) }
+) -> Result<(), Refusal>
+    ensures { ◌≡◌ {A = ℕ × Three} (number_of result, (axis.new, (angle.new, cosine.new))) (deliver_info answer (axis.old, (angle.old, cosine.old))) }
 {
-    let c = a.refusal;
-    if c != 0 {
-        return c;
+    match answer {
+        Ok(found) => {
+            let _ = found.info.axis_ders.into_list(axis);
+            let _ = found.info.angle_ders.into_list(angle);
+            let _ = f64::write(Ok(found.cosine), cosine);
+            Ok(())
+        }
+        Err(refusal) => Err(refusal),
     }
-    let i = a.info;
-    let x = i.axis_ders;
-    let t = i.angle_ders;
-    x.into_list(axis);
-    t.into_list(angle);
-    deliver::float(Real::Value(a.cosine), cosine);
-    0
 }

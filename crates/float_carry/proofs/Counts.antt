@@ -1,13 +1,6 @@
 -- Multiplicities to order 20 are below 2^53, so a float holds each: none is above the Stirling number of its order and len. Assumes nothing.
-use mathlib.Core.Path.{◌≡◌, refl, sym, ◌∙◌, subst}
-use mathlib.Core.Bool.{Bool, true, false, cond, true≢false}
-use mathlib.Core.List.{List, [], ◌∷◌, Memᴰ}
-use Prim.Native.Nat.{ℕ, zero, suc, ◌+◌, ◌*◌, ◌/◌, ◌^◌, ◌≤◌, ◌<◌}
-use native.Mathlib.Nat.{lt_of_le_of_lt, le_of_lt}
-use native.Mathlib.Omega.{arith}
-use lib.Dec.{T, ltb, lit<}
-use lib.IntN.{pos}
-use lib.ListN.{length, get_or}
+use Rattle.std.proofs.Common.{◌≡◌, refl, sym, ◌∙◌, subst, Bool, true, false, cond, true≢false, List, [], ◌∷◌, ℕ, zero, suc, ◌+◌, ◌*◌, ◌/◌, ◌^◌, ◌≤◌, ◌<◌, lt_of_le_of_lt, le_of_lt, arith, T, ltb, lit<, pos, length, get_or}
+use mathlib.Core.List.{Memᴰ}
 use lib.Ieee.{binary64, in_float}
 use borrow.Author.Tests.{ltb-true, le-leb}
 use Rattle.partitions.specs.Parts.{total, multiplicity}

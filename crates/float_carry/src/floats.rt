@@ -11,24 +11,20 @@ ghost use Rattle.formulas.specs.Real.{real};
 ghost use Rattle.formulas.specs.Numbers.{curve_numbers, surface_numbers};
 
 use crate::factors;
-use partitions::{CompositionIter, Count};
+use partitions::CompositionIter;
 
 // The sum over all masks of the entry of the surface that the mask's ones count names, times the factors of the mask.
+#[tactic(auto, using(formulas::proofs::Sums::turn_none))]
 fn tensor(entries: &[f64; 231], u: &[f64; 21], v: &[f64; 21], list: &[usize]) -> f64
     requires { (length list.now ≤ 20) × (total list.now ≤ 20) }
     ensures { result ≡ Tensor (regular real) 2 (coordinates (curve_numbers u.now) (curve_numbers v.now)) (surface_entry (surface_numbers entries.now)) list.now }
 {
     let len = list.len();
     let last = len * (len + 1) / 2 + len;
-    let end: u32 = 1 << len;
     let mut sum = 0.0f64;
-    let mut mask: u32 = 0;
-    while mask < end {
-        let t = u32::count_ones(mask);
-        let e = entries[last - t as usize];
-        let product = factors(u, v, list, mask);
-        sum = sum + e * product;
-        mask += 1;
+    for mask in 0..1u32 << len {
+        let e = entries[last - u32::count_ones(mask) as usize];
+        sum = sum + e * factors(u, v, list, mask);
     }
     sum
 }
@@ -39,13 +35,9 @@ fn summand(entries: &[f64; 231], u: &[f64; 21], v: &[f64; 21], list: &[usize]) -
     ensures { result ≡ Summand (regular real) 2 (coordinates (curve_numbers u.now) (curve_numbers v.now)) (surface_entry (surface_numbers entries.now)) list.now }
 {
     let sum = tensor(entries, u, v, list);
-    let count = partitions::multiplicity(list);
-    match count {
-        Count::Value(m) => {
-            let coefficient = m as f64;
-            sum * coefficient
-        }
-        Count::Refused(_) => sum,
+    match partitions::multiplicity(list) {
+        Ok(m) => sum * m as f64,
+        Err(_) => sum,
     }
 }
 
@@ -61,14 +53,11 @@ fn along_lists(
     requires { (0 < len) × (len ≤ order) × (order ≤ 20) }
     ensures { result ≡ along_list real.plus start (Summand (regular real) 2 (coordinates (curve_numbers u.now) (curve_numbers v.now)) (surface_entry (surface_numbers entries.now))) (lists order len) }
 {
-    let first = CompositionIter::try_new(order, len);
     let mut sum = start;
-    let mut step = first.walk.step();
-    while !step.item.ended {
-        let parts = step.item.parts;
-        let term = summand(entries, u, v, &parts[..len]);
-        sum = sum + term;
-        step = step.walk.step();
+    if let Ok(mut walk) = CompositionIter::try_new(order, len) {
+        while let Ok(Some(parts)) = walk.next() {
+            sum = sum + summand(entries, u, v, &parts[..len]);
+        }
     }
     sum
 }
@@ -77,11 +66,9 @@ fn along_lists(
 pub fn derivative(entries: &[f64; 231], u: &[f64; 21], v: &[f64; 21], order: usize) -> f64
     ensures { result ≡ composite_derivative (regular real) (curve_numbers u.now) (curve_numbers v.now) (surface_numbers entries.now) (min order 20) }
 {
-    let n = calculus::smaller(order, 20);
+    let n = order.min(20);
     let mut total = 0.0f64;
-    let mut len = 0;
-    while len < n {
-        len += 1;
+    for len in 1..n + 1 {
         total = along_lists(entries, u, v, n, len, total);
     }
     total
@@ -103,13 +90,10 @@ fn entry(entries: &[f64; 231], u: &[f64; 21], v: &[f64; 21], m: usize) -> f64
 pub fn derivatives(entries: &[f64; 231], u: &[f64; 21], v: &[f64; 21], order: usize) -> [f64; 21]
     ensures { result ≡ curve_array positive_zero (composite_derivatives (regular real) (curve_numbers u.now) (curve_numbers v.now) (surface_numbers entries.now)) (min order 20) }
 {
-    let n = calculus::smaller(order, 20);
+    let n = order.min(20);
     let mut r = [0.0f64; 21];
-    let mut m = 0;
-    while m <= n {
-        let e = entry(entries, u, v, m);
-        r[m] = e;
-        m += 1;
+    for m in 0..n + 1 {
+        r[m] = entry(entries, u, v, m);
     }
     r
 }

@@ -1,6 +1,6 @@
 // The derivatives of a surface along a curve in its parameters, on arrays of floats and of vectors: Faà di Bruno's formula (document 01's carry), each
 // operation rounded as the source rounds it. There are no refusals here: NaN and infinities pass through. An array has room for 20 orders, and an order
-// above is cut to 20.
+// above is cut to 20. Floats and vectors have separate functions, as in document 01.
 #![tactic(auto)]
 
 ghost use Rattle.std.specs.Prelude.{◌≡◌, ◌≤◌};
@@ -19,13 +19,10 @@ fn factors(u: &[f64; 21], v: &[f64; 21], list: &[usize], mask: u32) -> f64
 {
     let mut product = 1.0f64;
     let mut rest = mask;
-    let mut p = 0;
-    while p < list.len() {
-        let a = list[p];
-        let x = if rest % 2 == 0 { u[a] } else { v[a] };
+    for a in list {
+        let x = if rest % 2 == 0 { u[*a] } else { v[*a] };
         product = product * x;
         rest = rest / 2;
-        p += 1;
     }
     product
 }

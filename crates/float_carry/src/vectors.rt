@@ -10,27 +10,23 @@ ghost use Rattle.vector_formulas.specs.Vector.{vectors, vector_surface_numbers, 
 
 use crate::factors;
 use ieee_vectors::Vector3;
-use partitions::{CompositionIter, Count};
+use partitions::CompositionIter;
 use vector_formulas::{store, vector_at, zero};
 
 // The sum over all masks of the entry of the surface that the mask's ones count names, times the factors of the mask.
+#[tactic(auto, using(formulas::proofs::Sums::turn_none))]
 fn tensor(entries: &[f64; 693], u: &[f64; 21], v: &[f64; 21], list: &[usize]) -> Vector3
     requires { (length list.now ≤ 20) × (total list.now ≤ 20) }
     ensures { result ≡ Tensor vectors 2 (coordinates (curve_numbers u.now) (curve_numbers v.now)) (surface_entry (vector_surface_numbers entries.now)) list.now }
 {
     let len = list.len();
     let last = len * (len + 1) / 2 + len;
-    let end: u32 = 1 << len;
     let mut sum = zero();
-    let mut mask: u32 = 0;
-    while mask < end {
-        let t = u32::count_ones(mask);
-        let k = last - t as usize;
+    for mask in 0..1u32 << len {
+        let k = last - u32::count_ones(mask) as usize;
         let e = vector_at(entries, k);
         let product = factors(u, v, list, mask);
-        let term = e.mul(product);
-        sum = sum.add(term);
-        mask += 1;
+        sum = sum.add(e.mul(product));
     }
     sum
 }
@@ -41,13 +37,9 @@ fn summand(entries: &[f64; 693], u: &[f64; 21], v: &[f64; 21], list: &[usize]) -
     ensures { result ≡ Summand vectors 2 (coordinates (curve_numbers u.now) (curve_numbers v.now)) (surface_entry (vector_surface_numbers entries.now)) list.now }
 {
     let sum = tensor(entries, u, v, list);
-    let count = partitions::multiplicity(list);
-    match count {
-        Count::Value(m) => {
-            let coefficient = m as f64;
-            sum.mul(coefficient)
-        }
-        Count::Refused(_) => sum,
+    match partitions::multiplicity(list) {
+        Ok(m) => sum.mul(m as f64),
+        Err(_) => sum,
     }
 }
 
@@ -63,14 +55,11 @@ fn along_lists(
     requires { (0 < len) × (len ≤ order) × (order ≤ 20) }
     ensures { result ≡ along_list vectors.plus start (Summand vectors 2 (coordinates (curve_numbers u.now) (curve_numbers v.now)) (surface_entry (vector_surface_numbers entries.now))) (lists order len) }
 {
-    let first = CompositionIter::try_new(order, len);
     let mut sum = start;
-    let mut step = first.walk.step();
-    while !step.item.ended {
-        let parts = step.item.parts;
-        let term = summand(entries, u, v, &parts[..len]);
-        sum = sum.add(term);
-        step = step.walk.step();
+    if let Ok(mut walk) = CompositionIter::try_new(order, len) {
+        while let Ok(Some(parts)) = walk.next() {
+            sum = sum.add(summand(entries, u, v, &parts[..len]));
+        }
     }
     sum
 }
@@ -79,11 +68,9 @@ fn along_lists(
 pub fn derivative(entries: &[f64; 693], u: &[f64; 21], v: &[f64; 21], order: usize) -> Vector3
     ensures { result ≡ composite_derivative vectors (curve_numbers u.now) (curve_numbers v.now) (vector_surface_numbers entries.now) (min order 20) }
 {
-    let n = calculus::smaller(order, 20);
+    let n = order.min(20);
     let mut total = zero();
-    let mut len = 0;
-    while len < n {
-        len += 1;
+    for len in 1..n + 1 {
         total = along_lists(entries, u, v, n, len, total);
     }
     total
@@ -105,13 +92,10 @@ fn entry(entries: &[f64; 693], u: &[f64; 21], v: &[f64; 21], m: usize) -> Vector
 pub fn derivatives(entries: &[f64; 693], u: &[f64; 21], v: &[f64; 21], order: usize) -> [f64; 63]
     ensures { result ≡ vector_array (composite_derivatives vectors (curve_numbers u.now) (curve_numbers v.now) (vector_surface_numbers entries.now)) (min order 20) }
 {
-    let n = calculus::smaller(order, 20);
+    let n = order.min(20);
     let mut r = [0.0f64; 63];
-    let mut m = 0;
-    while m <= n {
-        let e = entry(entries, u, v, m);
-        store(&mut r, m, e);
-        m += 1;
+    for m in 0..n + 1 {
+        store(&mut r, m, entry(entries, u, v, m));
     }
     r
 }

@@ -2,5 +2,3 @@
 pub mod Finite
 pub mod Delivered
 pub mod VectorsDelivered
--- lists of single values
-pub mod Lengths

@@ -1,18 +1,14 @@
 -- An array of a curve's entries, as a loop fills it and as it is read; and what a formula reads of the entries before it. Assumes nothing.
-use mathlib.Core.Path.{◌≡◌, refl, sym, ap, ap₂, ◌∙◌}
-use mathlib.Core.List.{List}
-use Prim.Native.Nat.{ℕ, suc, ◌+◌, ◌≤◌, ◌<◌}
-use native.Mathlib.Nat.{le_refl}
-use native.Mathlib.Omega.{arith}
-use lib.ListN.{set, replicate}
-use lib.Ieee.{Float, nan}
-use borrow.Author.Tests.{lt-ltb}
-use Rattle.booleans.proofs.Tests.{first}
+use Rattle.std.proofs.Common.{◌≡◌, Bool, true, false, cond, List, ◌++◌, Float, ℕ, suc, ◌+◌, ◌-◌, ◌≤◌, ◌<◌, ltb, length, get_or, drop, set, replicate, refl, sym, ap, ap₂, ◌∙◌, arith, length-append, length-drop, le_refl}
+use Rattle.std.specs.Float.{nan}
+use Rattle.std.proofs.lemmas.List.{get_or_append_left, get_or-drop, length-replicate, get_or-replicate}
+use Rattle.std.proofs.Math.Seq.{ext_get_or, get_or-append_right}
+use borrow.Author.Tests.{lt-ltb, ltb-true, ltb-false}
 use Rattle.calculus.specs.Array.{filled, curve_array}
 use Rattle.calculus.specs.Kind.{regular}
 use Rattle.calculus.specs.Rising.{before, rising}
 use Rattle.calculus.proofs.Related.{same_module}
-use Rattle.calculus.proofs.LoopFilling.{CurveStored, curve-none, curve-more, curve-all, curve-earlier, filled_at}
+use Rattle.calculus.proofs.LoopFilling.{CurveStored, curve-none, curve-more, curve-all, curve-earlier, filled-length, filled_at}
 use Rattle.calculus.proofs.UpTo.{CurvesAgree}
 use Rattle.calculus.proofs.Quotients.{rational_entry-alike}
 use Rattle.calculus.specs.declared.Operation.{Operation}
@@ -37,10 +33,27 @@ module _ (f : ℕ → Float) where
   pub numbers-all : {r : List Float} (n : ℕ) {m : ℕ} → CurveFilled m r → m ≡ n → r ≡ filled 21 positive_zero f n
   numbers-all = curve-all 21 nan positive_zero (λ k v. f k ≡ v) f (λ k v e. sym e)
 
+-- ---- an array of w zeros of which the first n are written over
+module _ (w : ℕ) (f : ℕ → Float) where
+  pub copied : {n : ℕ} (part : List Float) → n ≤ w → length part ≡ n → ((k : ℕ) → k < n → curve_numbers part k ≡ f k) →
+      part ++ drop n (replicate w positive_zero) ≡ filled w positive_zero f n
+  copied {n} part b l h =
+      let long : length (part ++ drop n (replicate w positive_zero)) ≡ w = simp (length-append, length-drop, length-replicate) (omega arith) in
+      ext_get_or nan (part ++ drop n (replicate w positive_zero)) (filled w positive_zero f n) (long ∙ sym (filled-length w nan positive_zero f n))
+      (λ k q. at k (omega (arith, q, long)) (ltb k n) refl ∙ sym (filled_at w nan positive_zero f n k (omega (arith, q, long))))
+    where
+      at : (k : ℕ) → k < w → (t : Bool) → ltb k n ≡ t → get_or (part ++ drop n (replicate w positive_zero)) k nan ≡ cond t (f k) positive_zero
+      at k q true e = get_or_append_left part _ nan k (omega (arith, ltb-true k n e)) ∙ h k (ltb-true k n e)
+      at k q false e =
+          let g : n ≤ k = ltb-false k n e in
+          let m : n + (k - length part) ≡ k = omega (arith, g, l) in
+          get_or-append_right part _ k nan (omega (arith, g, l)) ∙ get_or-drop n (replicate w positive_zero) (k - length part) nan
+          ∙ ap (λ (x : ℕ). get_or (replicate w positive_zero) x nan) m ∙ get_or-replicate w k positive_zero nan q
+
 -- ---- what is read of an array that a formula filled: the formula's entries
 pub numbers-held : (f : ℕ → Float) (n : ℕ) → n ≤ 21 → {r : List Float} → r ≡ filled 21 positive_zero f n → (k : ℕ) → k < n → curve_numbers r k ≡ f k
 numbers-held f n h e k l =
-    ap (λ (x : List Float). curve_numbers x k) e ∙ filled_at 21 nan positive_zero f n k (omega arith) ∙ first (f k) positive_zero (lt-ltb k n l)
+    ap (λ (x : List Float). curve_numbers x k) e ∙ filled_at 21 nan positive_zero f n k (omega arith) ∙ ap (λ (t : Bool). cond t (f k) positive_zero) (lt-ltb k n l)
 
 pub numbers-agree : (f : ℕ → Float) (n : ℕ) → n ≤ 20 → {r : List Float} → r ≡ curve_array positive_zero f n → CurvesAgree n (curve_numbers r) f
 numbers-agree f n h e k l = numbers-held f (suc n) (omega arith) e k (omega arith)

@@ -1,4 +1,5 @@
-pub mod Table
 pub mod Finite
 pub mod Curves
 pub mod Surfaces
+pub mod Sums
+pub mod Coefficients

@@ -1,16 +1,13 @@
 -- A loop that forms the entries of a surface's jet, i rising, then j, and stores each; and what a formula reads of them. Assumes nothing.
-use mathlib.Core.Path.{◌≡◌, refl, sym, ap₂, subst}
-use mathlib.Core.List.{List}
-use Prim.Native.Nat.{ℕ, ◌+◌, ◌≤◌, ◌<◌}
-use native.Mathlib.Omega.{arith}
-use lib.ListN.{set, replicate}
-use lib.Ieee.{Float, nan}
+use Rattle.std.proofs.Common.{◌≡◌, ℕ, List, Float, ◌+◌, ◌-◌, ◌≤◌, ◌<◌, min, set, replicate, refl, sym, ap₂, ◌∙◌, arith, subst}
+use Rattle.std.specs.Float.{nan}
 use Rattle.calculus.specs.Kind.{regular}
 use Rattle.calculus.specs.Rising.{before_entry, rising_rows}
 use Rattle.calculus.specs.Graded.{index}
 use Rattle.calculus.specs.Array.{surface_array}
 use Rattle.calculus.proofs.Related.{same_module}
-use Rattle.calculus.proofs.Graded.{room-231}
+use Rattle.calculus.proofs.Graded.{room-231, index-231}
+use Rattle.calculus.proofs.LoopCut.{uncut-entry}
 use Rattle.calculus.proofs.LoopSurfaceFilling.{SurfaceStored, surface-none, surface-more, surface-next, surface-all, surface-earlier}
 use Rattle.calculus.proofs.LoopLeft.{Inside}
 use Rattle.calculus.specs.declared.Operation.{Operation}
@@ -23,9 +20,29 @@ use Rattle.formulas.specs.Inner.{surface_formula}
 use Rattle.formulas.proofs.Curves.{Eq}
 use Rattle.calculus.proofs.Quotients.{surface_rational_entry-alike}
 
+-- ---- an index that is cut is the entry's place, where the entry is one of the array's
+pub at_place : (i j : ℕ) {k : ℕ} → i + j ≤ 20 → k ≡ index (min i 20) (min j (20 - min i 20)) → k ≡ index i j
+at_place i j h e = e ∙ uncut-entry index h
+
+pub in_array : (i j : ℕ) {k : ℕ} → i + j ≤ 20 → k ≡ index (min i 20) (min j (20 - min i 20)) → k < 231
+in_array i j h e = omega (arith, at_place i j h e, index-231 i j h)
+
 module _ (f : ℕ → ℕ → Float) {n : ℕ} (b : n ≤ 20) where
   abbrev pub SurfaceFilled : ℕ → ℕ → List Float → Type 0
   SurfaceFilled = SurfaceStored 231 nan positive_zero n (room-231 n b) (λ i j v. f i j ≡ v)
+
+  pub surface_none : SurfaceFilled 0 0 (replicate 231 positive_zero)
+  surface_none = surface-none 231 nan positive_zero n (room-231 n b) (λ i j v. f i j ≡ v)
+
+  -- the entry [i][j] is stored at its place k
+  pub surface_more : {i j k : ℕ} {v : Float} {r : List Float} → SurfaceFilled i j r → i + j ≤ n → f i j ≡ v → k ≡ index i j → SurfaceFilled i (j + 1) (set r k v)
+  surface_more {v = v} s h e k = rw k (surface-more 231 nan positive_zero n (room-231 n b) (λ i j v. f i j ≡ v) v s h e)
+
+  pub surface_row : {i j : ℕ} {r : List Float} → SurfaceFilled i j r → n < i + j → SurfaceFilled (i + 1) 0 r
+  surface_row = surface-next 231 nan positive_zero n (room-231 n b) (λ i j v. f i j ≡ v)
+
+  pub surface_all : {i : ℕ} {r : List Float} → SurfaceFilled i 0 r → n < i → r ≡ surface_array positive_zero f n
+  surface_all = surface-all 231 nan positive_zero n (room-231 n b) (λ i j v. f i j ≡ v) f (λ i j v q. sym q)
 
   pub record SurfaceProgress (i j : ℕ) (r : List Float) : Type 0 where
     pub stored : SurfaceFilled i j r

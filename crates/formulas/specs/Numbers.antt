@@ -1,5 +1,5 @@
 -- The entries of arrays of floats as jets, and whether they are finite. Assumes nothing.
-use Rattle.std.specs.Prelude.{Bool, true, ◌&&◌, List, ℕ, zero, suc, ◌-◌, length, get_or, Float}
+use Rattle.std.specs.Prelude.{Bool, true, ◌&&◌, List, ℕ, zero, suc, length, get_or, Float}
 use Rattle.std.specs.Float.{nan}
 use Rattle.std.specs.Float.Ieee.Scale.{finite}
 use Rattle.calculus.specs.Graded.{triangle, index, graded}
@@ -10,10 +10,6 @@ curve_numbers l m = get_or l m nan
 
 abbrev pub surface_numbers : List Float → ℕ → ℕ → Float
 surface_numbers l i j = get_or l (index i j) nan
-
--- the i-th number of the row m of a table that stands as Pascal's triangle does
-abbrev pub in_row : List ℕ → ℕ → ℕ → ℕ
-in_row c m i = get_or c (index i (m - i)) 0
 
 -- ---- whether the first n pass a test
 unfoldable pub all_pass : {A : Type 0} → (A → Bool) → (ℕ → A) → ℕ → Bool

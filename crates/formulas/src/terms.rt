@@ -1,11 +1,12 @@
-// Where an entry stands in a surface's array, and the coefficients of Leibniz's rule.
-ghost use Rattle.std.specs.Prelude.{◌≡◌, ◌+◌, ◌≤◌, pos};
-ghost use Rattle.std.specs.Float.{binary64};
-ghost use Rattle.std.specs.Float.Ieee.{of_int};
+// What the loops over a surface read: within the array, so that nothing is cut. Over the cut ones of the root a product took half as long again.
+ghost use Rattle.std.specs.Prelude.{◌≡◌, ◌+◌, ◌*◌, ◌≤◌};
+ghost use Rattle.calculus.specs.Choose.{choose};
 ghost use Rattle.calculus.specs.Graded.{index as index_of};
-ghost use Rattle.formulas.specs.Numbers.{in_row};
+ghost use Rattle.formulas.specs.Real.{real};
+ghost use Rattle.formulas.specs.Numbers.{surface_numbers};
 
 // Where [i][j] stands in a surface's array.
+#[tactic(auto, unfolding(calculus::specs::Graded::index))]
 pub fn index(i: usize, j: usize) -> usize
     requires { i + j ≤ 20 }
     ensures { result ≡ index_of i j }
@@ -14,17 +15,20 @@ pub fn index(i: usize, j: usize) -> usize
     n * (n + 1) / 2 + i
 }
 
-// The i-th binomial coefficient of the order m, from the table of them.
-pub fn binomial(c: &[u32; 231], m: usize, i: usize) -> u32
-    requires { (i ≤ m) × (m ≤ 20) }
-    ensures { result ≡ in_row c.now m i }
+// The entry [i][j].
+pub fn number_at(a: &[f64; 231], i: usize, j: usize) -> f64
+    requires { i + j ≤ 20 }
+    ensures { result ≡ surface_numbers a.now i j }
 {
-    let k = index(i, m - i);
-    c[k]
+    a[index(i, j)]
 }
 
-pub fn float(x: u32) -> f64
-    ensures { result ≡ of_int binary64 (pos x) }
+// The coefficient of the term [i][j] of Leibniz's rule at [m][n]: a product that is formed before it becomes a float.
+pub fn coefficient(m: usize, n: usize, i: usize, j: usize) -> f64
+    requires { m + n ≤ 20 }
+    ensures { result ≡ real.of_nat (choose m i * choose n j) }
 {
-    x as f64
+    let x = calculus::choose(m, i);
+    let y = calculus::choose(n, j);
+    (x * y) as f64
 }

@@ -1,16 +1,53 @@
 -- What a function over lists returns, by its test of what is given. Assumes nothing.
-use mathlib.Core.Path.{◌≡◌, sym, ap, ap₂, ◌∙◌}
+use mathlib.Core.Path.{◌≡◌, refl, sym, ap, ap₂, ◌∙◌}
+use mathlib.Core.Bool.{Bool, true, false, cond}
+use lib.Dec.{ltb, eqb}
 use mathlib.Core.List.{List}
-use Prim.Native.Nat.{ℕ, min}
+use Prim.Native.Nat.{ℕ, ◌<◌, min}
 use native.Mathlib.Decide.{ℕ_discrete}
 use native.Mathlib.Omega.{arith}
 use lib.ListN.{length}
 use borrow.Author.Tests.{eq-eqb, ne_eqb}
+use Rattle.std.specs.Prelude.{Result, Ok, Err, ⊤}
+use Rattle.refusals.specs.declared.Refusal.{Refusal}
+use Rattle.refusals.specs.Number.{number, number_of}
+use Rattle.refusals.proofs.Numbers.{number-pos}
 use Rattle.given.specs.Given.{first, order_given, count_given}
 use Rattle.given.specs.Lists.{over_two_at, over_two, over_one, admitted, Input, Output}
 
 abbrev pub pair : {T : Type 0} → ℕ → List T → ℕ × List T
 pair c l = (c, l)
+
+pub both : {T : Type 0} {c : ℕ} {l : List T} {r : ℕ × List T} → c ≡ r.0 → l ≡ r.1 → pair c l ≡ r
+both p q = ap₂ pair p q
+
+-- an answer's number is 0, and a refusal's is not
+pub answered-0 : {t : Result ⊤ Refusal} {u : ⊤} → t ≡ Ok u → number_of t ≡ 0
+answered-0 e = ap number_of e
+
+pub refused-not_0 : {t : Result ⊤ Refusal} {r : Refusal} → t ≡ Err r → ¬ (number_of t ≡ 0)
+refused-not_0 {r = r} e z =
+    let q : number r ≡ 0 = sym (ap number_of e) ∙ z in
+    absurd (omega (arith, number-pos r, q))
+
+-- a test before another: none is left of the second where the first is an order above 20, and only it where the first is 0
+pub first-high : (n x : ℕ) → ¬ (order_given n ≡ 0) → order_given n ≡ first (order_given n) x
+unfolding first
+first-high n x h = by (ltb 20 n) refl
+  where
+    by : (b : Bool) → ltb 20 n ≡ b → order_given n ≡ cond (eqb (order_given n) 0) x (cond (eqb x 0) (order_given n) (min (order_given n) x))
+    by true e = go (ℕ_discrete x 0)
+      where
+        go : Dec (x ≡ 0) → order_given n ≡ cond (eqb (order_given n) 0) x (cond (eqb x 0) (order_given n) (min (order_given n) x))
+        go (yes p) = rw (e, eq-eqb x 0 p)
+        go (no p) =
+            let q : ◌≡◌ {A = ℕ} 1 (min 1 x) = omega arith in
+            rw (e, ne_eqb x 0 p) q
+    by false e = absurd (h (ap (λ (b : Bool). cond b 1 0) e))
+
+pub first-fit : (n x : ℕ) → order_given n ≡ 0 → x ≡ first (order_given n) x
+unfolding first
+first-fit n x h = sym (rw (eq-eqb (order_given n) 0 h))
 
 -- the test is not 0, or it is
 module _ {L : Type 0} {t g : ℕ} (out : L) (e : t ≡ g) where

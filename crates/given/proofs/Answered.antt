@@ -16,7 +16,10 @@ use Rattle.calculus.specs.Surface.{derivative_by}
 use Rattle.calculus.specs.declared.By.{By}
 use Rattle.calculus.specs.declared.By.TheVariants as way
 use Rattle.calculus.specs.Order.{curve_entries, surface_entries}
-use Rattle.calculus.specs.JetKind.{Entries, JetKind, above20, finite_up_to, refused, answered, returned, differentiated, by_formula, on_one, on_two, on_two_at}
+use Rattle.std.specs.Prelude.{Result, Ok, Err, ⊤}
+use Rattle.refusals.specs.declared.Refusal.{Refusal}
+use Rattle.refusals.specs.declared.Refusal.TheVariants.{OrderAbove20, Shape, InputNotFinite, AnswerNotFinite}
+use Rattle.calculus.specs.JetKind.{Entries, JetKind, above20, finite_up_to, answered, returned, differentiated, by_formula, on_one, on_two, on_two_at}
 use Rattle.calculus.proofs.Graded.{index_below, index-231, place-first, place-second, place-order}
 use Rattle.calculus.proofs.Same.{curve-entries-same, surface-entries-same}
 use Rattle.calculus.proofs.Tested.{near, near-at}
@@ -26,39 +29,25 @@ use Rattle.given.proofs.Delivered.{by-test, entries, whole, Fit, delivered, Read
 
 -- ---- what the functions on jets answer
 -- a jet that is made has the entries that it is made of, up to its order
-pub record Made {X E J A : Type 0} (K : JetKind X E J A) : Type 0 where
+pub record Made {X E J : Type 0} (K : JetKind X E J) : Type 0 where
   pub read : Read K
   pub finite : (n : ℕ) → n ≤ 20 → (x : E) → K.finite (K.numbers (K.made n x)) n ≡ K.finite x n
   pub list : (n : ℕ) → n ≤ 20 → (x : E) → K.list (K.numbers (K.made n x)) n ≡ K.list x n
 
-module _ {X E J A : Type 0} (K : JetKind X E J A) (s : Made K) where
-  pub fit_refused : {n : ℕ} (c : ℕ) → Fit K n (refused K (suc c))
-  fit_refused {n} c = record { order = λ z. none z; low = λ z. none z; finite = λ z. none z }
-    where
-      none : {P : Type 0} → K.refusal (refused K (suc c)) ≡ 0 → P
-      none z = absurd (suc-ne-zero c (sym (s.read.refusal (suc c) K.none) ∙ z))
-
+module _ {X E J : Type 0} (K : JetKind X E J) (s : Made K) where
   module _ (n : ℕ) (h : n ≤ 20) (x : E) where
     pub fit-answered : K.finite x n ≡ true → Fit K n (answered K n x)
-    fit-answered p = record {
-      order = λ _. ap K.order (s.read.jet 0 (K.made n x)) ∙ s.read.order n x;
-      low = λ _. h;
-      finite = λ _. ap (λ (a : J). K.finite (K.numbers a) n) (s.read.jet 0 (K.made n x)) ∙ s.finite n h x ∙ p;
-    }
+    fit-answered p = record { order = s.read.order n x; low = h; finite = s.finite n h x ∙ p }
 
     pub fit-returned : Fit K n (returned K n x)
-    fit-returned = by-test (Fit K n) (K.finite x n) (answered K n x) (refused K 10) fit-answered (λ _. fit_refused 9)
+    fit-returned = by-test (Fit K n) (K.finite x n) (answered K n x) (Err AnswerNotFinite) fit-answered (λ _. tt)
 
     -- its entries are those of the list
-    pub entries-answered : entries K (answered K n x) ≡ K.list x n
-    entries-answered =
-        ap (λ (a : J). K.list (K.numbers a) (K.order a)) (s.read.jet 0 (K.made n x))
-        ∙ ap (K.list (K.numbers (K.made n x))) (s.read.order n x) ∙ s.list n h x
+    pub entries-answered : entries K (K.made n x) ≡ K.list x n
+    entries-answered = ap (K.list (K.numbers (K.made n x))) (s.read.order n x) ∙ s.list n h x
 
     pub answered-delivered : K.finite x n ≡ true → (out : List X) → length out ≡ K.count n → deliver K (answered K n x) out ≡ pair 0 (K.list x n)
-    answered-delivered p out e =
-        delivered K n (answered K n x) out (fit-answered p) (λ _. e)
-        ∙ sym (allowed out (sym (s.read.refusal 0 (K.made n x))) refl (ap (pair 0) (sym entries-answered)))
+    answered-delivered p out e = delivered K n (answered K n x) out (fit-answered p) e ∙ ap (pair 0) entries-answered
 
   -- a derivative, of one order less
   pub fit-less : (d : E → E) → ((x : E) (n : ℕ) → ¬ (n ≡ 0) → K.finite x n ≡ true → K.finite (d x) (n - 1) ≡ true) → (a : J) →
@@ -67,40 +56,40 @@ module _ {X E J A : Type 0} (K : JetKind X E J A) (s : Made K) where
       let n = K.order a in
       let r = answered K (n - 1) (d (K.numbers a)) in
       let finite = finite_up_to K a n in
-      by-test (Fit K (n - 1)) (ltb 20 n) (refused K 1) (cond (eqb n 0) (refused K 2) (cond finite r (refused K 5))) (λ _. fit_refused 0)
-      (λ e. by-test (Fit K (n - 1)) (eqb n 0) (refused K 2) (cond finite r (refused K 5)) (λ _. fit_refused 1)
-      (λ z. by-test (Fit K (n - 1)) finite r (refused K 5)
-      (λ g. fit-answered (n - 1) (omega (arith, ltb-false 20 n e)) (d (K.numbers a)) (f (K.numbers a) n (eqb-false n 0 z) g)) (λ _. fit_refused 4)))
+      by-test (Fit K (n - 1)) (ltb 20 n) (Err OrderAbove20) (cond (eqb n 0) (Err Shape) (cond finite r (Err InputNotFinite))) (λ _. tt)
+      (λ e. by-test (Fit K (n - 1)) (eqb n 0) (Err Shape) (cond finite r (Err InputNotFinite)) (λ _. tt)
+      (λ z. by-test (Fit K (n - 1)) finite r (Err InputNotFinite)
+      (λ g. fit-answered (n - 1) (omega (arith, ltb-false 20 n e)) (d (K.numbers a)) (f (K.numbers a) n (eqb-false n 0 z) g)) (λ _. tt)))
 
-module _ {X E J A Z G H C : Type 0} (K : JetKind X E J A) (R : JetKind Z G H C) (s : Made R) where
+module _ {X E J Z G H : Type 0} (K : JetKind X E J) (R : JetKind Z G H) (s : Made R) where
   -- work on one jet
-  pub fit-one : (op : E → ℕ → C) → ((x : E) (n : ℕ) → n ≤ 20 → Fit R n (op x n)) → (a : J) → Fit R (K.order a) (on_one K (refused R) op a)
+  pub fit-one : (op : E → ℕ → Result H Refusal) → ((x : E) (n : ℕ) → n ≤ 20 → Fit R n (op x n)) → (a : J) → Fit R (K.order a) (on_one K op a)
   fit-one op f a =
       let n = K.order a in
       let r = op (K.numbers a) n in
-      by-test (Fit R n) (ltb 20 n) (refused R 1) (cond (finite_up_to K a n) r (refused R 5)) (λ _. fit_refused R s 0)
-      (λ e. by-test (Fit R n) (finite_up_to K a n) r (refused R 5) (λ _. f (K.numbers a) n (ltb-false 20 n e)) (λ _. fit_refused R s 4))
+      by-test (Fit R n) (ltb 20 n) (Err OrderAbove20) (cond (finite_up_to K a n) r (Err InputNotFinite)) (λ _. tt)
+      (λ e. by-test (Fit R n) (finite_up_to K a n) r (Err InputNotFinite) (λ _. f (K.numbers a) n (ltb-false 20 n e)) (λ _. tt))
 
   -- on two, at the smaller order, and at one that is asked
-  module _ {Y F L B : Type 0} (M : JetKind Y F L B) where
-    pub fit-two : (op : E → F → ℕ → C) → ((x : E) (y : F) (n : ℕ) → n ≤ 20 → Fit R n (op x y n)) → (a : J) (b : L) →
-        Fit R (min (K.order a) (M.order b)) (on_two K M (refused R) op a b)
+  module _ {Y F L : Type 0} (M : JetKind Y F L) where
+    pub fit-two : (op : E → F → ℕ → Result H Refusal) → ((x : E) (y : F) (n : ℕ) → n ≤ 20 → Fit R n (op x y n)) → (a : J) (b : L) →
+        Fit R (min (K.order a) (M.order b)) (on_two K M op a b)
     fit-two op f a b =
         let n = min (K.order a) (M.order b) in
         let r = op (K.numbers a) (M.numbers b) n in
         let finite = finite_up_to K a n && M.finite (M.numbers b) n in
-        by-test (Fit R n) (above20 (K.order a) (M.order b)) (refused R 1) (cond finite r (refused R 5)) (λ _. fit_refused R s 0)
-        (λ e. by-test (Fit R n) finite r (refused R 5) (λ _. f (K.numbers a) (M.numbers b) n (near (K.order a) (M.order b) refl e refl)) (λ _. fit_refused R s 4))
+        by-test (Fit R n) (above20 (K.order a) (M.order b)) (Err OrderAbove20) (cond finite r (Err InputNotFinite)) (λ _. tt)
+        (λ e. by-test (Fit R n) finite r (Err InputNotFinite) (λ _. f (K.numbers a) (M.numbers b) n (near (K.order a) (M.order b) refl e refl)) (λ _. tt))
 
-    pub fit_at : (n : ℕ) (op : E → F → C) → ((x : E) (y : F) → n ≤ 20 → Fit R n (op x y)) → (a : J) (b : L) → Fit R n (on_two_at K M (refused R) op a b n)
+    pub fit_at : (n : ℕ) (op : E → F → Result H Refusal) → ((x : E) (y : F) → n ≤ 20 → Fit R n (op x y)) → (a : J) (b : L) → Fit R n (on_two_at K M op a b n)
     fit_at n op f a b =
         let r = op (K.numbers a) (M.numbers b) in
         let finite = finite_up_to K a n && M.finite (M.numbers b) n in
         let unfit = ltb (min (K.order a) (M.order b)) n in
         let high = above20 (K.order a) (M.order b) || ltb 20 n in
-        by-test (Fit R n) high (refused R 1) (cond unfit (refused R 2) (cond finite r (refused R 5))) (λ _. fit_refused R s 0)
-        (λ e. by-test (Fit R n) unfit (refused R 2) (cond finite r (refused R 5)) (λ _. fit_refused R s 1)
-        (λ _. by-test (Fit R n) finite r (refused R 5) (λ _. f (K.numbers a) (M.numbers b) (near-at (K.order a) (M.order b) n refl e)) (λ _. fit_refused R s 4)))
+        by-test (Fit R n) high (Err OrderAbove20) (cond unfit (Err Shape) (cond finite r (Err InputNotFinite))) (λ _. tt)
+        (λ e. by-test (Fit R n) unfit (Err Shape) (cond finite r (Err InputNotFinite)) (λ _. tt)
+        (λ _. by-test (Fit R n) finite r (Err InputNotFinite) (λ _. f (K.numbers a) (M.numbers b) (near-at (K.order a) (M.order b) n refl e)) (λ _. tt)))
 
 -- ---- kinds of jet that lay their entries out as curves, and as surfaces
 -- a list of entries reads as they are; entries that agree are finite alike; entries that stand among finite ones are finite
@@ -109,8 +98,8 @@ pub record Kept {X Y : Type 0} (N : Entries X Y) : Type 0 where
   pub finite : (f g : ℕ → Y) (n : ℕ) → ((k : ℕ) → k < n → f k ≡ g k) → N.finite f n ≡ N.finite g n
   pub among : (f g : ℕ → Y) (n m : ℕ) → ((k : ℕ) → k < m → (p : ℕ) × ((p < n) × (f p ≡ g k))) → N.finite f n ≡ true → N.finite g m ≡ true
 
-module _ {X Y J A : Type 0} (N : Entries X Y) (k : Kept N) where
-  module _ (K : JetKind X (ℕ → Y) J A) (r : Read K) (array : (n : ℕ) (x : ℕ → Y) → K.numbers (K.made n x) ≡ N.at (N.flat (curve_array N.zero x n)))
+module _ {X Y J : Type 0} (N : Entries X Y) (k : Kept N) where
+  module _ (K : JetKind X (ℕ → Y) J) (r : Read K) (array : (n : ℕ) (x : ℕ → Y) → K.numbers (K.made n x) ≡ N.at (N.flat (curve_array N.zero x n)))
       (tests : (n : ℕ) (x : ℕ → Y) → K.finite x n ≡ N.finite x (suc n)) (lists : (n : ℕ) (x : ℕ → Y) → K.list x n ≡ N.flat (curve_entries x n)) where
     curve-reads : (n : ℕ) → n ≤ 20 → (x : ℕ → Y) (m : ℕ) → m ≤ n → K.numbers (K.made n x) m ≡ x m
     curve-reads n h x m l =
@@ -130,7 +119,7 @@ module _ {X Y J A : Type 0} (N : Entries X Y) (k : Kept N) where
         (λ x n z p. tests (n - 1) (derivative x)
         ∙ k.among x (derivative x) (suc n) (suc (n - 1)) (λ i l. (suc i, (omega (arith, z, l), refl))) (sym (tests n x) ∙ p))
 
-  module _ (K : JetKind X (ℕ → ℕ → Y) J A) (r : Read K)
+  module _ (K : JetKind X (ℕ → ℕ → Y) J) (r : Read K)
       (array : (n : ℕ) (x : ℕ → ℕ → Y) → K.numbers (K.made n x) ≡ (λ i j. N.at (N.flat (surface_array N.zero x n)) (index i j)))
       (tests : (n : ℕ) (x : ℕ → ℕ → Y) → K.finite x n ≡ N.finite (graded x) (triangle (suc n))) (lists : (n : ℕ) (x : ℕ → ℕ → Y) → K.list x n ≡ N.flat (surface_entries x n)) where
     surface-reads : (n : ℕ) → n ≤ 20 → (x : ℕ → ℕ → Y) (i j : ℕ) → i + j ≤ n → K.numbers (K.made n x) i j ≡ x i j
@@ -166,21 +155,21 @@ module _ {X Y J A : Type 0} (N : Entries X Y) (k : Kept N) where
 
 -- ---- functions over lists, of every kind of jet
 -- a formula on two jets, at the smaller order; and one at an order k that is asked
-module _ {X E J A F L B G H C : Type 0} (K : JetKind X E J A) (M : JetKind X F L B) (R : JetKind X G H C) (s : Made R) (m : ℕ) (a : List X) (n : ℕ) (b out : List X) where
+module _ {X E J F L G H : Type 0} (K : JetKind X E J) (M : JetKind X F L) (R : JetKind X G H) (s : Made R) (m : ℕ) (a : List X) (n : ℕ) (b out : List X) where
   pub formula-whole : Read K → Read M → (f : E → F → G) →
       over_two (input K) (input M) (output R) (by_formula K M R f) m a n b out ≡ over_two (input K) (input M) (whole R) (by_formula K M R f) m a n b out
   formula-whole rk rm f =
       two-whole K M R rk rm (by_formula K M R f) (fit-two K R s M (λ x y k. returned R k (f x y)) (λ x y k h. fit-returned R s k h (f x y))) m a n b out
 
   module _ (k : ℕ) (f : E → F → G) where
-    abbrev asked : J → L → C
-    asked x y = on_two_at K M (refused R) (λ p q. returned R k (f p q)) x y k
+    abbrev asked : J → L → Result H Refusal
+    asked x y = on_two_at K M (λ p q. returned R k (f p q)) x y k
 
     pub asked-whole : over_two_at (input K) (input M) (output R) k asked m a n b out ≡ over_two_at (input K) (input M) (whole R) k asked m a n b out
     asked-whole = at-whole K M R k asked (fit_at K R s M k (λ p q. returned R k (f p q)) (λ p q h. fit-returned R s k h (f p q))) m a n b out
 
 -- a derivative, of one order less
-pub less-whole : {X E J A : Type 0} (K : JetKind X E J A) → Read K → (d : E → E) → ((a : J) → Fit K (K.order a - 1) (differentiated K d a)) → (n : ℕ) (a out : List X) →
+pub less-whole : {X E J : Type 0} (K : JetKind X E J) → Read K → (d : E → E) → ((a : J) → Fit K (K.order a - 1) (differentiated K d a)) → (n : ℕ) (a out : List X) →
     over_one (input K) (output K) (n - 1) (differentiated K d) n a out ≡ over_one (input K) (whole K) (n - 1) (differentiated K d) n a out
 less-whole K r d f n a out =
     one-whole K K r (n - 1) (differentiated K d) n (λ x e. subst (λ (k : ℕ). Fit K (k - 1) (differentiated K d x)) e (f x)) a out

@@ -1,4 +1,5 @@
 pub mod Admission
 -- what is answered is written whole
+-- what is answered is written whole
 pub mod Delivered
 pub mod Answered

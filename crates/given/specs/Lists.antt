@@ -1,7 +1,9 @@
 -- An operation on jets as a function over lists: what is given is tested, the jets of the lists go to the operation, and its answer goes into
 -- `out`. Document 01's 1 and 2 are so tested over all that is given before the operation tests anything else. X is what a list holds: floats, or
 -- whole numbers. Assumes nothing.
-use Rattle.std.specs.Prelude.{cond, List, ℕ, min, eqb, length}
+use Rattle.std.specs.Prelude.{cond, List, ℕ, min, eqb, length, Result, Ok, Err, ⊤}
+use Rattle.refusals.specs.declared.Refusal.{Refusal}
+use Rattle.refusals.specs.Number.{number, number_of}
 use Rattle.calculus.specs.JetKind.{JetKind, jet_of_list, into_list}
 use Rattle.given.specs.Given.{first, order_given, list_given}
 
@@ -19,16 +21,21 @@ pub record Output (X A : Type 0) : Type 0 where
   pub test : ℕ → ℕ → ℕ
   pub deliver : A → List X → ℕ × List X
 
+-- an answer by document 01's number, beside what is lent as it is then
+abbrev pub numbered : {L : Type 0} → Result ⊤ Refusal × L → ℕ × L
+numbered r = (number_of r.0, r.1)
+
 -- ---- jets of a kind, and their answers
-module _ {X E J A : Type 0} (K : JetKind X E J A) where
+module _ {X E J : Type 0} (K : JetKind X E J) where
   abbrev pub input : Input X J
   input = record { test = list_given K.count; jet = jet_of_list K }
 
   -- as the jet's own function writes it into a list; a refusal leaves that list as it was, beside its number
-  unfoldable pub deliver : A → List X → ℕ × List X
-  deliver a out = admitted (K.refusal a) out (into_list K (K.jet a) out)
+  unfoldable pub deliver : Result J Refusal → List X → ℕ × List X
+  deliver (Ok a) out = numbered (into_list K a out)
+  deliver (Err c) out = (number c, out)
 
-  abbrev pub output : Output X A
+  abbrev pub output : Output X (Result J Refusal)
   output = record { test = list_given K.count; deliver = deliver }
 
 module _ {X J K A : Type 0} (I : Input X J) (I' : Input X K) (O : Output X A) where
@@ -49,3 +56,7 @@ unfoldable pub over_one : {X J A : Type 0} → Input X J → Output X A → ℕ 
 over_one I O k op n a out =
     admitted (first (I.test n (length a)) (O.test k (length out))) out
     (O.deliver (op (I.jet n a)) out)
+
+-- an answer alone, to a list that is tested first
+abbrev pub alone : {X A : Type 0} → Output X A → A → List X → ℕ × List X
+alone O a out = admitted (O.test 0 (length out)) out (O.deliver a out)

@@ -7,7 +7,6 @@ pub mod Assembled
 pub mod Fields
 pub mod Units
 pub mod Cases
-pub mod Patterns
 pub mod Middle
 pub mod Counted
 pub mod Laws

@@ -1,16 +1,14 @@
 -- The digit-by-digit recurrence of `digits`: what holds before each turn, and that a turn keeps it. Assumes nothing.
 use mathlib.Core.Path.{◌≡◌, refl, sym, ap, ◌∙◌, subst}
 use Prim.Native.Nat.{ℕ, ◌+◌, ◌-◌, ◌*◌, ◌/◌, ◌%◌, ◌^◌, ◌≤◌, ◌<◌}
-use native.Mathlib.Nat.{le_antisymm, lt_of_lt_of_le, mul_assoc, mul-mul-mul_comm, pow-suc}
+use native.Mathlib.Nat.{lt_of_lt_of_le, mul_assoc, mul-mul-mul_comm, pow-suc}
 use native.Mathlib.Numerals.{add-one, add-one-le}
 use native.Mathlib.Omega.{arith}
-use lib.Dec.{lit<}
 use lib.Pow.{pow_mono}
 use Rattle.ieee.proofs.Isqrt.{square-more}
 
 -- after i turns over w: the digits of w that were taken are root * root + rest, and those that are left stand at the top of `left`
 pub record State (w root rest left i : ℕ) : Type 0 where
-  pub turns : i ≤ 53
   pub word : left < 2 ^ 64
   pub digits : root < 2 ^ i
   pub small : root < 2 ^ 53
@@ -53,7 +51,6 @@ module _ (w r s l i : ℕ) (h : State w r s l i) (more : i < 53) where
   -- the next digit of the root is 0
   pub stays : s * 4 + l / 2 ^ 62 ≤ r * 2 * 2 → State w (r * 2) (s * 4 + l / 2 ^ 62) (l * 2 ^ 2 % 2 ^ 64) (i + 1)
   stays k = record {
-    turns = omega arith;
     word = omega arith;
     digits = bound;
     small = lt_of_lt_of_le bound (pow_mono (add-one-le more));
@@ -66,22 +63,12 @@ module _ (w r s l i : ℕ) (h : State w r s l i) (more : i < 53) where
   takes k =
       let before = h.below in
       record {
-        turns = omega arith;
         word = omega arith;
         digits = bound-odd;
         small = lt_of_lt_of_le bound-odd (pow_mono (add-one-le more));
         below = omega arith;
         value = omega (arith, square-more (r * 2), kept w r s l i (r * r) refl h.value);
       }
-
-pub starts : (w : ℕ) → w < 2 ^ 64 → State w 0 0 w 0
-starts w h = record { turns = omega arith; word = h; digits = lit< tt; small = lit< tt; below = omega arith; value = omega arith }
-
-pub ends : (w r s l i : ℕ) → State w r s l i → 53 ≤ i → r * r + s ≡ w * 2 ^ 42
-ends w r s l i h k =
-    let v : (r * r + s) * 2 ^ 64 + l ≡ w * 4 ^ 53 = subst (λ (x : ℕ). (r * r + s) * 2 ^ 64 + l ≡ w * 4 ^ x) (le_antisymm h.turns k) h.value in
-    let b = h.word in
-    omega arith
 
 pub renamed : {w r s l i r' s' : ℕ} → r' ≡ r → s' ≡ s → State w r s l i → State w r' s' l i
 renamed {w} {r} {s} {l} {i} {r'} e f h = subst (λ (y : ℕ). State w r' y l i) (sym f) (subst (λ (y : ℕ). State w y s l i) (sym e) h)

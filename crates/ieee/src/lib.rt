@@ -8,34 +8,30 @@ ghost use Rattle.std.specs.Float.Ieee.{of_bits, to_bits};
 ghost use Rattle.std.specs.Float.Ieee.Scale.{finite};
 ghost use Rattle.ieee.specs.SquareRoot.{square_root};
 
+use std::num::{f64_from_bits_with_nan, f64_to_bits_with_nan};
+
 mod root;
 
-// Neither a NaN nor an infinity: only such a number less itself is a number again.
+// Neither a NaN nor an infinity.
+#[tactic(auto, using(crate::proofs::Finite::same_test))]
 pub fn is_finite(x: f64) -> bool
     ensures { result ≡ finite x }
 {
-    let d = x - x;
-    d == d
+    x.is_finite()
 }
 
 // The float of a bit pattern, of any NaN's too.
 pub fn from_bits(b: u64) -> f64
     ensures { result ≡ of_bits binary64 b }
 {
-    if 0x7ff0_0000_0000_0000 < b % 0x8000_0000_0000_0000 {
-        return 0.0 / 0.0;
-    }
-    f64::from_bits(b)
+    f64_from_bits_with_nan(b)
 }
 
 // The bit pattern of a float: 7FF8000000000000 for a NaN.
 pub fn to_bits(x: f64) -> u64
     ensures { result ≡ to_bits binary64 x }
 {
-    if x != x {
-        return 0x7ff8_0000_0000_0000;
-    }
-    f64::to_bits(x)
+    f64_to_bits_with_nan(x)
 }
 
 // The root rounded to nearest, ties to even; NaN of a negative number.

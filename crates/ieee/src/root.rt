@@ -17,8 +17,7 @@ pub fn digits(w: u64) -> WholeRoot
     let mut root = 0u64;
     let mut rest = 0u64;
     let mut left = w;
-    let mut i = 0u64;
-    while i < 53 {
+    for _turn in 0..53u64 {
         rest = rest * 4 + (left >> 62);
         left = left << 2;
         root = root * 2;
@@ -26,7 +25,6 @@ pub fn digits(w: u64) -> WholeRoot
             rest = rest - (root * 2 + 1);
             root = root + 1;
         }
-        i += 1;
     }
     WholeRoot { root, rest }
 }

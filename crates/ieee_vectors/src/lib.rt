@@ -2,12 +2,11 @@
 // through. The crate `vectors` has the operations that refuse; a quotient or an inverse that does not is called so.
 #![tactic(auto)]
 
-ghost use Rattle.std.specs.Prelude.{◌≡◌};
+ghost use Rattle.std.specs.Prelude.{◌≡◌, Bool};
+ghost use Rattle.std.specs.Float.Ieee.Scale.{finite};
 ghost use Rattle.ieee_vectors.specs.Vectors.{sum, difference, negative, multiple, quotient, dot, dot2, cross, magnitude};
 ghost use Rattle.ieee_vectors.specs.Matrices.{determinant2, inverse2, negative2, image2, transposed, determinant3, inverse3, image3, sum3, multiple3};
 ghost use Rattle.ieee_vectors.specs.Finite.{finite_vector2, finite_vector, finite_matrix2, finite_matrix3};
-
-use booleans::both;
 
 #[derive(Clone, Copy)]
 pub struct Vector2 {
@@ -39,13 +38,58 @@ pub struct Matrix3 {
     pub c2: Vector3,
 }
 
-impl Vector2 {
-    pub fn is_finite(self) -> bool
-        ensures { result ≡ finite_vector2 self }
-    {
-        both(ieee::is_finite(self.x), ieee::is_finite(self.y))
-    }
+// A float, or what is made of floats, that can be tested: whether all of it is finite.
+pub trait Finite: Copy {
+    ghost finite: { Self → Bool };
 
+    fn is_finite(self) -> bool
+        ensures { result ≡ finite self };
+}
+
+impl Finite for f64 {
+    ghost finite = { finite };
+
+    fn is_finite(self) -> bool {
+        ieee::is_finite(self)
+    }
+}
+
+impl Finite for Vector2 {
+    ghost finite = { finite_vector2 };
+
+    fn is_finite(self) -> bool {
+        ieee::is_finite(self.x) && ieee::is_finite(self.y)
+    }
+}
+
+impl Finite for Vector3 {
+    ghost finite = { finite_vector };
+
+    fn is_finite(self) -> bool {
+        ieee::is_finite(self.x) && ieee::is_finite(self.y) && ieee::is_finite(self.z)
+    }
+}
+
+impl Finite for Matrix2 {
+    ghost finite = { finite_matrix2 };
+
+    fn is_finite(self) -> bool {
+        ieee::is_finite(self.a)
+            && ieee::is_finite(self.b)
+            && ieee::is_finite(self.c)
+            && ieee::is_finite(self.d)
+    }
+}
+
+impl Finite for Matrix3 {
+    ghost finite = { finite_matrix3 };
+
+    fn is_finite(self) -> bool {
+        self.c0.is_finite() && self.c1.is_finite() && self.c2.is_finite()
+    }
+}
+
+impl Vector2 {
     pub fn dot(self, b: Vector2) -> f64
         ensures { result ≡ dot2 self b }
     {
@@ -54,13 +98,6 @@ impl Vector2 {
 }
 
 impl Vector3 {
-    pub fn is_finite(self) -> bool
-        ensures { result ≡ finite_vector self }
-    {
-        let xy = both(ieee::is_finite(self.x), ieee::is_finite(self.y));
-        both(xy, ieee::is_finite(self.z))
-    }
-
     pub fn add(self, b: Vector3) -> Vector3
         ensures { result ≡ sum self b }
     {
@@ -135,14 +172,6 @@ impl Vector3 {
 }
 
 impl Matrix2 {
-    pub fn is_finite(self) -> bool
-        ensures { result ≡ finite_matrix2 self }
-    {
-        let ab = both(ieee::is_finite(self.a), ieee::is_finite(self.b));
-        let abc = both(ab, ieee::is_finite(self.c));
-        both(abc, ieee::is_finite(self.d))
-    }
-
     pub fn determinant(self) -> f64
         ensures { result ≡ determinant2 self }
     {
@@ -183,16 +212,6 @@ impl Matrix2 {
 }
 
 impl Matrix3 {
-    pub fn is_finite(self) -> bool
-        ensures { result ≡ finite_matrix3 self }
-    {
-        let a = self.c0;
-        let b = self.c1;
-        let c = self.c2;
-        let ab = both(a.is_finite(), b.is_finite());
-        both(ab, c.is_finite())
-    }
-
     pub fn transpose(self) -> Matrix3
         ensures { result ≡ transposed self }
     {

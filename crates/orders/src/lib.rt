@@ -1,39 +1,41 @@
-// Tests of the orders that a call is given, on numbers of any size.
+// The orders that a call is given, numbers of any size: 1 where one is above 20, and 2 where one that is asked exceeds a jet's.
 #![tactic(auto)]
 
-ghost use Rattle.std.specs.Prelude.{◌≡◌, ◌||◌, ◌+◌, ltb};
-ghost use Rattle.calculus.specs.JetKind.{above20 as above20_of};
+ghost use Rattle.std.specs.Prelude.{◌≡◌, cond, ◌||◌, ◌+◌, min, ltb, Ok, Err};
+ghost use Rattle.refusals.specs.declared.Refusal.TheVariants.{OrderAbove20, Shape};
+ghost use Rattle.calculus.specs.JetKind.{above20};
 
-use booleans::either;
+use refusals::Refusal;
 
-// Whether one of two orders is above 20, or one that is asked.
-pub fn above_20(m: usize, n: usize) -> bool
-    ensures { result ≡ above20_of m n }
+// The order at which two jets meet, the smaller.
+pub fn common(m: usize, n: usize) -> Result<usize, Refusal>
+    ensures { result ≡ cond (above20 m n) (Err OrderAbove20) (Ok (min m n)) }
 {
-    either(20 < m, 20 < n)
-}
-
-pub fn above_20_at(m: usize, n: usize, k: usize) -> bool
-    ensures { result ≡ (above20_of m n || ltb 20 k) }
-{
-    either(above_20(m, n), 20 < k)
-}
-
-// Whether m + n is above 20, or one of two orders.
-fn above_20_sum(m: usize, n: usize) -> bool
-    ensures { result ≡ ltb 20 (m + n) }
-{
-    if 20 < m {
-        return true;
+    if 20 < m || 20 < n {
+        return Err(Refusal::OrderAbove20);
     }
-    if 20 < n {
-        return true;
-    }
-    20 < m + n
+    Ok(m.min(n))
 }
 
-pub fn above_20_sum_at(k: usize, l: usize, m: usize, n: usize) -> bool
-    ensures { result ≡ (above20_of k l || ltb 20 (m + n)) }
+// The order k that is asked of two jets.
+pub fn asked(m: usize, n: usize, k: usize) -> Result<usize, Refusal>
+    ensures { result ≡ cond (above20 m n || ltb 20 k) (Err OrderAbove20) (cond (ltb (min m n) k) (Err Shape) (Ok k)) }
 {
-    either(above_20(k, l), above_20_sum(m, n))
+    if 20 < m || 20 < n || 20 < k {
+        return Err(Refusal::OrderAbove20);
+    }
+    if m.min(n) < k {
+        return Err(Refusal::Shape);
+    }
+    Ok(k)
+}
+
+// The total order of the entry [m][n], whose sum may exceed what a number holds.
+pub fn total(m: usize, n: usize) -> Result<usize, Refusal>
+    ensures { result ≡ cond (ltb 20 (m + n)) (Err OrderAbove20) (Ok (m + n)) }
+{
+    if 20 < m || 20 < n || 20 < m + n {
+        return Err(Refusal::OrderAbove20);
+    }
+    Ok(m + n)
 }

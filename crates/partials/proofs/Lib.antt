@@ -1,3 +1,1 @@
 pub mod Turning
-pub mod Parameters
-pub mod Decisions

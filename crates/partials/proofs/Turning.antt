@@ -1,10 +1,12 @@
 -- The formulas of axis and angle read of the entries before theirs only those that are formed, and of jets only the orders up to theirs.
 -- Assumes nothing.
-use mathlib.Core.Path.{◌≡◌, refl, ap, ap₂, ◌∙◌}
+use mathlib.Core.Path.{◌≡◌, refl, sym, ap, ap₂, ◌∙◌}
+use mathlib.Core.Bool.{Bool, true, false, cond}
+use Rattle.std.specs.Prelude.{Ok, Err}
+use Rattle.refusals.specs.declared.Refusal.TheVariants.{DivisionByZero}
 use mathlib.Core.List.{List}
-use Prim.Native.Nat.{ℕ, zero, suc, ◌+◌, ◌≤◌, ◌<◌, zero-le, min}
+use Prim.Native.Nat.{ℕ, zero, suc, ◌≤◌, ◌<◌, zero-le, min}
 use native.Mathlib.Nat.{le_refl, not-suc-le-zero}
-use native.Mathlib.Numerals.{add-one}
 use native.Mathlib.Omega.{arith}
 use lib.Ieee.{Float, nan}
 use Rattle.ieee_vectors.specs.declared.Vector3.{Vector3}
@@ -12,7 +14,6 @@ use Rattle.ieee_vectors.specs.Vectors.{minus, times, over, quotient, dot, cross,
 use Rattle.calculus.specs.Kind.{regular}
 use Rattle.calculus.specs.Rising.{before}
 use Rattle.calculus.specs.Array.{curve_array}
-use Rattle.calculus.specs.Curve.{product}
 use Rattle.calculus.proofs.UpTo.{CurvesAgree, product_by-upto, product-upto}
 use Rattle.calculus.proofs.LoopFilling.{curve-earlier}
 use Rattle.ieee.specs.SquareRoot.{square_root}
@@ -25,7 +26,8 @@ use Rattle.vector_formulas.proofs.Vectors.{vectors-agree, vectors-upto}
 use Rattle.calculus.proofs.Quotients.{all_alike}
 use Rattle.calculus.proofs.UpToQuotients.{rational-upto, norm-upto}
 use Rattle.rodrigues.specs.Rotation.{two}
-use Rattle.partials.specs.AxisAngle.{crosses, lengths, axes, dots, rate_entry, rates, turn_entry, turns, angles, cosine, division_by_zero}
+use Rattle.partials.specs.AxisAngle.{arm, crosses, lengths, axes, dots, rate_entry, rates, turn_entry, turns, angles, cosine, division_by_zero, some_axis_angle, axis_angle}
+use Rattle.partials.specs.declared.AxisAngle.{AxisAngle}
 use Rattle.calculus.proofs.Same.{filled-same}
 use Rattle.calculus.proofs.LoopCut.{uncut}
 
@@ -33,10 +35,6 @@ use Rattle.calculus.proofs.LoopCut.{uncut}
 rate-reads : (r p q : ℕ → Float) (m : ℕ) → CurvesAgree m p q → rate_entry r p m ≡ rate_entry r q m
 rate-reads r p q zero h = refl
 rate-reads r p q (suc m) h = ap (λ (x : Float). over (minus (r (suc (suc m))) x) (r 0)) (product-upto real (suc m) (λ i l. refl) h (suc m) (le_refl (suc m)))
-
-pub rate-later : (r q : ℕ → Float) (m : ℕ) → ¬ (m ≡ 0) → over (minus (r (m + 1)) (product real r q m)) (r 0) ≡ rate_entry r q m
-rate-later r q zero h = absurd (h refl)
-rate-later r q (suc m) h = ap (λ (k : ℕ). over (minus (r k) (product real r q (suc m))) (r 0)) (add-one (suc m))
 
 pub rate-formed : (r : ℕ → Float) {q : List Float} {m : ℕ} → CurveFilled (rates r) m q → m ≤ 20 → rates r m ≡ rate_entry r (curve_numbers q) m
 rate-formed r {q} {m} s l =
@@ -51,12 +49,6 @@ module _ (rate rate' dot dot' length length' : ℕ → Float) (n : ℕ) (a : Cur
 
   turns-agree : CurvesAgree n (turns rate dot length) (turns rate' dot' length')
   turns-agree = all_alike Eq positive_zero positive_zero refl (turn_entry rate dot length) (turn_entry rate' dot' length') n turn-upto
-
-pub turn_is : (rate dot length q : ℕ → Float) (m : ℕ) {s t : Float} → s ≡ product real q length m → t ≡ product real rate dot m →
-    over (minus (minus (times two t) (dot (m + 1))) s) (length 0) ≡ turn_entry rate dot length q m
-turn_is rate dot length q m e f =
-    let g = add-one m in
-    λ i. over (minus (minus (times two (f i)) (dot (g i))) (e i)) (length 0)
 
 pub turn-formed : (rate dot length : ℕ → Float) {q : List Float} {m : ℕ} → CurveFilled (turns rate dot length) m q → m ≤ 20 →
     turns rate dot length m ≡ turn_entry rate dot length (curve_numbers q) m
@@ -75,10 +67,20 @@ pub angles-upto : (angle : Float) (n : ℕ) (f g : ℕ → Float) → ((m : ℕ)
 angles-upto angle n f g h zero l = refl
 angles-upto angle n f g h (suc m) l = h m l
 
+abbrev pub axis-and-angle : (axis angle : List Float) → Float → AxisAngle
+axis-and-angle axis angle cosine = record { axis = axis; angle = angle; cosine = cosine }
+
 -- ---- arrays that hold the arms p and q, and what is worked out from them in turn: the crosses, their lengths, the axis and the angle
-module _ (p q : ℕ → Vector3) (n : ℕ) (h : n ≤ 20) {pa qa xa la : List Float} (ep : pa ≡ vector_array p n) (eq : qa ≡ vector_array q n)
+module _ (center contact0 contact1 : List Float) (r : ℕ → Float) (angle : Float) (n : ℕ) (h : n ≤ 20) {pa qa xa la : List Float}
+    (ep : pa ≡ vector_array (arm contact0 center) n) (eq : qa ≡ vector_array (arm contact1 center) n)
     (ex : xa ≡ vector_array (crosses (vector_numbers pa) (vector_numbers qa)) (min n 20))
     (el : la ≡ curve_array positive_zero (vector_norm (vector_numbers xa)) (min n 20)) where
+  abbrev p : ℕ → Vector3
+  p = arm contact0 center
+
+  abbrev q : ℕ → Vector3
+  q = arm contact1 center
+
   first-arm : CurvesAgree n (vector_numbers pa) p
   first-arm = vectors-agree p n h ep
 
@@ -95,23 +97,38 @@ module _ (p q : ℕ → Vector3) (n : ℕ) (h : n ≤ 20) {pa qa xa la : List Fl
       numbers-agree (vector_norm (vector_numbers xa)) n h (el ∙ uncut (curve_array positive_zero (vector_norm (vector_numbers xa))) h) i l
       ∙ norm-upto real square_root dot n crosses-held i l
 
-  pub division-is : (r : Float) → division_by_zero (curve_numbers la 0) r ≡ division_by_zero (lengths p q 0) r
-  division-is r = ap (λ (x : Float). division_by_zero x r) (lengths-held 0 zero-le)
-
-  pub axis-is : {a : List Float} → a ≡ vector_array (rational vectors quotient (vector_numbers xa) (curve_numbers la)) (min n 20) → a ≡ vector_array (axes p q) n
+  axis-is : {a : List Float} → a ≡ vector_array (rational vectors quotient (vector_numbers xa) (curve_numbers la)) (min n 20) → a ≡ vector_array (axes p q) n
   axis-is e =
       e ∙ uncut (vector_array (rational vectors quotient (vector_numbers xa) (curve_numbers la))) h
       ∙ vectors-upto (rational vectors quotient (vector_numbers xa) (curve_numbers la)) (axes p q) n (rational-upto vectors quotient n crosses-held lengths-held)
 
-  pub angle-is : (angle : Float) (rate : ℕ → Float) {a : List Float} →
+  angle-is : (rate : ℕ → Float) {a : List Float} →
       a ≡ curve_array positive_zero (angles angle (turns rate (dots (vector_numbers pa) (vector_numbers qa)) (curve_numbers la))) n →
       a ≡ curve_array positive_zero (angles angle (turns rate (dots p q) (lengths p q))) n
-  angle-is angle rate e =
+  angle-is rate e =
       let f = turns rate (dots (vector_numbers pa) (vector_numbers qa)) (curve_numbers la) in
       let g = turns rate (dots p q) (lengths p q) in
       let t = turns-upto rate rate (dots (vector_numbers pa) (vector_numbers qa)) (dots p q) (curve_numbers la) (lengths p q) n (λ i l. refl)
       (product_by-upto (regular real) n dot first-arm second-arm) lengths-held in
       e ∙ filled-same 21 (suc n) positive_zero (angles angle f) (angles angle g) (λ k l. angles-upto angle n f g t k (omega arith))
 
-  pub cosine-is : (r : Float) → cosine (vector_numbers pa 0) (vector_numbers qa 0) r ≡ cosine (p 0) (q 0) r
-  cosine-is r = ap₂ (λ (x y : Vector3). cosine x y r) (first-arm 0 zero-le) (second-arm 0 zero-le)
+  -- what the test picks
+  picked : {b : Bool} → division_by_zero (curve_numbers la 0) (r 0) ≡ b →
+      cond b (Err DivisionByZero) (Ok (some_axis_angle p q r angle n)) ≡ axis_angle center contact0 contact1 r angle n
+  picked e =
+      let division = ap (λ (x : Float). division_by_zero x (r 0)) (lengths-held 0 zero-le) in
+      ap (λ (b : Bool). cond b (Err DivisionByZero) (Ok (some_axis_angle p q r angle n))) (sym e ∙ division)
+
+  pub refused : division_by_zero (curve_numbers la 0) (r 0) ≡ true → Err DivisionByZero ≡ axis_angle center contact0 contact1 r angle n
+  refused e = picked e
+
+  pub answered : {x a : List Float} {k : Float} → division_by_zero (curve_numbers la 0) (r 0) ≡ false →
+      x ≡ vector_array (rational vectors quotient (vector_numbers xa) (curve_numbers la)) (min n 20) →
+      a ≡ curve_array positive_zero (angles angle (turns (rates r) (dots (vector_numbers pa) (vector_numbers qa)) (curve_numbers la))) n →
+      k ≡ cosine (vector_numbers pa 0) (vector_numbers qa 0) (r 0) →
+      Ok (axis-and-angle x a k) ≡ axis_angle center contact0 contact1 r angle n
+  answered e x a k =
+      let axis = axis-is x in
+      let turned = angle-is (rates r) a in
+      let cos = k ∙ ap₂ (λ (y z : Vector3). cosine y z (r 0)) (first-arm 0 zero-le) (second-arm 0 zero-le) in
+      (λ i. Ok (axis-and-angle (axis i) (turned i) (cos i))) ∙ picked e

@@ -1,7 +1,7 @@
 -- How the contact circle's axis and angle move along the edge. The arms p and q lead from the centre to the contact points, r is the radius:
 -- the axis is p × q over its length, and the angle θ has p · q = r² cos θ and |p × q| = r² sin θ. Each operation is rounded in the source's
 -- order (`cross_ders`, `axis_ders`, `angle_ders`); an entry that is not yet formed is read as zero. Assumes nothing.
-use Rattle.std.specs.Prelude.{ℕ, zero, suc, Bool, cond, ◌||◌, List, replicate, Float}
+use Rattle.std.specs.Prelude.{ℕ, zero, suc, Bool, cond, ◌||◌, List, Float, Result, Ok, Err}
 use Rattle.std.specs.Float.Ieee.{lt}
 use Rattle.ieee_vectors.specs.declared.Vector3.{Vector3}
 use Rattle.ieee_vectors.specs.Vectors.{minus, times, over, quotient, dot, cross, positive_zero}
@@ -13,6 +13,8 @@ use Rattle.formulas.specs.Real.{real, is_zero}
 use Rattle.calculus.specs.Rational.{rational}
 use Rattle.vector_formulas.specs.Vector.{vectors, vector_numbers, vector_array, vector_norm}
 use Rattle.rodrigues.specs.Rotation.{one, two}
+use Rattle.refusals.specs.declared.Refusal.{Refusal}
+use Rattle.refusals.specs.declared.Refusal.TheVariants.{DivisionByZero}
 use Rattle.partials.specs.declared.AxisAngle.{AxisAngle}
 
 -- ---- the axis
@@ -58,25 +60,21 @@ clamped x = cond (lt x one) x one
 abbrev pub cosine : Vector3 → Vector3 → Float → Float
 cosine p q r = clamped (over (dot p q) (times r r))
 
--- ---- both up to the order n, from the arrays of the centre and the contact points; or zeros beside a refusal's number
+-- ---- both up to the order n, from the arrays of the centre and the contact points; or refused
 
 -- a division by zero is due: by the length of p × q, by the radius, or by its square, which may underflow
 abbrev pub division_by_zero : (length r : Float) → Bool
 division_by_zero length r = is_zero length || is_zero r || is_zero (times r r)
 
-abbrev pub no_axis_angle : ℕ → AxisAngle
-no_axis_angle c = record { refusal = c; axis = replicate 63 positive_zero; angle = replicate 21 positive_zero; cosine = positive_zero }
-
 abbrev pub some_axis_angle : (p q : ℕ → Vector3) (r : ℕ → Float) → Float → ℕ → AxisAngle
 some_axis_angle p q r angle n = record {
-  refusal = 0;
   axis = vector_array (axes p q) n;
   angle = curve_array positive_zero (angles angle (turns (rates r) (dots p q) (lengths p q))) n;
   cosine = cosine (p 0) (q 0) (r 0);
 }
 
-abbrev pub axis_angle : (center contact0 contact1 : List Float) (r : ℕ → Float) → Float → ℕ → AxisAngle
+abbrev pub axis_angle : (center contact0 contact1 : List Float) (r : ℕ → Float) → Float → ℕ → Result AxisAngle Refusal
 axis_angle center contact0 contact1 r angle n =
     let p = arm contact0 center in
     let q = arm contact1 center in
-    cond (division_by_zero (lengths p q 0) (r 0)) (no_axis_angle 7) (some_axis_angle p q r angle n)
+    cond (division_by_zero (lengths p q 0) (r 0)) (Err DivisionByZero) (Ok (some_axis_angle p q r angle n))

@@ -6,8 +6,6 @@ ghost use Rattle.formulas.specs.Numbers.{curve_numbers};
 ghost use Rattle.vector_formulas.specs.Vector.{vector_numbers, vector_array};
 ghost use Rattle.partials.specs.AxisAngle.{arm as arm_of, dots as dots_of, rate_entry, rates as rates_of, turn_entry, turns as turns_of, angles as angles_from, clamped as clamped_of, cosine as cosine_of, division_by_zero};
 
-use booleans::either;
-
 // From the centre to a contact point, up to the order n.
 pub fn arm(contact: &[f64; 63], center: &[f64; 63], n: usize) -> [f64; 63]
     requires { n ≤ 20 }
@@ -33,11 +31,9 @@ fn rates(r: &[f64; 21], n: usize) -> [f64; 21]
     ensures { result ≡ curve_array positive_zero (rates_of (curve_numbers r.now)) n }
 {
     let mut q = [0.0f64; 21];
-    let mut m = 0;
-    while m <= n {
+    for m in 0..n + 1 {
         let e = rate(r, &q, m);
         q[m] = e;
-        m += 1;
     }
     q
 }
@@ -57,26 +53,22 @@ fn turns(rate: &[f64; 21], dot: &[f64; 21], length: &[f64; 21], n: usize) -> [f6
     ensures { result ≡ filled 21 positive_zero (turns_of (curve_numbers rate.now) (curve_numbers dot.now) (curve_numbers length.now)) n }
 {
     let mut q = [0.0f64; 21];
-    let mut m = 0;
-    while m < n {
+    for m in 0..n {
         let e = turn(rate, dot, length, &q, m);
         q[m] = e;
-        m += 1;
     }
     q
 }
 
-// The angle, and after it the entries of its derivative.
+// The angle, and after it the entries of its derivative: the loop is as short as a copy between two ranges, and its invariant is that of the loops above.
 fn with_angle(angle: f64, turn: &[f64; 21], n: usize) -> [f64; 21]
     requires { n ≤ 20 }
     ensures { result ≡ curve_array positive_zero (angles_from angle (curve_numbers turn.now)) n }
 {
     let mut r = [0.0f64; 21];
     r[0] = angle;
-    let mut m = 0;
-    while m < n {
+    for m in 0..n {
         r[m + 1] = turn[m];
-        m += 1;
     }
     r
 }
@@ -118,6 +110,5 @@ pub fn cosine(p: &[f64; 63], q: &[f64; 63], r: f64) -> f64
 pub fn division_by_zero(length: f64, r: f64) -> bool
     ensures { result ≡ division_by_zero length r }
 {
-    let first = either(length == 0.0, r == 0.0);
-    either(first, r * r == 0.0)
+    length == 0.0 || r == 0.0 || r * r == 0.0
 }

@@ -2,13 +2,14 @@
 // angle; and which partials are served. NaN and infinities pass through.
 #![tactic(auto)]
 
-ghost use Rattle.std.specs.Prelude.{◌≡◌, min};
+ghost use Rattle.std.specs.Prelude.{◌≡◌, ◌≤◌, min};
 ghost use Rattle.formulas.specs.Numbers.{curve_numbers};
 ghost use Rattle.partials.specs.Partials.{by_v, by_u_v, by_v_v};
-ghost use Rattle.partials.specs.AxisAngle.{no_axis_angle, axis_angle};
+ghost use Rattle.partials.specs.AxisAngle.{axis_angle};
 ghost use Rattle.partials.specs.Pairs.{decided, order_of};
 
 use ieee_vectors::Vector3;
+use refusals::Refusal;
 
 mod angles;
 mod rotations;
@@ -28,16 +29,15 @@ pub enum Decision {
     Unserved,
 }
 
-// How the circle's axis and angle move along the edge, and the clamped cosine of the angle, beside 0; or zeros beside a refusal's number.
+// How the circle's axis and angle move along the edge, and the clamped cosine of the angle.
 #[derive(Clone, Copy)]
 pub struct AxisAngle {
-    pub refusal: u8,
     pub axis: [f64; 63],
     pub angle: [f64; 21],
     pub cosine: f64,
 }
 
-// m times by u and n times by v.
+// m times by u and n times by v. The match with a range for m is document 01's form.
 pub fn decide(m: usize, n: usize) -> Decision
     ensures { result ≡ decided m n }
 {
@@ -61,7 +61,8 @@ pub fn decide(m: usize, n: usize) -> Decision
 
 // How often a partial is derived along the edge.
 pub fn order(p: EdgePartial) -> usize
-    ensures { result ≡ order_of p }
+    ensures value { result ≡ order_of p }
+    ensures small { result ≤ 2 }
 {
     match p {
         EdgePartial::V => 1,
@@ -143,21 +144,8 @@ pub fn by_vv(
     second.add(last)
 }
 
-fn no_axis_angle(c: u8) -> AxisAngle
-    ensures { result ≡ no_axis_angle c }
-{
-    let a = [0.0f64; 63];
-    let b = [0.0f64; 21];
-    AxisAngle {
-        refusal: c,
-        axis: a,
-        angle: b,
-        cosine: 0.0,
-    }
-}
-
-// Axis and angle up to the order n, at most 19, from the centre, the contact points, the radius r and the angle itself; 7 where a division by zero
-// is due.
+// Axis and angle up to the order n, at most 19, from the centre, the contact points, the radius r and the angle itself; refused where a division by
+// zero is due.
 pub fn axis_angle(
     center: &[f64; 63],
     contact0: &[f64; 63],
@@ -165,26 +153,23 @@ pub fn axis_angle(
     r: &[f64; 21],
     angle: f64,
     n: usize,
-) -> AxisAngle
+) -> Result<AxisAngle, Refusal>
     ensures { result ≡ axis_angle center.now contact0.now contact1.now (curve_numbers r.now) angle (min n 19) }
 {
-    let n = calculus::smaller(n, 19);
+    let n = n.min(19);
     let p = angles::arm(contact0, center, n);
     let q = angles::arm(contact1, center, n);
     let cross = vector_formulas::crosses(&p, &q, n);
     let length = vector_formulas::norm(&cross, n);
-    let l0 = length[0];
-    let r0 = r[0];
-    if angles::division_by_zero(l0, r0) {
-        return no_axis_angle(7);
+    if angles::division_by_zero(length[0], r[0]) {
+        return Err(Refusal::DivisionByZero);
     }
     let axis = vector_formulas::rational(&cross, &length, n);
-    let turning = angles::angles(&p, &q, &length, r, angle, n);
-    let cos = angles::cosine(&p, &q, r0);
-    AxisAngle {
-        refusal: 0,
+    let angle = angles::angles(&p, &q, &length, r, angle, n);
+    let cosine = angles::cosine(&p, &q, r[0]);
+    Ok(AxisAngle {
         axis,
-        angle: turning,
-        cosine: cos,
-    }
+        angle,
+        cosine,
+    })
 }

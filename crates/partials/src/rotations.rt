@@ -73,42 +73,38 @@ fn two_term(axis: Vector3, s: f64, c: f64, a: Vector3, t: f64, i: usize, j: usiz
 }
 
 // All four added to zero.
+#[tactic(auto, unfolding(calculus::specs::InTurn::in_turn))]
 pub fn one_terms(axis: Vector3, s: f64, c: f64, a: Vector3, t: f64) -> Matrix3
     ensures { result ≡ one_terms axis s c a t }
 {
     let mut sum = rodrigues::zero();
-    let mut i = 0;
-    while i < 4 {
+    for i in 0..4 {
         let e = one_term(axis, s, c, a, t, i);
         sum = sum.add(e);
-        i += 1;
     }
     sum
 }
 
 // What the pairs of i and each parameter add; then all sixteen, added to zero.
+#[tactic(auto, unfolding(calculus::specs::InTurn::in_turn))]
 fn row(from: Matrix3, axis: Vector3, s: f64, c: f64, a: Vector3, t: f64, i: usize) -> Matrix3
     ensures { result ≡ in_turn sum3 from (two_term axis s c a t i) 4 }
 {
     let mut sum = from;
-    let mut j = 0;
-    while j < 4 {
+    for j in 0..4 {
         let e = two_term(axis, s, c, a, t, i, j);
         sum = sum.add(e);
-        j += 1;
     }
     sum
 }
 
+#[tactic(auto, unfolding(calculus::specs::InTurn::in_rows))]
 pub fn two_terms(axis: Vector3, s: f64, c: f64, a: Vector3, t: f64) -> Matrix3
     ensures { result ≡ two_terms axis s c a t }
 {
     let mut sum = rodrigues::zero();
-    let mut i = 0;
-    while i < 4 {
-        let e = row(sum, axis, s, c, a, t, i);
-        sum = e;
-        i += 1;
+    for i in 0..4 {
+        sum = row(sum, axis, s, c, a, t, i);
     }
     sum
 }

@@ -1,12 +1,8 @@
 -- What `factorial` answers is the product of the numbers from 1 to its own, and 1 at 0. Assumes nothing.
-use mathlib.Core.Path.{◌≡◌, refl, sym, ap, ◌∙◌}
-use mathlib.Core.List.{List, [], ◌∷◌, ◌++◌}
-use Prim.Native.Nat.{ℕ, zero, suc, ◌*◌, ◌≤◌}
-use native.Mathlib.Omega.{arith}
-use borrow.Author.Tests.{le-ltb}
+use Rattle.std.proofs.Common.{◌≡◌, refl, sym, ap, ◌∙◌, List, [], ◌∷◌, ◌++◌, Ok, Err, ℕ, zero, suc, ◌*◌, ◌≤◌, arith, le-ltb}
 use Rattle.partitions.specs.Parts.{fact}
 use Rattle.partitions.specs.Count.{factorial_of}
-use Rattle.partitions.specs.declared.Count.TheVariants.{Value, Refused}
+use Rattle.refusals.specs.declared.Refusal.TheVariants.{OrderAbove20}
 
 -- 1, 2, .., n
 abbrev pub one_to : ℕ → List ℕ
@@ -28,18 +24,18 @@ fact-is-product zero = refl
 fact-is-product (suc n) = ap (λ x. suc n * x) (fact-is-product n) ∙ sym (product-with (one_to n) (suc n))
 
 -- ---- the factorial of n, up to 20, is 1 · 2 · … · n
-pub factorial-is-product : (n : ℕ) → n ≤ 20 → factorial_of n ≡ Value (product (one_to n))
+pub factorial-is-product : (n : ℕ) → n ≤ 20 → factorial_of n ≡ Ok (product (one_to n))
 unfolding factorial_of
 factorial-is-product n h = simp (le-ltb 20 n h, fact-is-product n)
 
 -- at 0, where there is nothing to multiply, it is 1
-pub factorial-at-0 : factorial_of 0 ≡ Value 1
+pub factorial-at-0 : factorial_of 0 ≡ Ok 1
 factorial-at-0 = factorial-is-product 0 (omega arith)
 
 -- at the limit, and one above it
-pub factorial-at-20 : factorial_of 20 ≡ Value 2432902008176640000
+pub factorial-at-20 : factorial_of 20 ≡ Ok 2432902008176640000
 factorial-at-20 = factorial-is-product 20 (omega arith)
 
-pub factorial-at-21 : factorial_of 21 ≡ Refused 1
+pub factorial-at-21 : factorial_of 21 ≡ Err OrderAbove20
 unfolding factorial_of
 factorial-at-21 = refl

@@ -16,6 +16,5 @@ pub mod Tests
 pub mod Slices
 pub mod Tail
 pub mod Moves
-pub mod Pad
 pub mod Counted
 pub mod Stepping

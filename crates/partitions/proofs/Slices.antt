@@ -1,15 +1,5 @@
 -- What a loop over a slice of parts uses: a sum, a test and the divisions from an index on, one part further. Assumes nothing.
-use mathlib.Core.Path.{◌≡◌, refl, sym, ap, ap₂, ◌∙◌}
-use mathlib.Core.Bool.{Bool, true, false, cond}
-use mathlib.Core.List.{List, [], ◌∷◌}
-use Prim.Native.Nat.{ℕ, suc, ◌+◌, ◌-◌, ◌*◌, ◌/◌, ◌≤◌, ◌<◌}
-use native.Mathlib.Nat.{mul_comm}
-use native.Mathlib.Numerals.{add-one}
-use native.Mathlib.Omega.{arith}
-use lib.Dec.{eqb, ltb}
-use lib.ListN.{length, get_or, drop, drop_of_length-le}
-use lib.Seq.{drop-cons}
-use borrow.Author.Tests.{eq-eqb, ne_eqb, lt-ltb, le-ltb}
+use Rattle.std.proofs.Common.{◌≡◌, refl, sym, ap, ap₂, ◌∙◌, Bool, true, false, cond, List, [], ◌∷◌, ◌⊎◌, inl, inr, ℕ, suc, ◌+◌, ◌-◌, ◌*◌, ◌/◌, ◌≤◌, ◌<◌, mul_comm, add-one, arith, eqb, ltb, length, get_or, drop, drop_of_length-le, drop-cons, eq-eqb, ne_eqb, lt-ltb, le-ltb}
 use Rattle.partitions.specs.Parts.{total, fact, divide, runs_from, runs}
 use Rattle.partitions.specs.Count.{falls}
 
@@ -25,11 +15,10 @@ module _ (m : ℕ) (l : List ℕ) (i : ℕ) (h : i < length l) where
   unfolding falls
   falls_at = ap (falls m) (drop_at l i h)
 
-  pub falls-zero : get_or l i 0 ≡ 0 → falls m (drop i l) ≡ false
-  falls-zero e = falls_at ∙ simp (eq-eqb (get_or l i 0) 0 e)
-
-  pub falls-rising : (get_or l i 0 ≡ 0 → ⊥) → m < get_or l i 0 → falls m (drop i l) ≡ false
-  falls-rising e g = falls_at ∙ simp (ne_eqb (get_or l i 0) 0 e, lt-ltb m (get_or l i 0) g)
+  -- a part that is 0, or greater than the one before it
+  pub falls-stops : (get_or l i 0 ≡ 0) ⊎ ((get_or l i 0 ≡ 0 → ⊥) × (m < get_or l i 0)) → falls m (drop i l) ≡ false
+  falls-stops (inl e) = falls_at ∙ simp (eq-eqb (get_or l i 0) 0 e)
+  falls-stops (inr g) = falls_at ∙ simp (ne_eqb (get_or l i 0) 0 g.0, lt-ltb m (get_or l i 0) g.1)
 
   pub falls-on : (get_or l i 0 ≡ 0 → ⊥) → get_or l i 0 ≤ m → falls m (drop i l) ≡ falls (get_or l i 0) (drop (i + 1) l)
   falls-on e g = falls_at ∙ simp (ne_eqb (get_or l i 0) 0 e, le-ltb m (get_or l i 0) g)

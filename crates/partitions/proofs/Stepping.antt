@@ -1,131 +1,119 @@
 -- What the code of a start and of a step finds, by the walk's definition. Assumes nothing.
-use mathlib.Core.Path.{◌≡◌, refl, sym, ap, ap₂, ◌∙◌}
-use mathlib.Core.Bool.{Bool, true, false, not}
-use mathlib.Core.List.{List, ◌++◌}
-use Prim.Native.Nat.{ℕ, zero, suc, ◌+◌, ◌-◌, ◌≤◌, min}
-use native.Mathlib.Nat.{zero-add, suc-add}
-use native.Mathlib.Omega.{arith}
-use lib.ListN.{length, take, drop, replicate, take-append-drop}
-use lib.Seq.{length-take-le}
-use Rattle.partitions.specs.Parts.{total}
+use Rattle.std.proofs.Common.{◌≡◌, refl, sym, ap, ap₂, ◌∙◌, Bool, true, false, not, List, ◌∷◌, ◌++◌, ℕ, ◌-◌, ◌≤◌, min, arith, length, take, drop, replicate, take-append-drop, length-take-le, Some, None, Ok, Err}
+use Rattle.std.proofs.lemmas.List.{drop-replicate}
+use Rattle.refusals.specs.declared.Refusal.{Refusal}
+use Rattle.refusals.specs.declared.Refusal.TheVariants.{NoPartList}
+use Rattle.partitions.specs.Parts.{total, lists}
 use Rattle.partitions.specs.Count.{falls}
-use Rattle.partitions.specs.Inner.{greatest, has_next, next_of}
-use Rattle.partitions.specs.Walk.{padded, refusal, blank, started, started_by, refused, at_end, stepped}
+use Rattle.partitions.specs.Inner.{greatest, has_next, next_of, held, moved_on}
+use Rattle.partitions.specs.Walk.{from, padded, tested, started, started_by, stepped}
 use Rattle.partitions.specs.declared.CompositionIter.{CompositionIter}
-use Rattle.partitions.proofs.Member.{listed, unlisted-falls, unlisted-total}
+use Rattle.partitions.proofs.Member.{listed, unlisted-falls, unlisted-total, down-falls, from_is}
 use Rattle.partitions.proofs.Successor.{greatest-length, next-same}
 use Rattle.partitions.proofs.Moves.{falls-wider}
-use Rattle.partitions.proofs.Walked.{range-of, InRange, started-is, stepped-out, stepped-end, stepped-none, stepped-next, stepped-last}
+use Rattle.partitions.proofs.Walked.{range-of, InRange, started-is, stepped-out, stepped-end, stepped-none, stepped-next, stepped-last, step_gives, step-stays, holds, Item}
 
 abbrev pub zeros : List ℕ
 zeros = replicate 20 0
 
+pub in-20 : (order len : ℕ) → tested order len ≡ Ok tt → len ≤ 20
+in-20 order len e =
+    let h = range-of order len e in
+    let a : len ≤ order = h.1 in
+    let b : order ≤ 20 = h.2 in
+    omega arith
+
 -- ---- the start
-pub start-refused : (order len n : ℕ) → n ≡ refusal order len → ¬ (n ≡ 0) → record { refusal = n; walk = blank } ≡ started order len
+pub start-refused : (order len : ℕ) (r : Refusal) → tested order len ≡ Err r → Err r ≡ started order len
 unfolding started
-start-refused order len zero e h = absurd (h refl)
-start-refused order len (suc n) e h = ap (started_by order len) e
+start-refused order len r e = sym (ap (started_by order len) e)
 
-pub start_first : (order len n : ℕ) (first : List ℕ) → n ≡ refusal order len → n ≡ 0 → first ≡ greatest (length (take len (zeros))) order order →
-    record { refusal = 0; walk = record { order = order; len = len; current = first ++ drop len (zeros); end = false } } ≡ started order len
-start_first order len n first e z f =
-    let h = range-of order len (sym e ∙ z) in
-    let len20 : len ≤ 20 = (let a : len ≤ order = h.1 in let b : order ≤ 20 = h.2 in omega arith) in
-    let long : length (take len (zeros)) ≡ len = length-take-le len (zeros) len20 in
+pub start_first : (order len : ℕ) (first : List ℕ) → tested order len ≡ Ok tt → first ≡ greatest (length (take len zeros)) order order →
+    Ok (record { order = order; len = len; current = first ++ drop len zeros; end = false }) ≡ started order len
+start_first order len first e f =
+    let long : length (take len zeros) ≡ len = length-take-le len zeros (in-20 order len e) in
     let is : first ≡ greatest len order order = f ∙ ap (λ (k : ℕ). greatest k order order) long in
-    ap (λ (l : List ℕ). record { refusal = 0; walk = record { order = order; len = len; current = l; end = false } })
-    (ap₂ ◌++◌ is (rest len len20) ∙ ap (λ (k : ℕ). greatest len order order ++ replicate (20 - k) 0) (sym (greatest-length len order order)))
-    ∙ sym (started-is order len (sym e ∙ z))
-  where
-    drop-replicate : (k n : ℕ) → drop {A = ℕ} k (replicate (k + n) 0) ≡ replicate n 0
-    drop-replicate zero n = ap (λ (m : ℕ). replicate m 0) (zero-add n)
-    drop-replicate (suc k) n = ap (λ (m : ℕ). drop {A = ℕ} (suc k) (replicate m 0)) (suc-add k n) ∙ drop-replicate k n
-
-    rest : (k : ℕ) → k ≤ 20 → drop k (zeros) ≡ replicate (20 - k) 0
-    rest k h = ap (λ (m : ℕ). drop {A = ℕ} k (replicate m 0)) (back k h) ∙ drop-replicate k (20 - k)
-      where
-        back : (k : ℕ) → k ≤ 20 → 20 ≡ k + (20 - k)
-        back k h = omega arith
+    ap (λ (l : List ℕ). Ok (record { order = order; len = len; current = l; end = false }))
+    (ap₂ ◌++◌ is (drop-replicate len 20 0) ∙ ap (λ (k : ℕ). greatest len order order ++ replicate (20 - k) 0) (sym (greatest-length len order order)))
+    ∙ sym (started-is order len e)
 
 -- ---- a step
-pub step-refused : (w : CompositionIter) (n : ℕ) → n ≡ refusal w.order w.len → ¬ (n ≡ 0) → refused n w ≡ stepped w
-step-refused w zero e h = absurd (h refl)
-step-refused w (suc n) e h = sym (stepped-out w n (sym e))
-
-pub step-ended : (w : CompositionIter) → refusal w.order w.len ≡ 0 → w.end ≡ true → at_end w ≡ stepped w
-step-ended w e h = sym (stepped-end w e h)
-
--- the parts that the record holds
-abbrev held : CompositionIter → List ℕ
-held w = take w.len w.current
-
--- the walk has lists, and has not ended
-pub record Ready (w : CompositionIter) : Type 0 where
-  pub none : refusal w.order w.len ≡ 0
-  pub going : w.end ≡ false
-  pub long : length w.current ≡ 20
-
-module _ {w : CompositionIter} (r : Ready w) where
-  range : InRange w.order w.len
-  range = range-of w.order w.len r.none
-
-  pub len-fits : w.len ≤ length w.current
-  len-fits = let a : w.len ≤ w.order = range.1 in let b : w.order ≤ 20 = range.2 in omega (arith, r.long)
-
-  pub held-long : length (take w.len w.current) ≡ w.len
-  held-long = length-take-le w.len w.current len-fits
-
-  -- where they do not have the sum of the walk, and where they are no part list
-  pub step_sum : {s : ℕ} → s ≡ min (total (take w.len w.current)) 21 → ¬ (s ≡ w.order) → refused 3 w ≡ stepped w
-  step_sum q h =
-      let o : w.order ≤ 20 = range.2 in
-      sym (stepped-none w r.none r.going (unlisted-total w.order w.len (held w) (λ t. h (omega arith))))
-
-  pub step_falls : falls w.order (take w.len w.current) ≡ false → refused 3 w ≡ stepped w
-  step_falls h = sym (stepped-none w r.none r.going (unlisted-falls w.order w.len (held w) h))
-
-  pub sum_is : {s : ℕ} → s ≡ min (total (take w.len w.current)) 21 → s ≡ w.order → total (take w.len w.current) ≡ w.order
-  sum_is q t = let o : w.order ≤ 20 = range.2 in omega arith
-
 -- the record holds a list of its walk
 pub record Holds (w : CompositionIter) : Type 0 where
-  pub ready : Ready w
-  pub sums : total (take w.len w.current) ≡ w.order
-  pub down : falls w.order (take w.len w.current) ≡ true
+  pub none : tested w.order w.len ≡ Ok tt
+  pub going : w.end ≡ false
+  pub sums : total (held w) ≡ w.order
+  pub down : falls w.order (held w) ≡ true
+  pub long : length (held w) ≡ w.len
+
+pub item-refused : (w : CompositionIter) (r : Refusal) → tested w.order w.len ≡ Err r → Err r ≡ (stepped w).item
+item-refused w r e = sym (ap (λ s. s.item) (stepped-out w r e))
+
+pub item-ended : (w : CompositionIter) → tested w.order w.len ≡ Ok tt → w.end ≡ true → Ok None ≡ (stepped w).item
+item-ended w e h = sym (ap (λ s. s.item) (stepped-end w e h))
+
+-- a walk that has lists and has not ended, of which the code adds the parts up to s
+module _ (w : CompositionIter) (e : tested w.order w.len ≡ Ok tt) (g : w.end ≡ false) (s : ℕ) (q : s ≡ min (total (held w)) 21) where
+  range : InRange w.order w.len
+  range = range-of w.order w.len e
+
+  -- where the parts do not have the sum of the walk, and where they are no part list
+  pub item_sum : ¬ (s ≡ w.order) → Err NoPartList ≡ (stepped w).item
+  item_sum h =
+      let o : w.order ≤ 20 = range.2 in
+      sym (ap (λ s. s.item) (stepped-none w e g (unlisted-total w.order w.len (held w) (λ t. h (omega arith)))))
+
+  pub item_falls : falls w.order (held w) ≡ false → Err NoPartList ≡ (stepped w).item
+  item_falls h = sym (ap (λ s. s.item) (stepped-none w e g (unlisted-falls w.order w.len (held w) h)))
+
+  -- else it holds a list
+  pub item-holds : length w.current ≡ 20 → s ≡ w.order → falls w.order (held w) ≡ true → Holds w
+  item-holds l t f =
+      let o : w.order ≤ 20 = range.2 in
+      let a : w.len ≤ w.order = range.1 in
+      record { none = e; going = g; sums = omega arith; down = f; long = length-take-le w.len w.current (omega (arith, l)) }
 
 module _ {w : CompositionIter} (r : Holds w) where
-  pub next-asks : (falls 20 (take w.len w.current) ≡ true) × (total (take w.len w.current) ≤ 20)
-  next-asks = let o : w.order ≤ 20 = (range r.ready).2 in (falls-wider w.order 20 (held w) o r.down, omega (arith, r.sums))
+  pub next-asks : (w.len ≤ 20) × (falls 20 (held w) ≡ true) × (total (held w) ≤ 20)
+  next-asks =
+      let h = range-of w.order w.len r.none in
+      let o : w.order ≤ 20 = h.2 in
+      (in-20 w.order w.len r.none, falls-wider w.order 20 (held w) o r.down, omega (arith, r.sums))
 
-  step-next : {b : Bool} {p y : List ℕ} → p ≡ padded (take w.len w.current) → b ≡ has_next (take w.len w.current) → y ≡ next_of (take w.len w.current) → b ≡ true →
-      record {
-        item = record { refusal = 0; ended = false; parts = p };
-        walk = record { order = w.order; len = w.len; current = y ++ drop w.len w.current; end = false };
-      } ≡ stepped w
-  step-next ep eb ey h =
-      let m = listed w.order w.len (held w) (held-long r.ready) r.down r.sums in
-      ap₂ (λ (p y : List ℕ). record {
-        item = record { refusal = 0; ended = false; parts = p };
-        walk = record { order = w.order; len = w.len; current = y ++ drop w.len w.current; end = false };
-      }) ep ey ∙ sym (stepped-next w r.ready.none r.ready.going (held w) refl m.0 m.1 (sym eb ∙ h))
+  listed-here : (rs : List (List ℕ)) × (from (held w) (lists w.order w.len) ≡ held w ∷ rs)
+  listed-here = listed w.order w.len (held w) r.long r.down r.sums
 
-  step-last : {b : Bool} {p y : List ℕ} → p ≡ padded (take w.len w.current) → b ≡ has_next (take w.len w.current) → y ≡ next_of (take w.len w.current) → b ≡ false →
-      record {
-        item = record { refusal = 0; ended = false; parts = p };
-        walk = record { order = w.order; len = w.len; current = y ++ drop w.len w.current; end = true };
-      } ≡ stepped w
-  step-last ep eb ey h =
-      let m = listed w.order w.len (held w) (held-long r.ready) r.down r.sums in
-      ap₂ (λ (p l : List ℕ). record {
-        item = record { refusal = 0; ended = false; parts = p };
-        walk = record { order = w.order; len = w.len; current = l; end = true };
-      }) ep (ap (λ (y : List ℕ). y ++ drop w.len w.current) (ey ∙ next-same (held w) (sym eb ∙ h)) ∙ take-append-drop w.len w.current)
-      ∙ sym (stepped-last w r.ready.none r.ready.going (held w) refl m.0 m.1 (sym eb ∙ h))
+  pub step-moves : stepped w ≡ record { item = Ok (Some (padded (held w))); walk = moved_on w }
+  step-moves = by (has_next (held w)) refl
+    where
+      by : (b : Bool) → has_next (held w) ≡ b → stepped w ≡ record { item = Ok (Some (padded (held w))); walk = moved_on w }
+      by true h =
+          stepped-next w r.none r.going (held w) refl listed-here.0 listed-here.1 h
+          ∙ ap (λ (b : Bool). record { item = Ok (Some (padded (held w))); walk = record { order = w.order; len = w.len; current = next_of (held w) ++ drop w.len w.current; end = not b } }) (sym h)
+      by false h =
+          stepped-last w r.none r.going (held w) refl listed-here.0 listed-here.1 h
+          ∙ ap₂ (λ (l : List ℕ) (b : Bool). record { item = Ok (Some (padded (held w))); walk = record { order = w.order; len = w.len; current = l; end = not b } })
+          (sym (ap (λ (l : List ℕ). l ++ drop w.len w.current) (next-same (held w) h) ∙ take-append-drop w.len w.current)) (sym h)
 
-  pub step-on : (b : Bool) {p y : List ℕ} → p ≡ padded (take w.len w.current) → b ≡ has_next (take w.len w.current) → y ≡ next_of (take w.len w.current) →
-      record {
-        item = record { refusal = 0; ended = false; parts = p };
-        walk = record { order = w.order; len = w.len; current = y ++ drop w.len w.current; end = not b };
-      } ≡ stepped w
-  step-on true ep eb ey = step-next ep eb ey refl
-  step-on false ep eb ey = step-last ep eb ey refl
+-- a list that is handed out is one of those of its walk
+pub handed-holds : (w : CompositionIter) (p : List ℕ) → (stepped w).item ≡ Ok (Some p) → Holds w
+handed-holds w p e =
+    let g = step_gives w p e in
+    let h = holds w g.0 g.1 g.2.first in
+    let is = from_is w.len w.order w.order g.0 g.0 g.1 h.2 in
+    let same : g.0 ≡ held w = sym h.1 in
+    record {
+      none = g.2.range;
+      going = h.0;
+      sums = ap total (sym same) ∙ is.sums;
+      down = ap (falls w.order) (sym same) ∙ down-falls is.down;
+      long = ap length (sym same) ∙ is.long;
+    }
+
+-- the answer of a step: the record moved on where a list is handed out, and else as it is
+module _ (w : CompositionIter) {i : Item} where
+  pub step-moved : (p : List ℕ) {v : CompositionIter} → i ≡ (stepped w).item → i ≡ Ok (Some p) → v ≡ moved_on w → record { item = i; walk = v } ≡ stepped w
+  step-moved p e f g = ap₂ (λ i v. record { item = i; walk = v }) e (g ∙ sym (ap (λ s. s.walk) (step-moves (handed-holds w p (sym e ∙ f)))))
+
+  pub step-same : i ≡ (stepped w).item → ((p : List ℕ) → i ≡ Ok (Some p) → ⊥) → record { item = i; walk = w } ≡ stepped w
+  step-same e h = ap₂ (λ i v. record { item = i; walk = v }) e (sym (step-stays w (λ p f. h p (e ∙ f))))

@@ -1,7 +1,8 @@
 -- How the code finds the greatest list and the list after a list: what the private functions compute. That these are the first and the next of
 -- the lists is proved (proofs/Successor.antt). Assumes nothing.
-use Rattle.std.specs.Prelude.{Bool, true, false, cond, List, [], ◌∷◌, ℕ, zero, suc, ◌+◌, ◌-◌, ◌*◌, min, leb, length}
+use Rattle.std.specs.Prelude.{Bool, true, false, cond, not, List, [], ◌∷◌, ◌++◌, ℕ, zero, suc, ◌+◌, ◌-◌, ◌*◌, min, leb, length, take, drop}
 use Rattle.partitions.specs.Parts.{total}
+use Rattle.partitions.specs.declared.CompositionIter.{CompositionIter}
 
 -- the greatest list of k parts with the sum n, each at most m
 unfoldable pub greatest : ℕ → ℕ → ℕ → List ℕ
@@ -22,3 +23,10 @@ next_of [] = []
 next_of (a ∷ t) =
     cond (has_next t) (a ∷ next_of t)
     (cond (can_init (length t) (total t + 1) (a - 1)) ((a - 1) ∷ greatest (length t) (total t + 1) (a - 1)) (a ∷ t))
+
+-- the parts that a record holds, and the record moved on from them
+abbrev pub held : CompositionIter → List ℕ
+held w = take w.len w.current
+
+abbrev pub moved_on : CompositionIter → CompositionIter
+moved_on w = record { order = w.order; len = w.len; current = next_of (held w) ++ drop w.len w.current; end = not (has_next (held w)) }

@@ -12,17 +12,11 @@ pub fn total(list: &[usize]) -> usize
     ensures { result ≡ min (sum list.now) 21 }
 {
     let mut sum = 0;
-    let mut i = 0;
-    while i < list.len() {
-        let a = list[i];
-        if 20 < a {
+    for a in list {
+        if 20 - sum < *a {
             return 21;
         }
-        sum += a;
-        if 20 < sum {
-            return 21;
-        }
-        i += 1;
+        sum += *a;
     }
     sum
 }
@@ -32,17 +26,11 @@ pub fn falls(list: &[usize], max: usize) -> bool
     ensures { result ≡ Falls max list.now }
 {
     let mut last = max;
-    let mut i = 0;
-    while i < list.len() {
-        let a = list[i];
-        if a == 0 {
+    for a in list {
+        if *a == 0 || last < *a {
             return false;
         }
-        if last < a {
-            return false;
-        }
-        last = a;
-        i += 1;
+        last = *a;
     }
     true
 }
@@ -53,11 +41,7 @@ pub fn pad(list: &[usize]) -> [usize; 20]
     ensures { result ≡ padded list.now }
 {
     let mut parts = [0usize; 20];
-    let mut i = 0;
-    while i < list.len() {
-        parts[i] = list[i];
-        i += 1;
-    }
+    parts[..list.len()].copy_from_slice(list);
     parts
 }
 
@@ -66,13 +50,7 @@ pub fn can_init(len: usize, n: usize, max: usize) -> bool
     requires { (len ≤ 20) × (max ≤ 20) }
     ensures { result ≡ can_init len n max }
 {
-    if len <= n { n <= max * len } else { false }
-}
-
-fn smaller(m: usize, n: usize) -> usize
-    ensures { result ≡ min m n }
-{
-    if m < n { m } else { n }
+    len <= n && n <= max * len
 }
 
 // Fills the array with the greatest list of parts up to max whose sum is n.
@@ -84,7 +62,7 @@ pub fn init(array: &mut [usize], n: usize, max: usize)
     if len == 0 {
         return;
     }
-    let first = smaller(n - (len - 1), max);
+    let first = (n - (len - 1)).min(max);
     array[0] = first;
     init(&mut array[1..], n - first, first);
 }
@@ -118,10 +96,8 @@ pub fn factorial(n: usize) -> u64
     ensures { result ≡ fact n }
 {
     let mut f: u64 = 1;
-    let mut i = 0;
-    while i < n {
-        i += 1;
-        f = f * (i as u64);
+    for i in 0..n {
+        f *= i as u64 + 1;
     }
     f
 }
@@ -132,11 +108,8 @@ pub fn over_parts(x: u64, list: &[usize]) -> u64
     ensures { result ≡ divide x list.now }
 {
     let mut rest = x;
-    let mut i = 0;
-    while i < list.len() {
-        let a = list[i];
-        rest = rest / factorials::factorial(a);
-        i += 1;
+    for a in list {
+        rest /= factorials::factorial(*a);
     }
     rest
 }
@@ -148,15 +121,11 @@ pub fn over_runs(x: u64, list: &[usize]) -> u64
 {
     let mut rest = x;
     let mut run = 1;
-    let mut i = 1;
-    while i < list.len() {
-        let a = list[i - 1];
-        let b = list[i];
-        i += 1;
-        if b == a {
+    for i in 1..list.len() {
+        if list[i] == list[i - 1] {
             run += 1;
         } else {
-            rest = rest / factorials::factorial(run);
+            rest /= factorials::factorial(run);
             run = 1;
         }
     }

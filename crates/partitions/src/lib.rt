@@ -2,9 +2,13 @@
 // sum is the order.
 #![tactic(auto)]
 
-ghost use Rattle.std.specs.Prelude.{◌≡◌};
-ghost use Rattle.partitions.specs.Walk.{refusal as refusal_of, blank as blank_walk, started, refused as refused_by, at_end, stepped};
-ghost use Rattle.partitions.specs.Count.{counted, factorial_of};
+ghost use Rattle.std.specs.Prelude.{◌≡◌, true, ◌≤◌};
+ghost use Rattle.partitions.specs.Parts.{total};
+ghost use Rattle.partitions.specs.Walk.{tested, started, stepped};
+ghost use Rattle.partitions.specs.Count.{falls, counted, factorial_of};
+ghost use Rattle.partitions.specs.Inner.{held, moved_on};
+
+use refusals::Refusal;
 
 mod factorials;
 mod inner;
@@ -12,7 +16,7 @@ mod table;
 
 pub use table::stirling_number;
 
-// A walk over the part lists of an order and a len. Anybody may write the fields: each step tests them.
+// A walk over the part lists of an order and a len: document 01's record. Anybody may write the fields: each step tests them.
 #[derive(Clone, Copy)]
 pub struct CompositionIter {
     pub order: usize,
@@ -21,109 +25,69 @@ pub struct CompositionIter {
     pub end: bool,
 }
 
-// The start of a walk beside its refusal number.
-#[derive(Clone, Copy)]
-pub struct Started {
-    pub refusal: u8,
-    pub walk: CompositionIter,
-}
-
-// What a step hands out: a list, with zeros past it; or that the walk has ended; or a refusal.
-#[derive(Clone, Copy)]
-pub struct Composition {
-    pub refusal: u8,
-    pub ended: bool,
-    pub parts: [usize; 20],
-}
-
+// What a step hands out: a list, with zeros past it, or none where the walk has ended; and the walk after it.
 #[derive(Clone, Copy)]
 pub struct Stepped {
-    pub item: Composition,
+    pub item: Result<Option<[usize; 20]>, Refusal>,
     pub walk: CompositionIter,
 }
 
-// A number, or the number of a refusal.
-#[derive(Clone, Copy)]
-pub enum Count {
-    Value(u64),
-    Refused(u8),
-}
-
-// 0 where an order and a len have part lists, or the number of the refusal.
-fn refusal(order: usize, len: usize) -> u8
-    ensures { result ≡ refusal_of order len }
+// Whether an order and a len have part lists.
+fn test(order: usize, len: usize) -> Result<(), Refusal>
+    ensures { result ≡ tested order len }
 {
     if 20 < order {
-        return 1;
+        return Err(Refusal::OrderAbove20);
     }
-    if len == 0 {
-        return 3;
+    if len == 0 || order < len {
+        return Err(Refusal::NoPartList);
     }
-    if order < len { 3 } else { 0 }
-}
-
-fn blank() -> CompositionIter
-    ensures { result ≡ blank_walk }
-{
-    let current = [0usize; 20];
-    CompositionIter {
-        order: 0,
-        len: 0,
-        current,
-        end: false,
-    }
-}
-
-fn refused(number: u8, walk: CompositionIter) -> Stepped
-    ensures { result ≡ refused_by number walk }
-{
-    let parts = [0usize; 20];
-    Stepped {
-        item: Composition {
-            refusal: number,
-            ended: false,
-            parts,
-        },
-        walk,
-    }
-}
-
-fn ended(walk: CompositionIter) -> Stepped
-    ensures { result ≡ at_end walk }
-{
-    let parts = [0usize; 20];
-    Stepped {
-        item: Composition {
-            refusal: 0,
-            ended: true,
-            parts,
-        },
-        walk,
-    }
+    Ok(())
 }
 
 impl CompositionIter {
     // The start of the walk: the record holds the first list.
-    pub fn try_new(order: usize, len: usize) -> Started
+    pub fn try_new(order: usize, len: usize) -> Result<CompositionIter, Refusal>
         ensures { result ≡ started order len }
     {
-        let number = refusal(order, len);
-        if number != 0 {
-            return Started {
-                refusal: number,
-                walk: blank(),
-            };
-        }
+        test(order, len)?;
         let mut current = [0usize; 20];
         inner::init(&mut current[..len], order, order);
-        Started {
-            refusal: 0,
-            walk: CompositionIter {
-                order,
-                len,
-                current,
-                end: false,
-            },
+        Ok(CompositionIter {
+            order,
+            len,
+            current,
+            end: false,
+        })
+    }
+
+    // The list that the record holds.
+    fn item(self) -> Result<Option<[usize; 20]>, Refusal>
+        ensures { result ≡ (stepped self).item }
+    {
+        test(self.order, self.len)?;
+        if self.end {
+            return Ok(None);
+        }
+        let list = &self.current[..self.len];
+        if inner::total(list) == self.order && inner::falls(list, self.order) {
+            Ok(Some(inner::pad(list)))
+        } else {
+            Err(Refusal::NoPartList)
+        }
+    }
+
+    // The record moved on from the list that it holds.
+    fn moved(self) -> CompositionIter
+        requires { (self.len ≤ 20) × (falls 20 (held self) ≡ true) × (total (held self) ≤ 20) }
+        ensures { result ≡ moved_on self }
+    {
+        let mut current = self.current;
+        let more = inner::next(&mut current[..self.len]);
+        CompositionIter {
+            current,
+            end: !more,
+            ..self
         }
     }
 
@@ -131,74 +95,49 @@ impl CompositionIter {
     pub fn step(self) -> Stepped
         ensures { result ≡ stepped self }
     {
-        let order = self.order;
-        let len = self.len;
-        let number = refusal(order, len);
-        if number != 0 {
-            return refused(number, self);
-        }
-        if self.end {
-            return ended(self);
-        }
-        let mut current = self.current;
-        if inner::total(&current[..len]) != order {
-            return refused(3, self);
-        }
-        if !inner::falls(&current[..len], order) {
-            return refused(3, self);
-        }
-        let parts = inner::pad(&current[..len]);
-        let item = Composition {
-            refusal: 0,
-            ended: false,
-            parts,
+        let item = self.item();
+        // The last two arms are not one, since the proof does not close of `Ok(None) | Err(_)`: the check states no fact there.
+        let walk = match item {
+            Ok(Some(_)) => self.moved(),
+            Ok(None) => self,
+            Err(_) => self,
         };
-        let more = inner::next(&mut current[..len]);
-        Stepped {
-            item,
-            walk: CompositionIter {
-                order,
-                len,
-                current,
-                end: !more,
-            },
-        }
+        Stepped { item, walk }
     }
 
     // The same where the record is lent: it moves on in its place.
-    pub fn next(&mut self) -> Composition
+    pub fn next(&mut self) -> Result<Option<[usize; 20]>, Refusal>
         ensures { (result ≡ (stepped self.old).item) × (self.new ≡ (stepped self.old).walk) }
     {
-        let s = CompositionIter::step(*self);
-        *self = s.walk;
-        s.item
+        let Stepped { item, walk } = self.step();
+        *self = walk;
+        item
     }
 }
 
-pub fn factorial(n: usize) -> Count
+#[tactic(auto, unfolding(crate::specs::Count::factorial_of))]
+pub fn factorial(n: usize) -> Result<u64, Refusal>
     ensures { result ≡ factorial_of n }
 {
     if 20 < n {
-        return Count::Refused(1);
+        return Err(Refusal::OrderAbove20);
     }
-    Count::Value(factorials::factorial(n))
+    Ok(factorials::factorial(n))
 }
 
 // How often a part list counts in Faà di Bruno's formula: its order's factorial over those of the parts and of the runs of equal parts.
-pub fn multiplicity(list: &[usize]) -> Count
+pub fn multiplicity(list: &[usize]) -> Result<u64, Refusal>
     ensures { result ≡ counted list.now }
 {
     let n = inner::total(list);
     if 20 < n {
-        return Count::Refused(1);
+        return Err(Refusal::OrderAbove20);
     }
-    if list.len() == 0 {
-        return Count::Refused(3);
+    match list {
+        [first, ..] if inner::falls(list, *first) => {
+            let x = inner::over_parts(factorials::factorial(n), list);
+            Ok(inner::over_runs(x, list))
+        }
+        _ => Err(Refusal::NoPartList),
     }
-    let first = list[0];
-    if !inner::falls(list, first) {
-        return Count::Refused(3);
-    }
-    let x = inner::over_parts(factorials::factorial(n), list);
-    Count::Value(inner::over_runs(x, list))
 }

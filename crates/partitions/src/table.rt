@@ -3,7 +3,7 @@
 ghost use Rattle.std.specs.Prelude.{◌≡◌};
 ghost use Rattle.partitions.specs.Count.{stirling_of};
 
-use crate::Count;
+use refusals::Refusal;
 
 // S(n, k) stands at n (n + 1) / 2 + k, for n from 0 to 20 and k from 0 to n.
 const TRIANGLE: [u64; 231] = [
@@ -240,15 +240,15 @@ const TRIANGLE: [u64; 231] = [
     1,
 ];
 
-pub fn stirling_number(order: usize, len: usize) -> Count
+#[tactic(auto, unfolding(crate::specs::Count::stirling_of))]
+pub fn stirling_number(order: usize, len: usize) -> Result<u64, Refusal>
     ensures { result ≡ stirling_of order len }
 {
     if 20 < order {
-        return Count::Refused(1);
+        return Err(Refusal::OrderAbove20);
     }
     if order < len {
-        return Count::Refused(3);
+        return Err(Refusal::NoPartList);
     }
-    let at = order * (order + 1) / 2 + len;
-    Count::Value(TRIANGLE[at])
+    Ok(TRIANGLE[order * (order + 1) / 2 + len])
 }

@@ -7,50 +7,33 @@ ghost use Rattle.parts_text.specs.Reading.{settled};
 use parts_text::Reading;
 use std::io;
 use std::io::{Read, Write};
+use std::ops::ControlFlow;
 
-// What one read gives: the reading after it, and whether the input goes on.
-#[derive(Clone, Copy)]
-struct Fed {
-    state: Reading,
-    more: bool,
-}
-
-// One read, made only while the answer is open. An input that cannot be read is no pair of numbers, whatever came before.
-fn feed_some<R: Read>(input: &mut R, state: Reading) -> Fed
+// One read, made only while the answer is open: the reading with which to go on, or with which the input ends. An input that cannot be read is no
+// pair of numbers, whatever came before.
+fn feed_some<R: Read>(input: &mut R, state: Reading) -> ControlFlow<Reading, Reading>
     requires { settled state ≡ false }
 {
     let mut buffer = [0u8; 4096];
     match input.read(&mut buffer) {
-        Err(_) => Fed {
-            state: Reading::Malformed,
-            more: false,
-        },
-        Ok(0) => Fed { state, more: false },
-        Ok(n) => {
-            let next = parts_text::feed(state, &buffer[..n]);
-            Fed {
-                state: next,
-                more: true,
-            }
-        }
+        Err(_) => ControlFlow::Break(Reading::Malformed),
+        Ok(0) => ControlFlow::Break(state),
+        Ok(n) => ControlFlow::Continue(parts_text::feed(state, &buffer[..n])),
     }
 }
 
 // The input is read to its end, or until the answer is settled. A proved loop has to end, and nothing says that an input does or comes to be settled. So
-// the loop counts its turns down, from a number that no run uses up.
+// the loop counts its turns, to a number that no run comes to.
 fn feed_all<R: Read>(input: &mut R) -> Reading {
     let mut state = parts_text::start();
-    let mut turns = u64::MAX;
-    while turns > 0 {
+    for _ in 0..u64::MAX {
         if parts_text::is_settled(state) {
             return state;
         }
-        let fed = feed_some(input, state);
-        state = fed.state;
-        if !fed.more {
-            return state;
+        match feed_some(input, state) {
+            ControlFlow::Continue(next) => state = next,
+            ControlFlow::Break(last) => return last,
         }
-        turns -= 1;
     }
     Reading::Malformed
 }

@@ -1,41 +1,40 @@
 -- What is printed fits the array, whatever was read. Assumes nothing.
-use mathlib.Core.Path.{◌≡◌, refl, subst}
-use mathlib.Core.Bool.{Bool, true, false, cond}
-use Prim.Native.Nat.{ℕ, zero, suc, ◌≤◌}
-use native.Mathlib.Omega.{arith}
-use lib.Dec.{ltb, eqb, lit≤}
-use lib.ListN.{length}
+use Rattle.std.proofs.Common.{◌≡◌, refl, Bool, true, false, cond, List, ℕ, ◌≤◌, ltb, eqb, lit≤, length, Result, Ok, Err}
 use Rattle.partitions.specs.Parts.{lists}
-use Rattle.partitions.specs.Walk.{refusal}
+use Rattle.refusals.specs.declared.Refusal.{Refusal}
+use Rattle.refusals.specs.declared.Refusal.TheVariants.{OrderAbove20, NoPartList}
 use Rattle.partitions.proofs.Walked.{range-of}
 use Rattle.parts_text.specs.declared.Reading.{Reading}
 use Rattle.parts_text.specs.declared.Reading.TheVariants.{Before, InOrder, AfterOrder, InLen, AfterLen, Malformed}
-use Rattle.parts_text.specs.Text.{refused_line, text, unless, answer}
+use Rattle.parts_text.specs.Text.{digits, refused_line, text, unless, answer}
 use Rattle.parts_text.specs.Reading.{finished}
-use Rattle.parts_text.proofs.Puts.{decimal-one}
 use Rattle.parts_text.proofs.Lengths.{text-fits}
 
-low : (a b c : Bool) → cond a 1 (cond b 3 (cond c 3 0)) ≤ 3
-low true b c = lit≤ tt
-low false true c = lit≤ tt
-low false false true = lit≤ tt
-low false false false = lit≤ tt
+-- the test of an order and a len
+tested_by : Bool → Bool → Bool → Result (Unit {0}) Refusal
+tested_by a b c = cond a (Err OrderAbove20) (cond b (Err NoPartList) (cond c (Err NoPartList) (Ok tt)))
 
-refused-fits : (c : ℕ) → c ≤ 3 → length (refused_line c) ≤ 4096
-refused-fits c h = rw (decimal-one c (omega arith)) (lit≤ tt)
+-- a refusal's line, or a text that fits
+fits : (a b c : Bool) (t : List ℕ) → (tested_by a b c ≡ Ok tt → length t ≤ 4096) → length (unless (tested_by a b c) t) ≤ 4096
+unfolding digits tested_by
+fits true b c t h = lit≤ tt
+fits false true c t h = lit≤ tt
+fits false false true t h = lit≤ tt
+fits false false false t h = h refl
 
 answer-fits : (order len : ℕ) → length (answer order len) ≤ 4096
-unfolding answer
-answer-fits order len = go (refusal order len) refl
-  where
-    go : (c : ℕ) → refusal order len ≡ c → length (unless c (text (lists order len))) ≤ 4096
-    go zero e = let h = range-of order len e in text-fits order len h.2 h.1
-    go (suc c) e = let h = low (ltb 20 order) (eqb len 0) (ltb order len) in refused-fits (suc c) (subst (λ (n : ℕ). n ≤ 3) e h)
+unfolding answer tested_by
+answer-fits order len =
+    fits (ltb 20 order) (eqb len 0) (ltb order len) (text (lists order len)) (λ e. let h = range-of order len e in text-fits order len h.2 h.1)
+
+malformed-fits : length (refused_line 2) ≤ 4096
+unfolding digits
+malformed-fits = lit≤ tt
 
 pub finished-fits : (s : Reading) → length (finished s) ≤ 4096
-finished-fits Before = refused-fits 2 (lit≤ tt)
-finished-fits (InOrder v) = refused-fits 2 (lit≤ tt)
-finished-fits (AfterOrder v) = refused-fits 2 (lit≤ tt)
+finished-fits Before = malformed-fits
+finished-fits (InOrder v) = malformed-fits
+finished-fits (AfterOrder v) = malformed-fits
 finished-fits (InLen v w) = answer-fits v w
 finished-fits (AfterLen v w) = answer-fits v w
-finished-fits Malformed = refused-fits 2 (lit≤ tt)
+finished-fits Malformed = malformed-fits

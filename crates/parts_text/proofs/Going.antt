@@ -1,46 +1,53 @@
 -- The walk over the lists of a pair, as their lines are written: what has been written is the lines of the lists handed out, and the sum is their
 -- total. Assumes nothing.
-use mathlib.Core.Path.{◌≡◌, refl, sym, ◌∙◌, ap, ap₂, subst}
-use mathlib.Core.Bool.{true, false, true≢false}
-use mathlib.Core.List.{List, [], ◌∷◌, ◌++◌, append_assoc, append-nil, nil≢cons}
-use Prim.Native.Nat.{ℕ, zero, suc, ◌+◌, ◌-◌, ◌^◌, ◌≤◌, ◌<◌}
-use native.Mathlib.Omega.{arith}
-use native.Mathlib.Nat.{add_assoc, add-zero}
-use lib.ListN.{length, take, replicate, length-append}
-use lib.Seq.{take_at}
+use Rattle.std.proofs.Common.{◌⊎◌, inl, inr, ◌≡◌, refl, sym, ◌∙◌, ap, ap₂, subst, true, List, [], ◌∷◌, ◌++◌, append_assoc, append-nil, ℕ, ◌+◌, ◌-◌, ◌^◌, ◌≤◌, ◌<◌, arith, add_assoc, add-zero, length, take, replicate, take_at, Some, None, Result, Ok, Err}
+use mathlib.Core.List.{nil≢cons}
 use Rattle.partitions.specs.Parts.{lists, multiplicity}
 use Rattle.partitions.specs.Count.{counted, total_count}
-use Rattle.partitions.specs.Walk.{refusal, padded, started, started_by, stepped, remaining, moved}
+use Rattle.refusals.specs.declared.Refusal.{Refusal}
+use Rattle.refusals.specs.Number.{number}
+use Rattle.partitions.specs.Walk.{tested, started, started_by, stepped, remaining, moved}
 use Rattle.partitions.specs.declared.CompositionIter.{CompositionIter}
-use Rattle.partitions.specs.declared.Started.{Started}
 use Rattle.partitions.specs.declared.Stepped.{Stepped}
-use Rattle.partitions.specs.declared.Count.TheVariants.{Value}
 use Rattle.partitions.proofs.Lists.{Is}
 use Rattle.partitions.proofs.Member.{from_is, down-list}
 use Rattle.partitions.proofs.Successor.{first}
-use Rattle.partitions.proofs.Walked.{range-of, least-times, started-is, started-remains, holds, moved-remains, moved-end, stepped-first, stepped-end, step-ends}
+use Rattle.partitions.proofs.Walked.{range-of, least-times, started-is, started-range, is-first, all-remain, holds, moved-remains, moved-end, stepped-first, stepped-end, step_gives, step-ends}
+use Rattle.partitions.proofs.Stepping.{in-20}
 use Rattle.partitions.proofs.Counted.{counted-by}
 use Rattle.part_counts.proofs.Stirling.{count-below}
-use Rattle.parts_text.specs.Text.{joined, line, total_line, refused_line, text, unless, answer}
-use Rattle.parts_text.specs.Inner.{Wrote, line_of, count_of}
-use Rattle.parts_text.proofs.Puts.{wrote_none, after, reading, joined-append, joined-one}
+use Rattle.parts_text.specs.declared.out.Text.{Text}
+use Rattle.parts_text.specs.declared.Reading.{Reading}
+use Rattle.parts_text.specs.declared.Reading.TheVariants.{Before, InOrder, AfterOrder, InLen, AfterLen, Malformed}
+use Rattle.parts_text.specs.Reading.{finished}
+use Rattle.parts_text.specs.Text.{decimal, joined, spaced, newline, line, total_line, refused_line, text, unless, answer}
+use Rattle.parts_text.specs.Inner.{puts, or_nothing, listed}
+use Rattle.parts_text.proofs.Puts.{puts_none, after, joined-append, joined-one}
 
--- ---- a pair's refusal
-started-refusal : (order len : ℕ) → (started order len).refusal ≡ refusal order len
-unfolding started
-started-refusal order len = go (refusal order len) refl
-  where
-    go : (c : ℕ) → refusal order len ≡ c → (started order len).refusal ≡ refusal order len
-    go zero e = ap (λ (s : Started). s.refusal) (started-is order len e) ∙ sym e
-    go (suc c) e = ap (λ (n : ℕ). (started_by order len n).refusal) e ∙ sym e
+-- ---- a pair's text, of which its lists are written where it has some, and else its refusal follows
+pub pair-lists : (order len : ℕ) (p : Text) {q : Text} → tested order len ≡ Ok tt → q ≡ puts p (listed order len) → q ≡ puts p (answer order len)
+unfolding listed answer
+pair-lists order len p e f = f ∙ ap (λ t. puts p (or_nothing t (text (lists order len)))) e ∙ ap (λ t. puts p (unless t (text (lists order len)))) (sym e)
 
-pub answer-refused : (order len c : ℕ) → ¬ (c ≡ 0) → c ≡ (started order len).refusal → refused_line c ≡ answer order len
-unfolding answer
-answer-refused order len zero h e = absurd (h refl)
-answer-refused order len (suc c) h e = ap (λ (n : ℕ). unless n (text (lists order len))) (e ∙ started-refusal order len)
+pub pair-refused : (order len : ℕ) (p : Text) (r : Refusal) {q v : Text} → tested order len ≡ Err r → q ≡ puts p (listed order len) →
+    v ≡ puts q (refused_line (number r)) → v ≡ puts p (answer order len)
+unfolding listed answer
+pair-refused order len p r e f g =
+    after p [] (refused_line (number r)) (f ∙ ap (λ t. puts p (or_nothing t (text (lists order len)))) e) g
+    ∙ ap (λ t. puts p (unless t (text (lists order len)))) (sym e)
 
-pub in-range : (order len c : ℕ) → c ≡ 0 → c ≡ (started order len).refusal → refusal order len ≡ 0
-in-range order len c h e = sym (started-refusal order len) ∙ sym e ∙ h
+-- which pair is printed, and of which readings none is
+pub pair-of : (s : Reading) (a b : ℕ) → (s ≡ InLen a b) ⊎ (s ≡ AfterLen a b) → answer a b ≡ finished s
+pair-of s a b (inl e) = ap finished (sym e)
+pair-of s a b (inr e) = ap finished (sym e)
+
+pub no-pair : (s : Reading) → ((v w : ℕ) → s ≡ InLen v w → ⊥) → ((v w : ℕ) → s ≡ AfterLen v w → ⊥) → finished s ≡ refused_line 2
+no-pair Before f g = refl
+no-pair (InOrder v) f g = refl
+no-pair (AfterOrder v) f g = refl
+no-pair (InLen v w) f g = absurd (f v w refl)
+no-pair (AfterLen v w) f g = absurd (g v w refl)
+no-pair Malformed f g = refl
 
 -- ---- totals
 total-append : (ls ms : List (List ℕ)) → total_count (ls ++ ms) ≡ total_count ls + total_count ms
@@ -52,91 +59,108 @@ total-one : (l : List ℕ) → total_count (l ∷ []) ≡ multiplicity l
 unfolding total_count
 total-one l = add-zero (multiplicity l)
 
--- ---- the walk of the pair, its lines written
-pub record Going (order len : ℕ) (out₀ : List ℕ) (w : CompositionIter) (out : List ℕ) (at sum : ℕ) : Type 0 where
+-- ---- the walk of the pair, its lines written after what stood in p₀
+pub record Going (order len : ℕ) (p₀ : Text) (w : CompositionIter) (p : Text) (sum : ℕ) : Type 0 where
   pub done : List (List ℕ)
-  pub range : refusal order len ≡ 0
+  pub range : tested order len ≡ Ok tt
   pub order_is : w.order ≡ order
   pub len_is : w.len ≡ len
   pub at-end : remaining w ≡ [] → w.end ≡ true
   pub split : lists order len ≡ done ++ remaining w
-  pub wrote : Wrote out₀ 0 (joined line done) out at
+  pub wrote : p ≡ puts p₀ (joined line done)
   pub totals : sum ≡ total_count done
 
-some-list : (order len : ℕ) → refusal order len ≡ 0 → lists order len ≡ [] → ⊥
+some-list : (order len : ℕ) → tested order len ≡ Ok tt → lists order len ≡ [] → ⊥
 some-list order len e f =
     let h = range-of order len e in
     nil≢cons (sym f ∙ (first len order order h.1 (least-times order len h.0)).1)
 
-pub going_start : (order len : ℕ) (out : List ℕ) (w : CompositionIter) → refusal order len ≡ 0 → w ≡ (started order len).walk → Going order len out w out 0 0
+-- where the pair is refused, nothing is written
+pub start-refused : (order len : ℕ) (p : Text) (r : Refusal) → started order len ≡ Err r → (Err r ≡ tested order len) × (p ≡ puts p (listed order len))
+unfolding started listed
+start-refused order len p r e = by (tested order len) refl
+  where
+    by : (t : Result (Unit {0}) Refusal) → tested order len ≡ t → (Err r ≡ tested order len) × (p ≡ puts p (or_nothing (tested order len) (text (lists order len))))
+    by (Ok u) f = let s = started-is order len f in absurd (cc)
+    by (Err q) f =
+        let s = sym e ∙ ap (started_by order len) f in
+        let z : Err r ≡ tested order len = cc in
+        (z, puts_none p ∙ ap (λ t. puts p (or_nothing t (text (lists order len)))) (sym f))
+
+pub going_start : (order len : ℕ) (p : Text) (w : CompositionIter) → started order len ≡ Ok w → Going order len p w p 0
 unfolding joined total_count
-going_start order len out w e f =
-    let s = f ∙ ap (λ (x : Started). x.walk) (started-is order len e) in
-    let r : remaining w ≡ lists order len = ap remaining f ∙ started-remains order len e in
+going_start order len p w e =
+    let s = is-first order len w e in
+    let r = all-remain order len w e in
     record {
       done = [];
-      range = e;
+      range = started-range order len w e;
       order_is = ap (λ (x : CompositionIter). x.order) s;
       len_is = ap (λ (x : CompositionIter). x.len) s;
-      at-end = λ g. absurd (some-list order len e (sym r ∙ g));
+      at-end = λ g. absurd (some-list order len (started-range order len w e) (sym r ∙ g));
       split = sym r;
-      wrote = wrote_none;
+      wrote = puts_none p;
       totals = refl;
     }
 
-module _ {order len : ℕ} {out₀ : List ℕ} {w : CompositionIter} {out : List ℕ} {at sum : ℕ} (g : Going order len out₀ w out at sum) where
-  walk-range : refusal w.order w.len ≡ 0
-  walk-range = ap₂ refusal g.order_is g.len_is ∙ g.range
+module _ {order len : ℕ} {p₀ : Text} {w : CompositionIter} {p : Text} {sum : ℕ} (g : Going order len p₀ w p sum) where
+  walk-range : tested w.order w.len ≡ Ok tt
+  walk-range = ap₂ tested g.order_is g.len_is ∙ g.range
+
+  pub len-20 : len ≤ 20
+  len-20 = in-20 order len g.range
 
   -- a step of the walk is never refused
-  taken : (stepped w).item.refusal ≡ 0
-  taken = go (remaining w) refl
+  pub taken : (r : Refusal) → (stepped w).item ≡ Err r → ⊥
+  taken r e = go (remaining w) refl
     where
-      go : (ls : List (List ℕ)) → remaining w ≡ ls → (stepped w).item.refusal ≡ 0
-      go [] e = ap (λ (x : Stepped). x.item.refusal) (stepped-end w walk-range (g.at-end e))
-      go (l ∷ ls) e = ap (λ (x : Stepped). x.item.refusal) (stepped-first w l ls walk-range e)
+      go : (ls : List (List ℕ)) → remaining w ≡ ls → ⊥
+      go [] f = let s = ap (λ (x : Stepped). x.item) (stepped-end w walk-range (g.at-end f)) in cc
+      go (l ∷ ls) f = let s = ap (λ (x : Stepped). x.item) (stepped-first w l ls walk-range f) in cc
 
   -- the end: all the lines are written, and the total is theirs
-  pub going_end : {s : Stepped} {out' : List ℕ} {r : ℕ} → s ≡ stepped w → s.item.ended ≡ true → Wrote out at (total_line sum) out' r → Wrote out₀ 0 (answer order len) out' r
-  unfolding answer
-  going_end e f t =
-      let n : remaining w ≡ [] = step-ends w taken (ap (λ (x : Stepped). x.item.ended) (sym e) ∙ f) in
-      let d : g.done ≡ lists order len = sym (append-nil g.done) ∙ ap (λ (x : List (List ℕ)). g.done ++ x) (sym n) ∙ sym g.split in
-      reading (after g.wrote t)
-      (ap₂ (λ (ls : List (List ℕ)) (n : ℕ). joined line ls ++ total_line n) d (g.totals ∙ ap total_count d) ∙ ap (λ (n : ℕ). unless n (text (lists order len))) (sym g.range))
-
-  -- the list that the step hands out, and the others
-  pub record Next (s : Stepped) : Type 0 where
-    pub list : List ℕ
-    pub others : List (List ℕ)
-    pub remain : remaining w ≡ list ∷ others
-    pub is : s ≡ record { item = record { refusal = 0; ended = false; parts = padded list }; walk = moved w others }
-    pub front : take len s.item.parts ≡ list
-    pub count : counted (take len s.item.parts) ≡ Value (multiplicity list)
+  pub going_end : {p' : Text} → (stepped w).item ≡ Ok None → p' ≡ puts p (total_line sum) → p' ≡ puts p₀ (listed order len)
+  unfolding listed
+  going_end e t =
+      let d : g.done ≡ lists order len = sym (append-nil g.done) ∙ ap (λ (x : List (List ℕ)). g.done ++ x) (sym (step-ends w e)) ∙ sym g.split in
+      after p₀ (joined line g.done) (total_line sum) g.wrote t
+      ∙ ap (puts p₀) (ap₂ (λ (ls : List (List ℕ)) (n : ℕ). joined line ls ++ total_line n) d (g.totals ∙ ap total_count d)
+      ∙ ap (λ t. or_nothing t (text (lists order len))) (sym g.range))
 
   long : (l : List ℕ) (ls : List (List ℕ)) → remaining w ≡ l ∷ ls → Is len order order l
   long l ls e =
       let i = from_is w.len w.order w.order l l ls (holds w l ls e).2 in
       subst (λ (n : ℕ). Is n order order l) g.len_is (subst (λ (n : ℕ). Is w.len n n l) g.order_is i)
 
-  one_list : (l : List ℕ) → Is len order order l → counted l ≡ Value (multiplicity l)
+  one_list : (l : List ℕ) → Is len order order l → counted l ≡ Ok (multiplicity l)
   one_list [] i = let h = range-of order len g.range in absurd (omega (arith, i.long))
   one_list (a ∷ l) i = let h = range-of order len g.range in counted-by (a ∷ l) true (omega (arith, i.sums)) (down-list i.down)
 
-  pub next : {s : Stepped} → s ≡ stepped w → s.item.ended ≡ false → Next s
-  next {s = s} e f = go (remaining w) refl
-    where
-      go : (ls : List (List ℕ)) → remaining w ≡ ls → Next s
-      go [] n =
-          let z = ap (λ (x : Stepped). x.item.ended) (e ∙ stepped-end w walk-range (g.at-end n)) in
-          absurd (true≢false (sym z ∙ f))
-      go (l ∷ ls) n =
-          let is = e ∙ stepped-first w l ls walk-range n in
-          let i = long l ls n in
-          let front : take len s.item.parts ≡ l = ap (λ (x : Stepped). take len x.item.parts) is ∙ take_at l (replicate (20 - length l) 0) len i.long in
-          record { list = l; others = ls; remain = n; is = is; front = front; count = ap counted front ∙ one_list l i }
+  -- the list that the step hands out, and the others
+  pub record Next (parts : List ℕ) (v : CompositionIter) : Type 0 where
+    pub list : List ℕ
+    pub others : List (List ℕ)
+    pub remain : remaining w ≡ list ∷ others
+    pub moves : v ≡ moved w others
+    pub front : take len parts ≡ list
+    pub count : counted (take len parts) ≡ Ok (multiplicity list)
 
-  module _ {s : Stepped} (x : Next s) where
+  pub next : {parts : List ℕ} {v : CompositionIter} → (stepped w).item ≡ Ok (Some parts) → v ≡ (stepped w).walk → Next parts v
+  next {parts = parts} e f =
+      let h = step_gives w parts e in
+      let l = h.0 in
+      let i = long l h.1 h.2.first in
+      let front : take len parts ≡ l = ap (take len) (sym h.2.parts) ∙ take_at l (replicate (20 - length l) 0) len i.long in
+      record {
+        list = l;
+        others = h.1;
+        remain = h.2.first;
+        moves = f ∙ ap (λ (x : Stepped). x.walk) (stepped-first w l h.1 walk-range h.2.first);
+        front = front;
+        count = ap counted front ∙ one_list l i;
+      }
+
+  module _ {parts : List ℕ} {v : CompositionIter} (x : Next parts v) where
     order-kept : (ls : List (List ℕ)) → (moved w ls).order ≡ order
     order-kept [] = g.order_is
     order-kept (l ∷ ls) = g.order_is
@@ -145,20 +169,18 @@ module _ {order len : ℕ} {out₀ : List ℕ} {w : CompositionIter} {out : List
     len-kept [] = g.len_is
     len-kept (l ∷ ls) = g.len_is
 
-    rest : remaining s.walk ≡ x.others
-    rest = ap (λ (y : Stepped). remaining y.walk) x.is ∙ moved-remains w x.list x.others x.remain
+    rest : remaining v ≡ x.others
+    rest = ap remaining x.moves ∙ moved-remains w x.list x.others x.remain
 
-    pub parts-fit : len ≤ length s.item.parts
-    parts-fit =
-        let a = ap (λ (y : Stepped). length y.item.parts) x.is ∙ length-append x.list (replicate (20 - length x.list) 0) in
-        let b = (long x.list x.others x.remain).long in
-        omega arith
-
-    pub falls : length (remaining s.walk) < length (remaining w)
+    pub falls : length (remaining v) < length (remaining w)
     falls = let a = ap length rest in let b = ap length x.remain in omega arith
 
-    counts : (n : ℕ) → n ≡ count_of (counted (take len s.item.parts)) → n ≡ multiplicity x.list
-    counts n e = e ∙ ap count_of x.count
+    -- the list is counted
+    pub list_counts : (r : Refusal) → counted (take len parts) ≡ Err r → ⊥
+    list_counts r e = let c = x.count in cc
+
+    counts : (n : ℕ) → counted (take len parts) ≡ Ok n → n ≡ multiplicity x.list
+    counts n e = let c = x.count in cc
 
     whole : lists order len ≡ (g.done ++ (x.list ∷ [])) ++ x.others
     whole = g.split ∙ ap (λ (ls : List (List ℕ)). g.done ++ ls) x.remain ∙ sym (append_assoc g.done (x.list ∷ []) x.others)
@@ -166,24 +188,24 @@ module _ {order len : ℕ} {out₀ : List ℕ} {w : CompositionIter} {out : List
     more : total_count (g.done ++ (x.list ∷ [])) ≡ sum + multiplicity x.list
     more = total-append g.done (x.list ∷ []) ∙ ap₂ ◌+◌ (sym g.totals) (total-one x.list)
 
-    pub sum_fits : (n : ℕ) → n ≡ count_of (counted (take len s.item.parts)) → sum + n < 2 ^ 64
+    pub sum_fits : (n : ℕ) → counted (take len parts) ≡ Ok n → sum + n < 2 ^ 64
     sum_fits n e =
         let h = range-of order len g.range in
         let t = count-below order len h.2 h.1 in
         let a = ap total_count whole ∙ total-append (g.done ++ (x.list ∷ [])) x.others in
         omega (arith, more, counts n e)
 
-    pub going_on : {out' : List ℕ} {at' n : ℕ} → Wrote out at (line_of (counted (take len s.item.parts)) (take len s.item.parts)) out' at' →
-        n ≡ count_of (counted (take len s.item.parts)) → Going order len out₀ s.walk out' at' (sum + n)
-    going_on {n = n} t e = record {
+    pub going_on : {p' : Text} {n : ℕ} → counted (take len parts) ≡ Ok n → p' ≡ puts p (decimal n ++ joined spaced (take len parts) ++ newline) →
+        Going order len p₀ v p' (sum + n)
+    going_on {n = n} e t = record {
       done = g.done ++ (x.list ∷ []);
       range = g.range;
-      order_is = ap (λ (y : Stepped). y.walk.order) x.is ∙ order-kept x.others;
-      len_is = ap (λ (y : Stepped). y.walk.len) x.is ∙ len-kept x.others;
-      at-end = λ h. ap (λ (y : Stepped). y.walk.end) x.is ∙ moved-end w x.others (sym rest ∙ h);
+      order_is = ap (λ (y : CompositionIter). y.order) x.moves ∙ order-kept x.others;
+      len_is = ap (λ (y : CompositionIter). y.len) x.moves ∙ len-kept x.others;
+      at-end = λ h. ap (λ (y : CompositionIter). y.end) x.moves ∙ moved-end w x.others (sym rest ∙ h);
       split = whole ∙ ap (λ (ls : List (List ℕ)). (g.done ++ (x.list ∷ [])) ++ ls) (sym rest);
       wrote =
-          reading (after g.wrote (reading t (ap₂ line_of x.count x.front)))
-          (ap (λ (y : List ℕ). joined line g.done ++ y) (sym (joined-one line x.list)) ∙ sym (joined-append line g.done (x.list ∷ [])));
+          after p₀ (joined line g.done) (line x.list) g.wrote (t ∙ ap (puts p) (ap₂ (λ (n : ℕ) (l : List ℕ). decimal n ++ joined spaced l ++ newline) (counts n e) x.front))
+          ∙ ap (puts p₀) (ap (λ (y : List ℕ). joined line g.done ++ y) (sym (joined-one line x.list)) ∙ sym (joined-append line g.done (x.list ∷ [])));
       totals = ap (λ (m : ℕ). sum + m) (counts n e) ∙ sym more;
     }

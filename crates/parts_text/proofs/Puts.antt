@@ -1,77 +1,51 @@
 -- Texts written one after the other, and the digits of a number one after the other. Assumes nothing.
-use mathlib.Core.Path.{◌≡◌, refl, ◌∙◌, ap, sym, subst}
-use mathlib.Core.Bool.{Bool, true, false, cond}
-use mathlib.Core.List.{List, [], ◌∷◌, ◌++◌, append_assoc, append-nil}
-use Prim.Native.Nat.{ℕ, zero, suc, ◌+◌, ◌/◌, ◌%◌, ◌<◌, ◌≤◌}
-use native.Mathlib.Nat.{add-zero, zero-add}
-use native.Mathlib.Numerals.{add-one}
-use native.Mathlib.Omega.{arith}
-use lib.Dec.{ltb}
-use lib.ListN.{length, get_or, take, drop, set, length-append, length-set}
-use lib.Seq.{length-take-le, take-suc, sets, sets-eq}
-use borrow.Author.Tests.{lt-ltb, le-ltb}
+use Rattle.std.proofs.Common.{◌≡◌, refl, ◌∙◌, ap, sym, cond, List, [], ◌∷◌, ◌++◌, append_assoc, append-nil, ℕ, zero, suc, ◌+◌, ◌/◌, ◌%◌, ◌<◌, ◌≤◌, add-zero, zero-add, add-one, arith, ltb, length, get_or, take, drop, set, length-append, length-set, length-take-le, take-suc, lt-ltb, le-ltb}
+use lib.Seq.{sets, sets-eq}
 use Rattle.parts_text.specs.Text.{digits, decimal, joined}
 use Rattle.parts_text.specs.Printed.{written}
-use Rattle.parts_text.specs.Inner.{Place, place, put, puts, Wrote}
-
--- ---- a byte
-pub put-within : (out : List ℕ) (at b : ℕ) → at < length out → Wrote out at (b ∷ []) (set out at b) (at + 1)
-unfolding puts
-put-within out at b h = record { is = rw (add-one, lt-ltb at (length out) h) }
-
-pub put-past : (out : List ℕ) (at b : ℕ) → length out ≤ at → Wrote out at (b ∷ []) out at
-unfolding puts
-put-past out at b h = record { is = rw (le-ltb at (length out) h) }
+use Rattle.parts_text.specs.declared.out.Text.{Text}
+use Rattle.parts_text.specs.Inner.{put, puts}
 
 -- ---- texts
-puts-append : (p : Place) (s t : List ℕ) → puts p (s ++ t) ≡ puts (puts p s) t
+puts-append : (p : Text) (s t : List ℕ) → puts p (s ++ t) ≡ puts (puts p s) t
 unfolding puts
 puts-append p [] t = refl
 puts-append p (b ∷ s) t = puts-append (put p b) s t
 
-pub wrote_none : {out : List ℕ} {at : ℕ} → Wrote out at [] out at
+pub puts_none : (p : Text) → p ≡ puts p []
 unfolding puts
-wrote_none = record { is = refl }
+puts_none p = refl
 
--- writing keeps the array's length
-length-put : (p : Place) (b : ℕ) (within : Bool) → length (cond within (place (set p.out p.at b) (suc p.at)) p).out ≡ length p.out
-length-put p b true = length-set p.out p.at b
-length-put p b false = refl
+-- a text after a text, and a byte after a text
+pub after : (p : Text) (s t : List ℕ) {q r : Text} → q ≡ puts p s → r ≡ puts q t → r ≡ puts p (s ++ t)
+after p s t e f = f ∙ ap (λ (q : Text). puts q t) e ∙ sym (puts-append p s t)
 
-length-puts : (p : Place) (t : List ℕ) → length (puts p t).out ≡ length p.out
+pub after_byte : (p : Text) (s : List ℕ) (b : ℕ) {q r : Text} → q ≡ puts p s → r ≡ put q b → r ≡ puts p (s ++ (b ∷ []))
 unfolding puts
-length-puts p [] = refl
-length-puts p (b ∷ t) = length-puts (put p b) t ∙ length-put p b (ltb p.at (length p.out))
+after_byte p s b e f = after p s (b ∷ []) e f
 
-pub same-room : {o o' t : List ℕ} {a a' : ℕ} → Wrote o a t o' a' → length o' ≡ length o
-same-room {o = o} {t = t} {a = a} w = ap (λ (p : Place). length p.out) w.is ∙ length-puts (place o a) t
-
--- a text after a text
-pub after : {o o' o'' s t : List ℕ} {a a' a'' : ℕ} → Wrote o a s o' a' → Wrote o' a' t o'' a'' → Wrote o a (s ++ t) o'' a''
-after {o = o} {s = s} {t = t} {a = a} e f =
-    record { is = f.is ∙ ap (λ (p : Place). puts p t) e.is ∙ sym (puts-append (place o a) s t) }
-
-pub reading : {o o' s t : List ℕ} {a a' : ℕ} → Wrote o a s o' a' → s ≡ t → Wrote o a t o' a'
-reading {o = o} {o' = o'} {a = a} {a' = a'} w e = subst (λ (t : List ℕ). Wrote o a t o' a') e w
+pub byte-first : (p : Text) (b : ℕ) (t : List ℕ) {q r : Text} → q ≡ put p b → r ≡ puts q t → r ≡ puts p (b ∷ t)
+unfolding puts
+byte-first p b t e f = f ∙ ap (λ (q : Text). puts q t) e
 
 -- a text that fits stands at the front
-puts-sets : (t out : List ℕ) (at : ℕ) → at + length t ≤ length out → puts (place out at) t ≡ place (sets out at t) (at + length t)
+puts-sets : (t out : List ℕ) (at : ℕ) → at + length t ≤ length out → puts (record { bytes = out; len = at }) t ≡ record { bytes = sets out at t; len = at + length t }
 unfolding puts
-puts-sets [] out at h = ap (place out) (sym (add-zero at))
+puts-sets [] out at h = ap (λ (n : ℕ). record { bytes = out; len = n }) (sym (add-zero at))
 puts-sets (b ∷ t) out at h =
     let e : suc at + length t ≡ at + suc (length t) = omega arith in
     let k : suc at + length t ≤ length (set out at b) = simp length-set (omega arith) in
-    rw (lt-ltb at (length out) (omega arith)) (puts-sets t (set out at b) (suc at) k ∙ ap (place (sets (set out at b) (suc at) t)) e)
+    rw (lt-ltb at (length out) (omega arith)) (puts-sets t (set out at b) (suc at) k ∙ ap (λ (n : ℕ). record { bytes = sets (set out at b) (suc at) t; len = n }) e)
 
-module _ {t out out' : List ℕ} {r : ℕ} (h : length t ≤ length out) (w : Wrote out 0 t out' r) where
-  whole : place out' r ≡ place (sets out 0 t) (0 + length t)
-  whole = w.is ∙ puts-sets t out 0 (omega arith)
+module _ (t out : List ℕ) {p : Text} (h : length t ≤ length out) (w : p ≡ puts (record { bytes = out; len = 0 }) t) where
+  whole : p ≡ record { bytes = sets out 0 t; len = 0 + length t }
+  whole = w ∙ puts-sets t out 0 (omega arith)
 
-  pub front_length : r ≡ length t
-  front_length = ap (λ (p : Place). p.at) whole ∙ zero-add (length t)
+  pub front_length : p.len ≡ length t
+  front_length = ap (λ (p : Text). p.len) whole ∙ zero-add (length t)
 
-  pub front_bytes : out' ≡ written t out
-  front_bytes = ap (λ (p : Place). p.out) whole ∙ sets-eq t out 0 (omega arith) ∙ ap (λ (n : ℕ). t ++ drop n out) (zero-add (length t))
+  pub front_bytes : p.bytes ≡ written t out
+  front_bytes = ap (λ (p : Text). p.bytes) whole ∙ sets-eq t out 0 (omega arith) ∙ ap (λ (n : ℕ). t ++ drop n out) (zero-add (length t))
 
 -- for a caller that hands on the text: its length is within the array
 module _ (t out : List ℕ) {out' : List ℕ} {r : ℕ} (e : r ≡ length t) (f : out' ≡ written t out) where

@@ -1,11 +1,6 @@
 -- When the answer is settled, and no more of the input need be read: where the input is malformed, and nowhere else. Assumes nothing.
-use mathlib.Core.Path.{◌≡◌, refl, ◌∙◌, ap, sym}
-use mathlib.Core.Bool.{Bool, true, false, cond, true≢false}
-use mathlib.Core.List.{List, [], ◌∷◌, ◌++◌}
-use Prim.Native.Nat.{ℕ, zero, suc, ◌+◌, ◌/◌, ◌%◌, ◌<◌, ◌≤◌}
-use native.Mathlib.Omega.{arith}
-use lib.Dec.{ltb, eqb}
-use lib.ListN.{get_or}
+use Rattle.std.proofs.Common.{◌≡◌, refl, ◌∙◌, ap, sym, Bool, true, false, cond, true≢false, List, [], ◌∷◌, ◌++◌, ℕ, zero, suc, ◌+◌, ◌/◌, ◌%◌, ◌<◌, ◌≤◌, arith, ltb, eqb, get_or, Ok, Err}
+use Rattle.refusals.specs.declared.Refusal.TheVariants.{OrderAbove20, NoPartList}
 use Rattle.partitions.specs.Parts.{lists, multiplicity}
 use Rattle.partitions.specs.Count.{total_count}
 use Rattle.parts_text.specs.declared.input.Kind.{Kind}
@@ -66,7 +61,7 @@ text-no-2 (l ∷ ls) e =
     let c = no-word-on (decimal n ++ joined spaced l) newline (no-word-on (decimal n) (joined spaced l) (decimal-no-word n n (omega arith))) in
     no-refusal (text (l ∷ ls)) (no-word-on (line l ++ joined line ls) (total_line (total_count (l ∷ ls))) (no-word-on (line l) (joined line ls) c)) e
 
-other-no-2 : (a b c : Bool) (t : List ℕ) → ¬ (t ≡ refused_line 2) → ¬ (unless (cond a 1 (cond b 3 (cond c 3 0))) t ≡ refused_line 2)
+other-no-2 : (a b c : Bool) (t : List ℕ) → ¬ (t ≡ refused_line 2) → ¬ (unless (cond a (Err OrderAbove20) (cond b (Err NoPartList) (cond c (Err NoPartList) (Ok tt)))) t ≡ refused_line 2)
 unfolding digits
 other-no-2 true b c t h e = let f : ◌≡◌ {A = ℕ} 49 50 = ap (λ (l : List ℕ). get_or l 8 0) e in omega arith
 other-no-2 false true c t h e = let f : ◌≡◌ {A = ℕ} 51 50 = ap (λ (l : List ℕ). get_or l 8 0) e in omega arith

@@ -1,8 +1,10 @@
 -- The text of the part lists of an order and a len, as ASCII bytes: numbers, lines, the last line, and a refusal. Assumes nothing.
-use Rattle.std.specs.Prelude.{cond, List, [], ◌∷◌, ◌++◌, ℕ, zero, suc, ◌+◌, ◌/◌, ◌%◌, ltb}
+use Rattle.std.specs.Prelude.{cond, List, [], ◌∷◌, ◌++◌, ℕ, zero, suc, ◌+◌, ◌/◌, ◌%◌, ltb, Result, Ok, Err}
+use Rattle.refusals.specs.declared.Refusal.{Refusal}
+use Rattle.refusals.specs.Number.{number}
 use Rattle.partitions.specs.Parts.{lists, multiplicity}
 use Rattle.partitions.specs.Count.{total_count}
-use Rattle.partitions.specs.Walk.{refusal}
+use Rattle.partitions.specs.Walk.{tested}
 
 -- the decimal digits of n, as few as show it, where they are at most k + 1
 unfoldable pub digits : ℕ → ℕ → List ℕ
@@ -28,22 +30,26 @@ spaced a = 32 ∷ decimal a
 abbrev pub line : List ℕ → List ℕ
 line l = decimal (multiplicity l) ++ joined spaced l ++ newline
 
--- `total`, a space, and the total
-abbrev pub total_line : ℕ → List ℕ
-total_line n = (116 ∷ 111 ∷ 116 ∷ 97 ∷ 108 ∷ []) ++ spaced n ++ newline
+-- a word, a space, and a number
+abbrev pub last_line : List ℕ → ℕ → List ℕ
+last_line word n = word ++ spaced n ++ newline
 
--- `refused`, a space, and the number
+-- `total`, and the total
+abbrev pub total_line : ℕ → List ℕ
+total_line = last_line (116 ∷ 111 ∷ 116 ∷ 97 ∷ 108 ∷ [])
+
+-- `refused`, and the number
 abbrev pub refused_line : ℕ → List ℕ
-refused_line c = (114 ∷ 101 ∷ 102 ∷ 117 ∷ 115 ∷ 101 ∷ 100 ∷ []) ++ spaced c ++ newline
+refused_line = last_line (114 ∷ 101 ∷ 102 ∷ 117 ∷ 115 ∷ 101 ∷ 100 ∷ [])
 
 -- a line for each list, then the total of the multiplicities
 abbrev pub text : List (List ℕ) → List ℕ
 text ls = joined line ls ++ total_line (total_count ls)
 
-abbrev pub unless : ℕ → List ℕ → List ℕ
-unless zero t = t
-unless (suc c) t = refused_line (suc c)
+abbrev pub unless : Result (Unit {0}) Refusal → List ℕ → List ℕ
+unless (Ok _) t = t
+unless (Err r) t = refused_line (number r)
 
 -- the text of a pair: its lists, or its refusal
 unfoldable pub answer : ℕ → ℕ → List ℕ
-answer order len = unless (refusal order len) (text (lists order len))
+answer order len = unless (tested order len) (text (lists order len))

@@ -8,6 +8,8 @@ ghost use Rattle.parts_text.specs.Reading.{fed, finished, settled};
 mod input;
 mod out;
 
+use out::Text;
+
 // How far the input has been read: what of the order and the len has been seen. Numbers above 20 behave alike, and are kept as 21.
 #[derive(Clone, Copy)]
 pub enum Reading {
@@ -31,11 +33,8 @@ pub fn feed(state: Reading, bytes: &[u8]) -> Reading
     ensures { result ≡ fed state bytes.now }
 {
     let mut s = state;
-    let mut i = 0;
-    while i < bytes.len() {
-        let k = input::kind_of(bytes[i]);
-        s = input::step(s, k);
-        i += 1;
+    for b in bytes {
+        s = input::step(s, input::kind_of(*b));
     }
     s
 }
@@ -45,21 +44,20 @@ pub fn feed(state: Reading, bytes: &[u8]) -> Reading
 pub fn is_settled(state: Reading) -> bool
     ensures { result ≡ settled state }
 {
-    match state {
-        Reading::Before => false,
-        Reading::InOrder(_) => false,
-        Reading::AfterOrder(_) => false,
-        Reading::InLen(_, _) => false,
-        Reading::AfterLen(_, _) => false,
-        Reading::Malformed => true,
-    }
+    matches!(state, Reading::Malformed)
 }
 
 // The text of what was read stands at the front of `out`, and the answer is its length. The longest text has 2134 bytes.
 pub fn report(state: Reading, out: &mut [u8; 4096]) -> usize
     ensures { (result ≡ length (finished state)) × (out.new ≡ written (finished state) out.old) }
 {
-    out::put_finished(out, state)
+    let mut text = Text {
+        bytes: *out,
+        len: 0,
+    };
+    text.push_finished(state);
+    *out = text.bytes;
+    text.len
 }
 
 // The same from an input that is at hand whole.

@@ -1,14 +1,15 @@
 // Exact curves.
 use capi_exact::exact_curves;
-use replay_text::{UNKNOWN, size_at, whole_list};
+use replay_text::Call;
 
-pub fn call(op: u64, n: &[usize], l: &[i64], ends: &[usize; 12], out: &mut [i64]) -> u8 {
-    let a_order = size_at(n, 0);
-    let b_order = size_at(n, 1);
-    let a = whole_list(l, ends, 0);
-    let b = whole_list(l, ends, 1);
-    let m = size_at(n, 2);
-    match op {
+// The operation's number stands here alone, beside its function's name.
+pub fn call(operation: u64, case: &Call<i64>, out: &mut [i64]) -> Option<u8> {
+    let a_order = case.order(0);
+    let b_order = case.order(1);
+    let a = case.given(0);
+    let b = case.given(1);
+    let m = case.order(2);
+    Some(match operation {
         0x701 => exact_curves::sugamdely_exact_curve_sum(a_order, a, b_order, b, out),
         0x702 => exact_curves::sugamdely_exact_curve_difference(a_order, a, b_order, b, out),
         0x703 => exact_curves::sugamdely_exact_curve_combinatorial_derivatives(
@@ -19,6 +20,6 @@ pub fn call(op: u64, n: &[usize], l: &[i64], ends: &[usize; 12], out: &mut [i64]
         0x706 => exact_curves::sugamdely_exact_curve_combinatorial_derivative(
             a_order, a, b_order, b, m, out,
         ),
-        _ => UNKNOWN,
-    }
+        _ => return None,
+    })
 }

@@ -1,15 +1,16 @@
 // Exact surfaces, and the carry.
 use capi_exact::{carry, exact_surfaces};
-use replay_text::{UNKNOWN, size_at, whole_list};
+use replay_text::Call;
 
-pub fn call(op: u64, n: &[usize], l: &[i64], ends: &[usize; 12], out: &mut [i64]) -> u8 {
-    let a_order = size_at(n, 0);
-    let b_order = size_at(n, 1);
-    let a = whole_list(l, ends, 0);
-    let b = whole_list(l, ends, 1);
-    let i = size_at(n, 2);
-    let j = size_at(n, 3);
-    match op {
+// The operation's number stands here alone, beside its function's name.
+pub fn call(operation: u64, case: &Call<i64>, out: &mut [i64]) -> Option<u8> {
+    let a_order = case.order(0);
+    let b_order = case.order(1);
+    let a = case.given(0);
+    let b = case.given(1);
+    let i = case.order(2);
+    let j = case.order(3);
+    Some(match operation {
         0x801 => exact_surfaces::sugamdely_exact_surface_sum(a_order, a, b_order, b, out),
         0x802 => exact_surfaces::sugamdely_exact_surface_difference(a_order, a, b_order, b, out),
         0x803 => exact_surfaces::sugamdely_exact_surface_combinatorial_derivatives(
@@ -23,6 +24,6 @@ pub fn call(op: u64, n: &[usize], l: &[i64], ends: &[usize; 12], out: &mut [i64]
         ),
         0x808 => carry::sugamdely_exact_composite_derivative(a_order, a, b_order, b, i, out),
         0x809 => carry::sugamdely_exact_composite_derivatives(a_order, a, b_order, b, i, out),
-        _ => UNKNOWN,
-    }
+        _ => return None,
+    })
 }

@@ -4,91 +4,113 @@ use crate::jets::{
     curve_met, next_curve, next_parameter, next_surface, parameter_met, surface_met,
 };
 use crate::recipes;
-use booleans::both;
 use exact::{CurveDerivatives, ParameterCurve, SurfaceDerivatives};
-use replay_text::{
-    checked_met, first_wholes, next_size, next_wholes, refusal_met, wholes_met, wholes_part,
-};
+use refusals::{Refusal, number_of};
+use replay_text::{list_met, next, next_list, number_met, refusal_met};
 use std::io::Read;
 
-fn on_curves(input: &mut impl Read, operation: usize) -> bool {
+// On two curves and an order asked.
+fn on_curves<I: Read, F: Fn(&mut I, CurveDerivatives, CurveDerivatives, usize) -> bool>(
+    input: &mut I,
+    operation_met: F,
+) -> bool
+    requires { F.IsAlwaysCallable operation_met }
+{
     let a = next_curve(input);
     let b = next_curve(input);
-    let m = next_size(input);
-    match operation {
-        1 => curve_met(input, a.sum(b)),
-        2 => curve_met(input, a.difference(b)),
-        3 => curve_met(input, a.combinatorial_derivatives(b)),
-        4 => curve_met(input, a.quotient(b)),
-        5 => curve_met(input, a.derivative()),
-        _ => checked_met(input, a.combinatorial_derivative(b, m)),
-    }
+    let m = next(input);
+    operation_met(input, a, b, m)
 }
 
-fn on_surfaces(input: &mut impl Read, operation: usize) -> bool {
+// On two surfaces and a pair of orders asked.
+fn on_surfaces<
+    I: Read,
+    F: Fn(&mut I, SurfaceDerivatives, SurfaceDerivatives, usize, usize) -> bool,
+>(input: &mut I, operation_met: F) -> bool
+    requires { F.IsAlwaysCallable operation_met }
+{
     let a = next_surface(input);
     let b = next_surface(input);
-    let m = next_size(input);
-    let n = next_size(input);
-    match operation {
-        11 => surface_met(input, a.sum(b)),
-        12 => surface_met(input, a.difference(b)),
-        13 => surface_met(input, a.combinatorial_derivatives(b)),
-        14 => surface_met(input, a.quotient(b)),
-        15 => surface_met(input, a.derivative_u()),
-        16 => surface_met(input, a.derivative_v()),
-        _ => checked_met(input, a.combinatorial_derivative(b, m, n)),
-    }
+    let m = next(input);
+    let n = next(input);
+    operation_met(input, a, b, m, n)
 }
 
 fn along(input: &mut impl Read) -> bool {
     let a = next_surface(input);
     let c = next_parameter(input);
-    let m = next_size(input);
-    both(
-        checked_met(input, a.composite_derivative(c, m)),
-        curve_met(input, a.composite_derivatives(c, m)),
-    )
+    let m = next(input);
+    number_met(input, a.composite_derivative(c, m))
+        & curve_met(input, a.composite_derivatives(c, m))
 }
 
-fn from_list(input: &mut impl Read, operation: usize) -> bool {
-    let order = next_size(input);
+// On an order and a list.
+fn from_list<I: Read, F: Fn(&mut I, usize, &[i64]) -> bool>(input: &mut I, jet_met: F) -> bool
+    requires { F.IsAlwaysCallable jet_met }
+{
+    let order = next(input);
     let mut l = [0i64; 256];
-    let n = next_wholes(input, &mut l);
-    let list = wholes_part(&l, 0, n);
-    match operation {
-        31 => curve_met(input, CurveDerivatives::from_list(order, list)),
-        32 => surface_met(input, SurfaceDerivatives::from_list(order, list)),
-        _ => parameter_met(input, ParameterCurve::from_list(order, list)),
-    }
+    let n = next_list(input, &mut l);
+    jet_met(input, order, &l[..n])
 }
 
-fn next_jet_into(input: &mut impl Read, operation: usize, out: &mut [i64]) -> u8 {
-    match operation {
-        34 => next_curve(input).into_list(out),
-        35 => next_surface(input).into_list(out),
-        _ => next_parameter(input).into_list(out),
-    }
-}
-
-// The list that is lent, as it stands before and after.
-fn into_list(input: &mut impl Read, operation: usize) -> bool {
+// The list that is lent, as it stands before, then the jet; its refusal, and the list as it stands after.
+fn into_list<I: Read, F: Fn(&mut I, &mut [i64]) -> Result<(), Refusal>>(
+    input: &mut I,
+    next_into: F,
+) -> bool
+    requires { F.IsAlwaysCallable next_into }
+{
     let mut l = [0i64; 256];
-    let n = next_wholes(input, &mut l);
-    let out = first_wholes(&mut l, n);
-    let refusal = next_jet_into(input, operation, out);
-    both(refusal_met(input, refusal), wholes_met(input, out))
+    let n = next_list(input, &mut l);
+    let answer = next_into(input, &mut l[..n]);
+    refusal_met(input, number_of(answer)) & list_met(input, &l[..n])
 }
 
-pub fn next_case(input: &mut impl Read) -> bool {
-    let operation = next_size(input);
+pub fn next_case<I: Read>(input: &mut I) -> bool {
+    let operation: usize = next(input);
     match operation {
-        1..=6 => on_curves(input, operation),
-        11..=17 => on_surfaces(input, operation),
+        1 => on_curves(input, |i, a, b, _| curve_met(i, a.sum(b))),
+        2 => on_curves(input, |i, a, b, _| curve_met(i, a.difference(b))),
+        3 => on_curves(
+            input,
+            |i, a, b, _| curve_met(i, a.combinatorial_derivatives(b)),
+        ),
+        4 => on_curves(input, |i, a, b, _| curve_met(i, a.quotient(b))),
+        5 => on_curves(input, |i, a, _, _| curve_met(i, a.derivative())),
+        6 => on_curves(
+            input,
+            |i, a, b, m| number_met(i, a.combinatorial_derivative(b, m)),
+        ),
+        11 => on_surfaces(input, |i, a, b, _, _| surface_met(i, a.sum(b))),
+        12 => on_surfaces(input, |i, a, b, _, _| surface_met(i, a.difference(b))),
+        13 => on_surfaces(
+            input,
+            |i, a, b, _, _| surface_met(i, a.combinatorial_derivatives(b)),
+        ),
+        14 => on_surfaces(input, |i, a, b, _, _| surface_met(i, a.quotient(b))),
+        15 => on_surfaces(input, |i, a, _, _, _| surface_met(i, a.derivative_u())),
+        16 => on_surfaces(input, |i, a, _, _, _| surface_met(i, a.derivative_v())),
+        17 => on_surfaces(input, |i, a, b, m, n| {
+            number_met(i, a.combinatorial_derivative(b, m, n))
+        }),
         21 => along(input),
-        31..=33 => from_list(input, operation),
-        34..=36 => into_list(input, operation),
+        31 => from_list(
+            input,
+            |i, order, l| curve_met(i, CurveDerivatives::from_list(order, l)),
+        ),
+        32 => from_list(input, |i, order, l| {
+            surface_met(i, SurfaceDerivatives::from_list(order, l))
+        }),
+        33 => from_list(
+            input,
+            |i, order, l| parameter_met(i, ParameterCurve::from_list(order, l)),
+        ),
+        34 => into_list(input, |i, out| next_curve(i).into_list(out)),
+        35 => into_list(input, |i, out| next_surface(i).into_list(out)),
+        36 => into_list(input, |i, out| next_parameter(i).into_list(out)),
         41 => recipes::of_curves(input),
-        _ => recipes::both_roads(input),
+        42 => recipes::both_roads(input),
+        _ => false,
     }
 }

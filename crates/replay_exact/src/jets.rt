@@ -1,57 +1,61 @@
 // Exact jets of a case, each an order and its array as a list, and the answers wanted: refusal, order and entries.
-use booleans::both;
-use exact::{
-    CurveAnswer, CurveDerivatives, ParameterAnswer, ParameterCurve, SurfaceAnswer,
-    SurfaceDerivatives,
-};
-use replay_text::{answer_met, next_size, next_wholes, wholes_met};
+use exact::{CurveDerivatives, ParameterCurve, SurfaceDerivatives};
+use refusals::Refusal;
+use replay_text::{list_met, met, next, next_array, numbered, refusal_met};
 use std::io::Read;
 
+pub const NO_CURVE: CurveDerivatives = CurveDerivatives {
+    order: 0,
+    entries: [0; 21],
+};
+
+pub const NO_SURFACE: SurfaceDerivatives = SurfaceDerivatives {
+    order: 0,
+    entries: [0; 231],
+};
+
+const NO_PARAMETER: ParameterCurve = ParameterCurve {
+    order: 0,
+    u: [0; 21],
+    v: [0; 21],
+};
+
 pub fn next_curve(input: &mut impl Read) -> CurveDerivatives {
-    let order = next_size(input);
-    let mut entries = [0i64; 21];
-    next_wholes(input, &mut entries);
-    CurveDerivatives { order, entries }
+    CurveDerivatives {
+        order: next(input),
+        entries: next_array(input),
+    }
 }
 
 pub fn next_surface(input: &mut impl Read) -> SurfaceDerivatives {
-    let order = next_size(input);
-    let mut entries = [0i64; 231];
-    next_wholes(input, &mut entries);
-    SurfaceDerivatives { order, entries }
+    SurfaceDerivatives {
+        order: next(input),
+        entries: next_array(input),
+    }
 }
 
 pub fn next_parameter(input: &mut impl Read) -> ParameterCurve {
-    let order = next_size(input);
-    let mut u = [0i64; 21];
-    let mut v = [0i64; 21];
-    next_wholes(input, &mut u);
-    next_wholes(input, &mut v);
-    ParameterCurve { order, u, v }
+    ParameterCurve {
+        order: next(input),
+        u: next_array(input),
+        v: next_array(input),
+    }
 }
 
-pub fn curve_met(input: &mut impl Read, a: CurveAnswer) -> bool {
-    let jet = a.jet;
-    let entries = jet.entries;
-    both(
-        answer_met(input, a.refusal, jet.order),
-        wholes_met(input, &entries),
-    )
+pub fn curve_met(input: &mut impl Read, answer: Result<CurveDerivatives, Refusal>) -> bool {
+    let (number, jet) = numbered(answer, NO_CURVE);
+    refusal_met(input, number) & met(input, jet.order) & list_met(input, &jet.entries)
 }
 
-pub fn surface_met(input: &mut impl Read, a: SurfaceAnswer) -> bool {
-    let jet = a.jet;
-    let entries = jet.entries;
-    both(
-        answer_met(input, a.refusal, jet.order),
-        wholes_met(input, &entries),
-    )
+pub fn surface_met(input: &mut impl Read, answer: Result<SurfaceDerivatives, Refusal>) -> bool {
+    let (number, jet) = numbered(answer, NO_SURFACE);
+    refusal_met(input, number) & met(input, jet.order) & list_met(input, &jet.entries)
 }
 
-pub fn parameter_met(input: &mut impl Read, a: ParameterAnswer) -> bool {
-    let jet = a.jet;
-    let u = jet.u;
-    let v = jet.v;
-    let head = answer_met(input, a.refusal, jet.order);
-    both(head, both(wholes_met(input, &u), wholes_met(input, &v)))
+pub fn parameter_met(input: &mut impl Read, answer: Result<ParameterCurve, Refusal>) -> bool {
+    let (number, jet) = numbered(answer, NO_PARAMETER);
+    refusal_met(input, number)
+        & met(input, jet.order)
+        & list_met(input, &jet.u)
+        & list_met(input, &jet.v)
 }

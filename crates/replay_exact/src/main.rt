@@ -13,12 +13,10 @@ mod recipes;
 mod walks;
 mod whole_numbers;
 
-use replay_text::{next_group, next_word};
 use std::io;
 use std::io::Read;
 
-fn next_case(input: &mut impl Read) -> bool {
-    let family = next_word(input);
+fn next_case(input: &mut impl Read, family: u64) -> bool {
     match family {
         1 => checked::next_case(input),
         2 => walks::next_case(input),
@@ -28,16 +26,5 @@ fn next_case(input: &mut impl Read) -> bool {
 }
 
 fn main(rt: HostRuntime) -> io::Result<()> {
-    let mut input = rt.stdin();
-    let mut group = next_group(&mut input);
-    let mut turns = 0u32;
-    while turns < 100000 {
-        if group.cases == 0 {
-            return Ok(());
-        }
-        let met = next_case(&mut input);
-        group = group.after(&rt, &mut input, met)?;
-        turns += 1;
-    }
-    Ok(())
+    replay_text::replay(&rt, rt.stdin(), |input, family| next_case(input, family))
 }

@@ -1,25 +1,28 @@
-// Part lists.
+// Part lists. The operation's number stands here alone, beside its function's name.
 use capi_exact::part_lists;
-use replay_text::{UNKNOWN, size_at};
+use replay_text::{Call, Fill};
 
-// A walk is the first list lent, the parts handed out are the second.
-pub fn walks(op: u64, n: &[usize], walk: &mut [usize], list: &mut [usize]) -> u8 {
-    let order = size_at(n, 0);
-    let len = size_at(n, 1);
-    match op {
-        0xa01 => part_lists::sugamdely_walk_start(order, len, walk),
-        0xa02 => part_lists::sugamdely_walk_next(walk, list),
-        _ => UNKNOWN,
-    }
+// The walk is lent as it is given, and so is a list for the parts handed out.
+pub fn walk_met(operation: u64, case: &Call<usize>) -> bool {
+    let given = case.given(0);
+    let n = given.len().min(64);
+    let mut walk = [0usize; 64];
+    walk[..n].copy_from_slice(&given[..n]);
+    let mut parts = [usize::FILL; 64];
+    let number = match operation {
+        0xa01 => part_lists::sugamdely_walk_start(case.order(0), case.order(1), &mut walk[..n]),
+        _ => part_lists::sugamdely_walk_next(&mut walk[..n], case.lent(1, &mut parts)),
+    };
+    case.met(Some(number), case.holds(0, &walk) && case.holds(1, &parts))
 }
 
-pub fn counts(op: u64, n: &[usize], out: &mut [u64]) -> u8 {
-    let order = size_at(n, 0);
-    let len = size_at(n, 1);
-    match op {
-        0xa03 => part_lists::sugamdely_multiplicity(n, out),
+pub fn count(operation: u64, case: &Call<u64>, out: &mut [u64]) -> Option<u8> {
+    let order = case.order(0);
+    let len = case.order(1);
+    Some(match operation {
+        0xa03 => part_lists::sugamdely_multiplicity(case.sizes(0), out),
         0xa04 => part_lists::sugamdely_factorial(order, out),
         0xa05 => part_lists::sugamdely_stirling_number(order, len, out),
-        _ => UNKNOWN,
-    }
+        _ => return None,
+    })
 }

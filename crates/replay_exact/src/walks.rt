@@ -3,47 +3,38 @@
 ghost use Rattle.std.specs.Prelude.{◌≡◌};
 ghost use Rattle.partitions.specs.Walk.{stepped};
 
-use booleans::both;
-use partitions::{Composition, CompositionIter, Count, Stepped};
+use partitions::{CompositionIter, Stepped};
+use refusals::Refusal;
 use replay_text::{
-    next_size, next_sizes, refusal_met, same_sizes, size_met, sizes_met, sizes_part, word_met,
+    list_met, met, next, next_array, next_list, number_met, numbered, refusal_met, same,
 };
 use std::io::Read;
 
-fn flag_met(input: &mut impl Read, flag: bool) -> bool {
-    if flag {
-        return size_met(input, 1);
-    }
-    size_met(input, 0)
+type Item = Result<Option<[usize; 20]>, Refusal>;
+
+// The refusal or 0, whether the walk has ended, and the parts: zeros where none are handed out.
+fn item_met(input: &mut impl Read, item: Item) -> bool {
+    let ended = matches!(item, Ok(None));
+    let (number, parts) = numbered(item, None);
+    refusal_met(input, number) & met(input, ended) & list_met(input, &parts.unwrap_or([0; 20]))
 }
 
-fn item_met(input: &mut impl Read, item: Composition) -> bool {
-    let parts = item.parts;
-    let head = both(
-        refusal_met(input, item.refusal),
-        flag_met(input, item.ended),
-    );
-    both(head, sizes_met(input, &parts))
-}
+const NO_WALK: CompositionIter = CompositionIter {
+    order: 0,
+    len: 0,
+    current: [0; 20],
+    end: false,
+};
 
 fn record_met(input: &mut impl Read, walk: CompositionIter) -> bool {
-    let current = walk.current;
-    let head = both(size_met(input, walk.order), size_met(input, walk.len));
-    both(
-        head,
-        both(flag_met(input, walk.end), sizes_met(input, &current)),
-    )
+    met(input, walk.order)
+        & met(input, walk.len)
+        & met(input, walk.end)
+        & list_met(input, &walk.current)
 }
 
 fn step_met(input: &mut impl Read, s: Stepped) -> bool {
-    both(item_met(input, s.item), record_met(input, s.walk))
-}
-
-fn count_met(input: &mut impl Read, count: Count) -> bool {
-    match count {
-        Count::Value(n) => both(refusal_met(input, 0), word_met(input, n)),
-        Count::Refused(c) => both(refusal_met(input, c), word_met(input, 0)),
-    }
+    item_met(input, s.item) & record_met(input, s.walk)
 }
 
 // A step with the record lent to the library: what a step by value gives.
@@ -55,94 +46,77 @@ fn lent(walk: CompositionIter) -> Stepped
     Stepped { item, walk: w }
 }
 
+// A step of one walk by value, and of the other with its record lent.
+fn both_steps_met(input: &mut impl Read, walk: CompositionIter, other: CompositionIter) -> bool {
+    step_met(input, CompositionIter::step(walk)) & step_met(input, lent(other))
+}
+
 fn start_case(input: &mut impl Read) -> bool {
-    let order = next_size(input);
-    let len = next_size(input);
-    let s = CompositionIter::try_new(order, len);
-    both(refusal_met(input, s.refusal), record_met(input, s.walk))
+    let order = next(input);
+    let len = next(input);
+    let (number, walk) = numbered(CompositionIter::try_new(order, len), NO_WALK);
+    refusal_met(input, number) & record_met(input, walk)
 }
 
 // Whether a list is handed out.
-fn handed_out(item: Composition, list: &[usize]) -> bool {
-    let parts = item.parts;
-    if item.refusal != 0 {
-        return false;
+fn handed_out(item: Item, list: &[usize]) -> bool {
+    match item {
+        Ok(Some(parts)) => same(&parts, list),
+        _ => false,
     }
-    if item.ended {
-        return false;
-    }
-    same_sizes(&parts, list)
 }
 
 // The lists of a walk with their multiplicities, and the step past the last one. No walk has more than 100 lists.
 fn walk_case(input: &mut impl Read) -> bool {
-    let order = next_size(input);
-    let len = next_size(input);
-    let s = CompositionIter::try_new(order, len);
-    let mut walk = s.walk;
-    let mut other = s.walk;
-    let mut met = true;
-    let lists = next_size(input);
-    if 100 < lists {
-        return false;
+    let order = next(input);
+    let len: usize = next(input);
+    let (_, mut walk) = numbered(CompositionIter::try_new(order, len), NO_WALK);
+    let mut other = walk;
+    let lists: usize = next(input);
+    let mut all = true;
+    for _ in 0..lists.min(100) {
+        let list: [usize; 20] = next_array(input);
+        let by_value = CompositionIter::step(walk);
+        let by_loan = lent(other);
+        let count = partitions::multiplicity(&list[..len.min(20)]);
+        all &= handed_out(by_value.item, &list) && handed_out(by_loan.item, &list);
+        all &= number_met(input, count);
+        walk = by_value.walk;
+        other = by_loan.walk;
     }
-    let mut i = 0;
-    while i < lists {
-        let mut list = [0usize; 20];
-        next_sizes(input, &mut list);
-        let a = CompositionIter::step(walk);
-        let b = lent(other);
-        let count = partitions::multiplicity(sizes_part(&list, 0, len));
-        let handed = both(handed_out(a.item, &list), handed_out(b.item, &list));
-        met = both(met, both(handed, count_met(input, count)));
-        walk = a.walk;
-        other = b.walk;
-        i += 1;
-    }
-    let past = both(
-        step_met(input, CompositionIter::step(walk)),
-        step_met(input, lent(other)),
-    );
-    both(met, past)
+    all & both_steps_met(input, walk, other)
 }
 
 fn record_case(input: &mut impl Read) -> bool {
-    let order = next_size(input);
-    let len = next_size(input);
-    let end = next_size(input) != 0;
-    let mut current = [0usize; 20];
-    next_sizes(input, &mut current);
     let walk = CompositionIter {
-        order,
-        len,
-        current,
-        end,
+        order: next(input),
+        len: next(input),
+        end: next(input),
+        current: next_array(input),
     };
-    both(
-        step_met(input, CompositionIter::step(walk)),
-        step_met(input, lent(walk)),
-    )
+    both_steps_met(input, walk, walk)
 }
 
 fn multiplicity_case(input: &mut impl Read) -> bool {
     let mut list = [0usize; 30];
-    let n = next_sizes(input, &mut list);
-    count_met(input, partitions::multiplicity(sizes_part(&list, 0, n)))
+    let n = next_list(input, &mut list);
+    number_met(input, partitions::multiplicity(&list[..n]))
 }
 
 fn factorial_case(input: &mut impl Read) -> bool {
-    let order = next_size(input);
-    count_met(input, partitions::factorial(order))
+    let order = next(input);
+    number_met(input, partitions::factorial(order))
 }
 
 fn stirling_case(input: &mut impl Read) -> bool {
-    let order = next_size(input);
-    let len = next_size(input);
-    count_met(input, partitions::stirling_number(order, len))
+    let order = next(input);
+    let len = next(input);
+    number_met(input, partitions::stirling_number(order, len))
 }
 
 pub fn next_case(input: &mut impl Read) -> bool {
-    match next_size(input) {
+    let kind: u64 = next(input);
+    match kind {
         1 => start_case(input),
         2 => walk_case(input),
         3 => record_case(input),

@@ -1,51 +1,45 @@
-// The fillet through the C interface: the wanted refusal, then the orders, the lists given, and what the lists lent for the answer hold at the end.
-use booleans::both;
+// The fillet through the C interface. The operation's number stands here alone, beside its function's name.
 use capi_fillet::fillet;
-use replay_text::{
-    FILL, UNKNOWN, call_met, first_floats, float_at, float_list, floats_part, next_call,
-    same_floats, size_at,
-};
+use replay_text::{Call, Fill};
 use std::io::Read;
 
 // Of an axis or a circle, and a pair of sine and cosine.
-fn turn(op: u64, n: &[usize], l: &[f64], ends: &[usize; 12], out: &mut [f64]) -> u8 {
-    let a = float_list(l, ends, 0);
-    let pair = float_list(l, ends, 1);
-    let s = float_at(pair, 0);
-    let c = float_at(pair, 1);
-    let x = size_at(n, 0);
-    let y = size_at(n, 1);
-    let z = size_at(n, 2);
-    let m = size_at(n, 3);
-    match op {
+fn turn(operation: u64, case: &Call<f64>, out: &mut [f64]) -> Option<u8> {
+    let a = case.given(0);
+    let s = case.given_at(1, 0);
+    let c = case.given_at(1, 1);
+    let x = case.order(0);
+    let y = case.order(1);
+    let z = case.order(2);
+    let m = case.order(3);
+    Some(match operation {
         0x601 => fillet::sugamdely_rot_der_n(x, y, z, m, a, s, c, out),
         0x602 => fillet::sugamdely_from_axis_angle(a, s, c, out),
         0x603 => fillet::sugamdely_contact_circle_derivative_n(x, a, s, c, out),
-        _ => UNKNOWN,
-    }
+        _ => return None,
+    })
 }
 
 // Of the five jets, axis and angle.
-fn partial(op: u64, n: &[usize], l: &[f64], ends: &[usize; 12], out: &mut [f64]) -> u8 {
-    let i = size_at(n, 0);
-    let j = size_at(n, 1);
-    let k = size_at(n, 2);
-    let p = size_at(n, 3);
-    let q = size_at(n, 4);
-    let a = size_at(n, 5);
-    let b = size_at(n, 6);
-    let center = float_list(l, ends, 0);
-    let contact0 = float_list(l, ends, 1);
-    let contact1 = float_list(l, ends, 2);
-    let uv0 = float_list(l, ends, 3);
-    let uv1 = float_list(l, ends, 4);
-    let axis = float_list(l, ends, 5);
-    let angle = float_list(l, ends, 6);
-    let rest = float_list(l, ends, 7);
-    let u = float_at(rest, 0);
-    let s = float_at(rest, 1);
-    let c = float_at(rest, 2);
-    match op {
+fn partial(operation: u64, case: &Call<f64>, out: &mut [f64]) -> Option<u8> {
+    let i = case.order(0);
+    let j = case.order(1);
+    let k = case.order(2);
+    let p = case.order(3);
+    let q = case.order(4);
+    let a = case.order(5);
+    let b = case.order(6);
+    let center = case.given(0);
+    let contact0 = case.given(1);
+    let contact1 = case.given(2);
+    let uv0 = case.given(3);
+    let uv1 = case.given(4);
+    let axis = case.given(5);
+    let angle = case.given(6);
+    let u = case.given_at(7, 0);
+    let s = case.given_at(7, 1);
+    let c = case.given_at(7, 2);
+    Some(match operation {
         0x604 => fillet::sugamdely_derivative_v(
             i, center, j, contact0, k, contact1, p, uv0, q, uv1, a, axis, b, angle, u, s, c, out,
         ),
@@ -55,174 +49,106 @@ fn partial(op: u64, n: &[usize], l: &[f64], ends: &[usize; 12], out: &mut [f64])
         0x606 => fillet::sugamdely_derivative_vv(
             i, center, j, contact0, k, contact1, p, uv0, q, uv1, a, axis, b, angle, u, s, c, out,
         ),
-        _ => UNKNOWN,
-    }
+        _ => return None,
+    })
 }
 
-fn pair_of_orders(n: &[usize], l: &[f64], ends: &[usize; 12], out: &mut [f64]) -> u8 {
-    let circle = float_list(l, ends, 0);
-    let feet = float_list(l, ends, 1);
-    let normals = float_list(l, ends, 2);
-    let edge = float_list(l, ends, 3);
-    let radius = float_list(l, ends, 4);
-    let surface0 = float_list(l, ends, 5);
-    let surface1 = float_list(l, ends, 6);
-    let rest = float_list(l, ends, 7);
+fn pair_of_orders(case: &Call<f64>, out: &mut [f64]) -> u8 {
     fillet::sugamdely_sub_der_mn(
-        size_at(n, 0),
-        size_at(n, 1),
-        circle,
-        feet,
-        normals,
-        size_at(n, 2),
-        edge,
-        size_at(n, 3),
-        radius,
-        size_at(n, 4),
-        surface0,
-        size_at(n, 5),
-        surface1,
-        float_at(rest, 0),
-        float_at(rest, 1),
-        float_at(rest, 2),
-        float_at(rest, 3),
+        case.order(0),
+        case.order(1),
+        case.given(0),
+        case.given(1),
+        case.given(2),
+        case.order(2),
+        case.given(3),
+        case.order(3),
+        case.given(4),
+        case.order(4),
+        case.given(5),
+        case.order(5),
+        case.given(6),
+        case.given_at(7, 0),
+        case.given_at(7, 1),
+        case.given_at(7, 2),
+        case.given_at(7, 3),
         out,
     )
 }
 
-fn call(op: u64, n: &[usize], l: &[f64], ends: &[usize; 12], out: &mut [f64]) -> u8 {
-    match op {
-        0x601..=0x603 => turn(op, n, l, ends, out),
-        0x604..=0x606 => partial(op, n, l, ends, out),
-        0x607 => pair_of_orders(n, l, ends, out),
-        _ => UNKNOWN,
+// One list is lent.
+fn call(operation: u64, case: &Call<f64>, out: &mut [f64]) -> Option<u8> {
+    match operation {
+        0x601..=0x603 => turn(operation, case, out),
+        0x604..=0x606 => partial(operation, case, out),
+        0x607 => Some(pair_of_orders(case, out)),
+        _ => None,
     }
 }
 
-// Whether a list that was lent holds what is wanted.
-fn holds(a: &[f64], w: &[f64], w_ends: &[usize; 12], i: usize) -> bool {
-    let wanted = float_list(w, w_ends, i);
-    same_floats(floats_part(a, 0, wanted.len()), wanted)
+// Of circle, foot parameters, normals, edge, radius and both surfaces; five lists are lent.
+fn contacts_met(case: &Call<f64>) -> bool {
+    let mut a = [f64::FILL; 64];
+    let mut b = [f64::FILL; 64];
+    let mut c = [f64::FILL; 64];
+    let mut d = [f64::FILL; 64];
+    let mut e = [f64::FILL; 64];
+    let number = fillet::sugamdely_sub_center_contacts_ders(
+        case.order(0),
+        case.given(0),
+        case.given(1),
+        case.given(2),
+        case.order(1),
+        case.given(3),
+        case.order(2),
+        case.given(4),
+        case.order(3),
+        case.given(5),
+        case.order(4),
+        case.given(6),
+        case.lent(0, &mut a),
+        case.lent(1, &mut b),
+        case.lent(2, &mut c),
+        case.lent(3, &mut d),
+        case.lent(4, &mut e),
+    );
+    let points = case.holds(0, &a) && case.holds(1, &b) && case.holds(2, &c);
+    let parameters = case.holds(3, &d) && case.holds(4, &e);
+    case.met(Some(number), points && parameters)
 }
 
-// One list is lent.
-fn answer(
-    op: u64,
-    wanted: u64,
-    n: &[usize],
-    l: &[f64],
-    ends: &[usize; 12],
-    w: &[f64],
-    w_ends: &[usize; 12],
-) -> bool {
-    let mut out = [FILL; 64];
-    let refusal = call(
-        op,
-        n,
-        l,
-        ends,
-        first_floats(&mut out, float_list(w, w_ends, 0).len()),
+// Of the jets of centre, contacts, foot parameters and radius, and the angle; three lists are lent.
+fn info_met(case: &Call<f64>) -> bool {
+    let mut a = [f64::FILL; 64];
+    let mut b = [f64::FILL; 64];
+    let mut c = [f64::FILL; 64];
+    let number = fillet::sugamdely_vder_info(
+        case.order(0),
+        case.given(0),
+        case.order(1),
+        case.given(1),
+        case.order(2),
+        case.given(2),
+        case.order(3),
+        case.given(3),
+        case.order(4),
+        case.given(4),
+        case.order(5),
+        case.given(5),
+        case.given_at(6, 0),
+        case.lent(0, &mut a),
+        case.lent(1, &mut b),
+        case.lent(2, &mut c),
     );
-    call_met(wanted, refusal, holds(&out, w, w_ends, 0))
+    let held = case.holds(0, &a) && case.holds(1, &b) && case.holds(2, &c);
+    case.met(Some(number), held)
 }
 
-fn contacts(
-    wanted: u64,
-    n: &[usize],
-    l: &[f64],
-    ends: &[usize; 12],
-    w: &[f64],
-    w_ends: &[usize; 12],
-) -> bool {
-    let circle = float_list(l, ends, 0);
-    let feet = float_list(l, ends, 1);
-    let normals = float_list(l, ends, 2);
-    let edge = float_list(l, ends, 3);
-    let radius = float_list(l, ends, 4);
-    let surface0 = float_list(l, ends, 5);
-    let surface1 = float_list(l, ends, 6);
-    let mut a = [FILL; 64];
-    let mut b = [FILL; 64];
-    let mut c = [FILL; 64];
-    let mut d = [FILL; 64];
-    let mut e = [FILL; 64];
-    let refusal = fillet::sugamdely_sub_center_contacts_ders(
-        size_at(n, 0),
-        circle,
-        feet,
-        normals,
-        size_at(n, 1),
-        edge,
-        size_at(n, 2),
-        radius,
-        size_at(n, 3),
-        surface0,
-        size_at(n, 4),
-        surface1,
-        first_floats(&mut a, float_list(w, w_ends, 0).len()),
-        first_floats(&mut b, float_list(w, w_ends, 1).len()),
-        first_floats(&mut c, float_list(w, w_ends, 2).len()),
-        first_floats(&mut d, float_list(w, w_ends, 3).len()),
-        first_floats(&mut e, float_list(w, w_ends, 4).len()),
-    );
-    let points = both(
-        holds(&a, w, w_ends, 0),
-        both(holds(&b, w, w_ends, 1), holds(&c, w, w_ends, 2)),
-    );
-    let parameters = both(holds(&d, w, w_ends, 3), holds(&e, w, w_ends, 4));
-    call_met(wanted, refusal, both(points, parameters))
-}
-
-fn info(
-    wanted: u64,
-    n: &[usize],
-    l: &[f64],
-    ends: &[usize; 12],
-    w: &[f64],
-    w_ends: &[usize; 12],
-) -> bool {
-    let center = float_list(l, ends, 0);
-    let contact0 = float_list(l, ends, 1);
-    let contact1 = float_list(l, ends, 2);
-    let uv0 = float_list(l, ends, 3);
-    let uv1 = float_list(l, ends, 4);
-    let radius = float_list(l, ends, 5);
-    let angle = float_list(l, ends, 6);
-    let mut a = [FILL; 64];
-    let mut b = [FILL; 64];
-    let mut c = [FILL; 64];
-    let refusal = fillet::sugamdely_vder_info(
-        size_at(n, 0),
-        center,
-        size_at(n, 1),
-        contact0,
-        size_at(n, 2),
-        contact1,
-        size_at(n, 3),
-        uv0,
-        size_at(n, 4),
-        uv1,
-        size_at(n, 5),
-        radius,
-        float_at(angle, 0),
-        first_floats(&mut a, float_list(w, w_ends, 0).len()),
-        first_floats(&mut b, float_list(w, w_ends, 1).len()),
-        first_floats(&mut c, float_list(w, w_ends, 2).len()),
-    );
-    let jets = both(holds(&a, w, w_ends, 0), holds(&b, w, w_ends, 1));
-    call_met(wanted, refusal, both(jets, holds(&c, w, w_ends, 2)))
-}
-
-pub fn next_case(input: &mut impl Read, op: u64) -> bool {
-    let mut n = [0usize; 64];
-    let mut l = [0.0f64; 2048];
-    let mut ends = [0usize; 12];
-    let mut w = [0.0f64; 1024];
-    let mut w_ends = [0usize; 12];
-    let wanted = next_call(input, &mut n, &mut l, &mut ends, &mut w, &mut w_ends);
-    match op {
-        0x608 => contacts(wanted, &n, &l, &ends, &w, &w_ends),
-        0x609 => info(wanted, &n, &l, &ends, &w, &w_ends),
-        _ => answer(op, wanted, &n, &l, &ends, &w, &w_ends),
+pub fn next_case(input: &mut impl Read, operation: u64) -> bool {
+    let case = Call::next(input);
+    match operation {
+        0x608 => contacts_met(&case),
+        0x609 => info_met(&case),
+        _ => case.answered(|case, out| call(operation, case, out)),
     }
 }

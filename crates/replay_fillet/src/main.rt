@@ -7,12 +7,10 @@ mod inputs;
 mod shapes;
 mod turns;
 
-use replay_text::{next_group, next_word};
 use std::io;
 use std::io::Read;
 
-fn next_case(input: &mut impl Read) -> bool {
-    let family = next_word(input);
+fn next_case(input: &mut impl Read, family: u64) -> bool {
     match family {
         1 => shapes::next_case(input),
         2 => turns::next_case(input),
@@ -21,16 +19,5 @@ fn next_case(input: &mut impl Read) -> bool {
 }
 
 fn main(rt: HostRuntime) -> io::Result<()> {
-    let mut input = rt.stdin();
-    let mut group = next_group(&mut input);
-    let mut turns = 0u32;
-    while turns < 100000 {
-        if group.cases == 0 {
-            return Ok(());
-        }
-        let met = next_case(&mut input);
-        group = group.after(&rt, &mut input, met)?;
-        turns += 1;
-    }
-    Ok(())
+    replay_text::replay(&rt, rt.stdin(), |input, family| next_case(input, family))
 }

@@ -1,98 +1,131 @@
 // Jets of floats: sum, difference, product, quotient and derivative of curves and of surfaces, and the carry. A case is the number of an operation,
 // its jets, each an order and its array as a list, the orders asked, and the answer (tools/float_cases.py works it out).
-use booleans::both;
-use derivatives::{
-    CurveAnswer, CurveDerivatives, ParameterCurve, SurfaceAnswer, SurfaceDerivatives,
-};
-use replay_text::{answer_met, floats_met, next_floats, next_size, real_met};
+use derivatives::{CurveDerivatives, ParameterCurve, SurfaceDerivatives};
+use refusals::Refusal;
+use replay_text::{list_met, met, next, next_array, number_met, numbered, refusal_met};
 use std::io::Read;
 
+const NO_CURVE: CurveDerivatives = CurveDerivatives {
+    order: 0,
+    entries: [0.0; 21],
+};
+
+const NO_SURFACE: SurfaceDerivatives = SurfaceDerivatives {
+    order: 0,
+    entries: [0.0; 231],
+};
+
 fn next_curve(input: &mut impl Read) -> CurveDerivatives {
-    let order = next_size(input);
-    let mut entries = [0.0f64; 21];
-    next_floats(input, &mut entries);
-    CurveDerivatives { order, entries }
+    CurveDerivatives {
+        order: next(input),
+        entries: next_array(input),
+    }
 }
 
 fn next_surface(input: &mut impl Read) -> SurfaceDerivatives {
-    let order = next_size(input);
-    let mut entries = [0.0f64; 231];
-    next_floats(input, &mut entries);
-    SurfaceDerivatives { order, entries }
+    SurfaceDerivatives {
+        order: next(input),
+        entries: next_array(input),
+    }
 }
 
 fn next_parameter(input: &mut impl Read) -> ParameterCurve {
-    let order = next_size(input);
-    let mut u = [0.0f64; 21];
-    let mut v = [0.0f64; 21];
-    next_floats(input, &mut u);
-    next_floats(input, &mut v);
-    ParameterCurve { order, u, v }
+    ParameterCurve {
+        order: next(input),
+        u: next_array(input),
+        v: next_array(input),
+    }
 }
 
-fn curve_met(input: &mut impl Read, a: CurveAnswer) -> bool {
-    let jet = a.jet;
-    let entries = jet.entries;
-    both(
-        answer_met(input, a.refusal, jet.order),
-        floats_met(input, &entries),
-    )
+fn curve_met(input: &mut impl Read, answer: Result<CurveDerivatives, Refusal>) -> bool {
+    let (number, jet) = numbered(answer, NO_CURVE);
+    refusal_met(input, number) & met(input, jet.order) & list_met(input, &jet.entries)
 }
 
-fn surface_met(input: &mut impl Read, a: SurfaceAnswer) -> bool {
-    let jet = a.jet;
-    let entries = jet.entries;
-    both(
-        answer_met(input, a.refusal, jet.order),
-        floats_met(input, &entries),
-    )
+fn surface_met(input: &mut impl Read, answer: Result<SurfaceDerivatives, Refusal>) -> bool {
+    let (number, jet) = numbered(answer, NO_SURFACE);
+    refusal_met(input, number) & met(input, jet.order) & list_met(input, &jet.entries)
 }
 
-fn on_curves(input: &mut impl Read, operation: usize) -> bool {
+// On two curves and an order asked.
+fn on_curves<I: Read, F: Fn(&mut I, CurveDerivatives, CurveDerivatives, usize) -> bool>(
+    input: &mut I,
+    operation_met: F,
+) -> bool
+    requires { F.IsAlwaysCallable operation_met }
+{
     let a = next_curve(input);
     let b = next_curve(input);
-    let m = next_size(input);
-    match operation {
-        1 => curve_met(input, a.sum(b)),
-        2 => curve_met(input, a.difference(b)),
-        3 => curve_met(input, a.combinatorial_derivatives(b)),
-        4 => curve_met(input, a.rational_derivatives(b)),
-        5 => curve_met(input, a.derivative()),
-        _ => real_met(input, a.combinatorial_derivative(b, m)),
-    }
+    let m = next(input);
+    operation_met(input, a, b, m)
 }
 
-fn on_surfaces(input: &mut impl Read, operation: usize) -> bool {
+// On two surfaces and a pair of orders asked.
+fn on_surfaces<
+    I: Read,
+    F: Fn(&mut I, SurfaceDerivatives, SurfaceDerivatives, usize, usize) -> bool,
+>(input: &mut I, operation_met: F) -> bool
+    requires { F.IsAlwaysCallable operation_met }
+{
     let a = next_surface(input);
     let b = next_surface(input);
-    let m = next_size(input);
-    let n = next_size(input);
-    match operation {
-        11 => surface_met(input, a.sum(b)),
-        12 => surface_met(input, a.difference(b)),
-        13 => surface_met(input, a.combinatorial_derivatives(b)),
-        14 => surface_met(input, a.rational_derivatives(b)),
-        15 => surface_met(input, a.derivative_u()),
-        16 => surface_met(input, a.derivative_v()),
-        _ => real_met(input, a.combinatorial_derivative(b, m, n)),
-    }
+    let m = next(input);
+    let n = next(input);
+    operation_met(input, a, b, m, n)
 }
 
-fn along(input: &mut impl Read, operation: usize) -> bool {
+// On a surface, a curve in its parameters and an order asked.
+fn along<I: Read, F: Fn(&mut I, SurfaceDerivatives, ParameterCurve, usize) -> bool>(
+    input: &mut I,
+    operation_met: F,
+) -> bool
+    requires { F.IsAlwaysCallable operation_met }
+{
     let a = next_surface(input);
     let c = next_parameter(input);
-    let m = next_size(input);
-    match operation {
-        21 => real_met(input, a.composite_derivative(c, m)),
-        _ => curve_met(input, a.composite_derivatives(c, m)),
-    }
+    let m = next(input);
+    operation_met(input, a, c, m)
 }
 
-pub fn next_case(input: &mut impl Read) -> bool {
-    let operation = next_size(input);
+pub fn next_case<I: Read>(input: &mut I) -> bool {
+    let operation: usize = next(input);
     match operation {
-        1..=6 => on_curves(input, operation),
-        11..=17 => on_surfaces(input, operation),
-        _ => along(input, operation),
+        1 => on_curves(input, |i, a, b, _| curve_met(i, a.sum(b))),
+        2 => on_curves(input, |i, a, b, _| curve_met(i, a.difference(b))),
+        3 => on_curves(
+            input,
+            |i, a, b, _| curve_met(i, a.combinatorial_derivatives(b)),
+        ),
+        4 => on_curves(input, |i, a, b, _| curve_met(i, a.rational_derivatives(b))),
+        5 => on_curves(input, |i, a, _, _| curve_met(i, a.derivative())),
+        6 => on_curves(
+            input,
+            |i, a, b, m| number_met(i, a.combinatorial_derivative(b, m)),
+        ),
+        11 => on_surfaces(input, |i, a, b, _, _| surface_met(i, a.sum(b))),
+        12 => on_surfaces(input, |i, a, b, _, _| surface_met(i, a.difference(b))),
+        13 => on_surfaces(
+            input,
+            |i, a, b, _, _| surface_met(i, a.combinatorial_derivatives(b)),
+        ),
+        14 => on_surfaces(
+            input,
+            |i, a, b, _, _| surface_met(i, a.rational_derivatives(b)),
+        ),
+        15 => on_surfaces(input, |i, a, _, _, _| surface_met(i, a.derivative_u())),
+        16 => on_surfaces(input, |i, a, _, _, _| surface_met(i, a.derivative_v())),
+        17 => on_surfaces(
+            input,
+            |i, a, b, m, n| number_met(i, a.combinatorial_derivative(b, m, n)),
+        ),
+        21 => along(
+            input,
+            |i, a, c, m| number_met(i, a.composite_derivative(c, m)),
+        ),
+        22 => along(
+            input,
+            |i, a, c, m| curve_met(i, a.composite_derivatives(c, m)),
+        ),
+        _ => false,
     }
 }

@@ -6,71 +6,32 @@ mod jets;
 mod surfaces;
 mod values;
 
-use booleans::both;
-use replay_text::{
-    FILL, first_floats, float_met, list_met, next_call, next_float, next_group, next_word, real_met,
-};
+use replay_text::{Call, met, next, number_met};
 use std::io;
 use std::io::Read;
 
 // A float, its root by `sqrt`, and what `square_root` answers (tools/sqrt_cases.py works them out).
 fn next_root(input: &mut impl Read) -> bool {
-    let x = next_float(input);
-    both(
-        float_met(input, ieee::unchecked_sqrt(x)),
-        real_met(input, vectors::square_root(x)),
-    )
+    let x = next(input);
+    met(input, ieee::unchecked_sqrt(x)) & number_met(input, vectors::square_root(x))
 }
 
-fn call(op: u64, n: &[usize], l: &[f64], ends: &[usize; 12], out: &mut [f64]) -> u8 {
-    match op {
-        0x100..=0x1ff => curves::call(op, n, l, ends, out),
-        0x200..=0x2ff => surfaces::call(op, n, l, ends, out),
-        _ => values::call(op, l, ends, out),
+fn call(operation: u64, case: &Call<f64>, out: &mut [f64]) -> Option<u8> {
+    match operation {
+        0x100..=0x1ff => curves::call(operation, case, out),
+        0x200..=0x2ff => surfaces::call(operation, case, out),
+        _ => values::call(operation, case, out),
     }
 }
 
-// An operation of the C interface, which is lent one list.
-fn next_answer(input: &mut impl Read, op: u64) -> bool {
-    let mut orders = [0usize; 64];
-    let mut given = [0.0f64; 2048];
-    let mut ends = [0usize; 12];
-    let mut held = [0.0f64; 1024];
-    let mut held_ends = [0usize; 12];
-    let wanted = next_call(
-        input,
-        &mut orders,
-        &mut given,
-        &mut ends,
-        &mut held,
-        &mut held_ends,
-    );
-    let n = held_ends[1];
-    let mut out = [FILL; 1024];
-    let refusal = call(op, &orders, &given, &ends, first_floats(&mut out, n));
-    list_met(wanted, refusal, &out, &held, n)
-}
-
-fn next_case(input: &mut impl Read) -> bool {
-    let family = next_word(input);
+fn next_case(input: &mut impl Read, family: u64) -> bool {
     match family {
         1 => next_root(input),
         2 => jets::next_case(input),
-        _ => next_answer(input, family),
+        _ => Call::next(input).answered(|case, out| call(family, case, out)),
     }
 }
 
 fn main(rt: HostRuntime) -> io::Result<()> {
-    let mut input = rt.stdin();
-    let mut group = next_group(&mut input);
-    let mut turns = 0u32;
-    while turns < 100000 {
-        if group.cases == 0 {
-            return Ok(());
-        }
-        let met = next_case(&mut input);
-        group = group.after(&rt, &mut input, met)?;
-        turns += 1;
-    }
-    Ok(())
+    replay_text::replay(&rt, rt.stdin(), |input, family| next_case(input, family))
 }

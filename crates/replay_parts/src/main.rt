@@ -14,11 +14,8 @@ fn write_whole(rt: &impl Print, input: &[u8]) -> io::Result<()> {
 
 fn fed_by_bytes(input: &[u8]) -> Reading {
     let mut state = parts_text::start();
-    let mut i = 0;
-    while i < input.len() {
-        let next = i + 1;
-        state = parts_text::feed(state, &input[i..next]);
-        i = next;
+    for byte in input.chunks(1) {
+        state = parts_text::feed(state, byte);
     }
     state
 }
@@ -29,46 +26,32 @@ fn write_by_bytes(rt: &impl Print, input: &[u8]) -> io::Result<()> {
     io::writer(rt).write_all(&out[..n])
 }
 
-// How many bytes of an input settle its answer, if they do.
-#[derive(Clone, Copy)]
-enum Settled {
-    After(usize),
-    Never,
-}
-
-// Fed byte by byte, and only while the answer is open, as `parts` reads.
-fn settled_after(input: &[u8]) -> Settled {
+// How many bytes of an input settle its answer, if they do. It is fed byte by byte, and only while the answer is open, as `parts` reads.
+fn settled_after(input: &[u8]) -> Option<usize> {
     let mut state = parts_text::start();
-    let mut i = 0;
-    while i < input.len() {
-        let next = i + 1;
-        state = parts_text::feed(state, &input[i..next]);
+    for (i, byte) in input.chunks(1).enumerate() {
+        state = parts_text::feed(state, byte);
         if parts_text::is_settled(state) {
-            return Settled::After(next);
+            return Some(i + 1);
         }
-        i = next;
     }
-    Settled::Never
+    None
 }
 
 fn write_settled(rt: &impl Print, input: &[u8]) -> io::Result<()> {
     match settled_after(input) {
-        Settled::After(n) => println!(rt; "settled after {n}"),
-        Settled::Never => println!(rt; "open"),
+        Some(n) => println!(rt; "settled after {n}"),
+        None => println!(rt; "open"),
     }
 }
 
 fn write_inputs(rt: &impl Print, inputs: &[u8]) -> io::Result<()> {
-    let mut begun = 0;
-    let mut i = 0;
-    while i < inputs.len() {
-        if inputs[i] == 255 {
-            write_whole(rt, &inputs[begun..i])?;
-            write_by_bytes(rt, &inputs[begun..i])?;
-            write_settled(rt, &inputs[begun..i])?;
-            begun = i + 1;
+    for piece in inputs.split_inclusive(|b| *b == 255) {
+        if let [input @ .., 255] = piece {
+            write_whole(rt, input)?;
+            write_by_bytes(rt, input)?;
+            write_settled(rt, input)?;
         }
-        i += 1;
     }
     Ok(())
 }

@@ -1,14 +1,15 @@
 // Curves of vectors.
 use capi_vectors::vector_curves;
-use replay_text::{UNKNOWN, float_list, size_at};
+use replay_text::Call;
 
-pub fn call(op: u64, n: &[usize], l: &[f64], ends: &[usize; 12], out: &mut [f64]) -> u8 {
-    let a_order = size_at(n, 0);
-    let b_order = size_at(n, 1);
-    let a = float_list(l, ends, 0);
-    let b = float_list(l, ends, 1);
-    let m = size_at(n, 2);
-    match op {
+// The operation's number stands here alone, beside its function's name.
+pub fn call(operation: u64, case: &Call<f64>, out: &mut [f64]) -> Option<u8> {
+    let a_order = case.order(0);
+    let b_order = case.order(1);
+    let a = case.given(0);
+    let b = case.given(1);
+    let m = case.order(2);
+    Some(match operation {
         0x301 => vector_curves::sugamdely_vector_curve_sum(a_order, a, b_order, b, out),
         0x302 => vector_curves::sugamdely_vector_curve_difference(a_order, a, b_order, b, out),
         0x303 => vector_curves::sugamdely_vector_curve_rational_derivatives(
@@ -34,6 +35,6 @@ pub fn call(op: u64, n: &[usize], l: &[f64], ends: &[usize; 12], out: &mut [f64]
         0x30b => vector_curves::sugamdely_curve_combinatorial_derivative_cross(
             a_order, a, b_order, b, m, out,
         ),
-        _ => UNKNOWN,
-    }
+        _ => return None,
+    })
 }

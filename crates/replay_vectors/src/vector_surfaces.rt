@@ -1,15 +1,16 @@
 // Surfaces of vectors, and the carry.
 use capi_vectors::vector_surfaces;
-use replay_text::{UNKNOWN, float_list, size_at};
+use replay_text::Call;
 
-pub fn call(op: u64, n: &[usize], l: &[f64], ends: &[usize; 12], out: &mut [f64]) -> u8 {
-    let a_order = size_at(n, 0);
-    let b_order = size_at(n, 1);
-    let a = float_list(l, ends, 0);
-    let b = float_list(l, ends, 1);
-    let i = size_at(n, 2);
-    let j = size_at(n, 3);
-    match op {
+// The operation's number stands here alone, beside its function's name.
+pub fn call(operation: u64, case: &Call<f64>, out: &mut [f64]) -> Option<u8> {
+    let a_order = case.order(0);
+    let b_order = case.order(1);
+    let a = case.given(0);
+    let b = case.given(1);
+    let i = case.order(2);
+    let j = case.order(3);
+    Some(match operation {
         0x401 => vector_surfaces::sugamdely_vector_surface_sum(a_order, a, b_order, b, out),
         0x402 => vector_surfaces::sugamdely_vector_surface_difference(a_order, a, b_order, b, out),
         0x403 => vector_surfaces::sugamdely_vector_surface_rational_derivatives(
@@ -42,6 +43,6 @@ pub fn call(op: u64, n: &[usize], l: &[f64], ends: &[usize; 12], out: &mut [f64]
         0x40e => vector_surfaces::sugamdely_vector_composite_derivatives(
             a_order, a, b_order, b, i, out,
         ),
-        _ => UNKNOWN,
-    }
+        _ => return None,
+    })
 }

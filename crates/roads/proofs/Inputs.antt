@@ -1,33 +1,28 @@
 -- The inputs of the two roads: what an answered first road says of the orders, and what carrying every input answers. Assumes nothing.
-use mathlib.Core.Path.{◌≡◌, refl, sym, ap, ap₂, ◌∙◌}
-use mathlib.Core.Bool.{Bool, true, false, cond, ◌||◌}
-use mathlib.Core.List.{List, [], ◌∷◌, map}
-use Prim.Native.Nat.{ℕ, zero, suc, ◌≤◌, ◌<◌, min}
-use native.Mathlib.Nat.{le_refl, min-le_left, min-le_right, min-eq_left, le-min, suc-ne-zero, not-suc-le-zero}
+use Rattle.std.specs.Prelude.{Bool, true, false, cond, ◌||◌, List, [], ◌∷◌, map, ◌≡◌, ℕ, zero, suc, ◌≤◌, ◌<◌, min, ltb, eqb, length, get_or, Result, Ok, Err}
+use mathlib.Core.Path.{refl, sym, ap, ap₂, ◌∙◌}
+use native.Mathlib.Nat.{le_refl, min-le_left, min-le_right, min-eq_left, le-min, not-suc-le-zero}
 use native.Mathlib.Omega.{arith}
-use lib.Dec.{ltb, eqb}
-use lib.ListN.{length, get_or}
 use borrow.Author.Tests.{ltb-false, le-ltb, eqb-false}
+use Rattle.refusals.specs.declared.Refusal.{Refusal}
+use Rattle.refusals.specs.declared.Refusal.TheVariants.{OutOfRange}
 use Rattle.whole.specs.Checked.{in_range}
-use Rattle.whole.specs.History.{or_else, numbers, every}
-use Rattle.whole.proofs.History.{both_true}
+use Rattle.whole.specs.History.{numbers, every}
 use Rattle.whole.proofs.Range.{never}
 use Rattle.exact.specs.declared.CurveDerivatives.{CurveDerivatives}
 use Rattle.exact.specs.declared.SurfaceDerivatives.{SurfaceDerivatives}
 use Rattle.exact.specs.declared.ParameterCurve.{ParameterCurve}
-use Rattle.exact.specs.declared.CurveAnswer.{CurveAnswer}
-use Rattle.exact.specs.Names.{refused_curve, answered_curve}
-use Rattle.exact.specs.Inner.{within_orders}
-use Rattle.calculus.specs.JetKind.{above20}
+use Rattle.calculus.specs.JetKind.{tested, above20}
 use Rattle.calculus.proofs.Tested.{split-first, split-second}
 use Rattle.exact.specs.Composite.{along_curve}
 use Rattle.roads.specs.declared.Step.{Step}
-use Rattle.roads.specs.Recipe.{names_earlier, well_formed}
+use Rattle.roads.specs.Recipe.{and_then, names_earlier, well_formed}
 use Rattle.calculus.specs.Orders.{some_above20, smallest}
-use Rattle.roads.specs.Roads.{first_refusal}
+use Rattle.roads.specs.Roads.{every_answer}
 use Rattle.exact.specs.Answer.{surfaces, curves}
 use Rattle.roads.specs.Formed.{formed_by, carried_with, carries_take}
-use Rattle.roads.proofs.Meeting.{along_numbers, along_jet, along-within}
+use Rattle.roads.proofs.Answers.{no_answer}
+use Rattle.roads.proofs.Meeting.{along_jet, along-within}
 use Rattle.roads.proofs.Induction.{every_two}
 
 -- ---- tests that end in a refusal
@@ -63,13 +58,13 @@ pub record Within (s c n : ℕ) : Type 0 where
   pub surface : n ≤ s
   pub reach : n ≤ c
 
-pub within : (a : CurveAnswer) (s c n : ℕ) → (within_orders refused_curve a s c n).refusal ≡ 0 → Within s c n
-within a s c n =
+pub within : {B : Type 0} (a : Result B Refusal) (s c n : ℕ) {b : B} → tested Err (above20 s c || ltb 20 n) (ltb (min s c) n) true a ≡ Ok b → Within s c n
+within {B} a s c n {b} =
     by (above20 s c || ltb 20 n) (ltb (min s c) n) (λ e. ltb-false 20 c (split-second (ltb 20 s) (ltb 20 c) (split-first (above20 s c) (ltb 20 n) e))) (ltb-false (min s c) n)
   where
-    by : (t u : Bool) → (t ≡ false → c ≤ 20) → (u ≡ false → n ≤ min s c) → (cond t (refused_curve 1) (cond u (refused_curve 2) a)).refusal ≡ 0 → Within s c n
-    by true u f g e = absurd (suc-ne-zero 0 e)
-    by false true f g e = absurd (suc-ne-zero 1 e)
+    by : (t u : Bool) → (t ≡ false → c ≤ 20) → (u ≡ false → n ≤ min s c) → tested {B = Result B Refusal} Err t u true a ≡ Ok b → Within s c n
+    by true u f g e = no_answer e
+    by false true f g e = no_answer e
     by false false f g e =
         let h = g refl in
         record { curve = f refl; surface = omega (arith, h); reach = omega (arith, h) }
@@ -88,47 +83,28 @@ smallest-20 (n ∷ l) = omega (arith, min-le_right n (smallest l), smallest-20 l
 
 -- ---- along the curve c, up to the order n: every input
 module _ (c : ParameterCurve) (k n : ℕ) (hc : c.order ≤ 20) (lc : n ≤ c.order) where
-  abbrev along : SurfaceDerivatives → CurveAnswer
+  abbrev along : SurfaceDerivatives → Result CurveDerivatives Refusal
   along s = along_curve s c n
 
-  -- one input more
-  module _ (s : SurfaceDerivatives) (l : List SurfaceDerivatives) (h : cond (ltb 20 s.order) true (some_above20 (map surfaces.order l)) ≡ false)
-      (b : n ≤ min s.order (smallest (map surfaces.order l))) where
-    head-along : along s ≡ cond (every in_range (numbers (formed_by (carried_with c s) n))) (answered_curve n (along_numbers c k n s)) (refused_curve 9)
-    head-along =
-        along-within c k n s (ltb-false 20 s.order (then-true (ltb 20 s.order) _ h).0) hc
-        (omega (arith, b, min-le_left s.order (smallest (map surfaces.order l)))) lc
-
-    tail-above : some_above20 (map surfaces.order l) ≡ false
-    tail-above = (then-true (ltb 20 s.order) _ h).1
-
-    tail-reach : n ≤ smallest (map surfaces.order l)
-    tail-reach = omega (arith, b, min-le_right s.order (smallest (map surfaces.order l)))
-
-  -- the first refusal is 9, where a number formed is out of range
-  pub inputs-refusal : (l : List SurfaceDerivatives) → some_above20 (map surfaces.order l) ≡ false → n ≤ smallest (map surfaces.order l) →
-      first_refusal (map along l) ≡ cond (every in_range (numbers (carries_take c n l))) 0 9
-  unfolding first_refusal carries_take some_above20 smallest numbers every
-  inputs-refusal [] h b = refl
-  inputs-refusal (s ∷ l) h b =
-      ap₂ (λ (a : CurveAnswer) (x : ℕ). or_else a.refusal x) (head-along s l h b) (inputs-refusal l (tail-above s l h b) (tail-reach s l h b))
+  -- the jets of the integers, or the refusal where a number formed is out of range
+  pub inputs-carried : (l : List SurfaceDerivatives) → some_above20 (map surfaces.order l) ≡ false → n ≤ smallest (map surfaces.order l) →
+      every_answer (map along l) ≡ cond (every in_range (numbers (carries_take c n l))) (Ok (map (along_jet c k n) l)) (Err OutOfRange)
+  unfolding every_answer carries_take some_above20 smallest numbers every
+  inputs-carried [] h b = refl
+  inputs-carried (s ∷ l) h b =
+      let low = then-true (ltb 20 s.order) _ h in
+      ap₂ (λ (a : Result CurveDerivatives Refusal) (r : Result (List CurveDerivatives) Refusal). and_then a (λ j. and_then r (λ js. Ok (j ∷ js))))
+      (along-within c k n s (ltb-false 20 s.order low.0) hc (omega (arith, b, min-le_left s.order (smallest (map surfaces.order l)))) lc)
+      (inputs-carried l low.1 (omega (arith, b, min-le_right s.order (smallest (map surfaces.order l)))))
       ∙ by (every in_range (numbers (formed_by (carried_with c s) n))) (every in_range (numbers (carries_take c n l)))
-      ∙ ap (λ (t : Bool). cond t 0 9) (sym (every_two (formed_by (carried_with c s) n) (carries_take c n l)))
+      ∙ ap (λ (t : Bool). cond t (Ok (map (along_jet c k n) (s ∷ l))) (Err OutOfRange)) (sym (every_two (formed_by (carried_with c s) n) (carries_take c n l)))
     where
-      by : (t u : Bool) → or_else (cond t (answered_curve n (along_numbers c k n s)) (refused_curve 9)).refusal (cond u 0 9) ≡ cond (cond t u false) 0 9
-      by true u = refl
+      by : (t u : Bool) → ◌≡◌ {A = Result (List CurveDerivatives) Refusal}
+          (and_then (cond t (Ok (along_jet c k n s)) (Err OutOfRange)) (λ j. and_then (cond u (Ok (map (along_jet c k n) l)) (Err OutOfRange)) (λ js. Ok (j ∷ js))))
+          (cond (cond t u false) (Ok (map (along_jet c k n) (s ∷ l))) (Err OutOfRange))
+      by true true = refl
+      by true false = refl
       by false u = refl
-
-  -- and where none is, the jets are those of the integers
-  pub inputs-jets : (l : List SurfaceDerivatives) → some_above20 (map surfaces.order l) ≡ false → n ≤ smallest (map surfaces.order l) → every in_range (numbers (carries_take c n l)) ≡ true →
-      map (λ (a : CurveAnswer). a.jet) (map along l) ≡ map (along_jet c k n) l
-  unfolding carries_take some_above20 smallest
-  inputs-jets [] h b e = refl
-  inputs-jets (s ∷ l) h b e =
-      let t = both_true (every in_range (numbers (formed_by (carried_with c s) n))) (every in_range (numbers (carries_take c n l))) (sym (every_two (formed_by (carried_with c s) n) (carries_take c n l)) ∙ e) in
-      ap₂ (λ (a : CurveDerivatives) (r : List CurveDerivatives). a ∷ r)
-      (ap (λ (a : CurveAnswer). a.jet) (head-along s l h b ∙ ap (λ (x : Bool). cond x (answered_curve n (along_numbers c k n s)) (refused_curve 9)) t.0))
-      (inputs-jets l (tail-above s l h b) (tail-reach s l h b) t.1)
 
   -- the carried jets have the order n
   module _ (small : n ≤ 20) where

@@ -4,6 +4,7 @@ pub mod Examples
 -- what its proof is made of, from a single number up
 pub mod Sound
 pub mod Operations
+pub mod Answers
 pub mod Meeting
 pub mod Induction
 pub mod Inputs

@@ -1,17 +1,14 @@
 -- The jets of the two roads side by side: a surface of the first, a curve of the second, and the same curve over the integers. What a call on them
 -- answers. Assumes nothing.
-use mathlib.Core.Path.{◌≡◌, refl, sym, ap, ap₂, ◌∙◌}
-use mathlib.Core.Bool.{Bool, cond}
-use mathlib.Core.List.{List}
-use Prim.Native.Nat.{ℕ, suc, ◌+◌, ◌≤◌}
+use Rattle.std.specs.Prelude.{Bool, cond, List, ◌≡◌, ℕ, suc, ◌+◌, ◌≤◌, ℤ, pos, Result, Ok, Err}
+use mathlib.Core.Path.{refl, sym, ap, ap₂, ◌∙◌}
 use native.Mathlib.Nat.{le_refl, min-eq_left}
 use native.Mathlib.Omega.{arith}
-use lib.IntN.{ℤ, pos}
 use borrow.Author.Tests.{lt-ltb, le-ltb}
-use Rattle.whole.specs.declared.Whole.{Whole}
-use Rattle.whole.specs.declared.Whole.TheVariants.{Value}
-use Rattle.whole.specs.Checked.{in_range}
-use Rattle.whole.specs.History.{Traced, bare, verdict, numbers, every}
+use Rattle.refusals.specs.declared.Refusal.{Refusal}
+use Rattle.refusals.specs.declared.Refusal.TheVariants.{OutOfRange}
+use Rattle.whole.specs.Checked.{Whole, in_range}
+use Rattle.whole.specs.History.{Traced, Verdict, bare, verdict, numbers, every}
 use Rattle.whole.proofs.History.{settle-bare}
 use Rattle.calculus.specs.Kind.{regular, plain}
 use Rattle.calculus.specs.Array.{curve_array}
@@ -25,15 +22,14 @@ use Rattle.calculus.proofs.LoopSurfaceFilling.{array_at}
 use Rattle.exact.specs.declared.CurveDerivatives.{CurveDerivatives}
 use Rattle.exact.specs.declared.SurfaceDerivatives.{SurfaceDerivatives}
 use Rattle.exact.specs.declared.ParameterCurve.{ParameterCurve}
-use Rattle.exact.specs.declared.SurfaceAnswer.{SurfaceAnswer}
 use Rattle.exact_formulas.specs.Kinds.{checked, traced}
 use Rattle.exact_formulas.specs.Entries.{curve_numbers, surface_numbers, curve_values, surface_values}
-use Rattle.exact.specs.Names.{refused_curve, answered_curve, answered_surface}
-use Rattle.exact.specs.Answer.{curve_answer, surface_answer, on_curves, on_surfaces}
+use Rattle.exact.specs.Names.{answered_surface}
+use Rattle.exact.specs.Answer.{curves, surfaces, curve_answer, surface_answer, on_curves, on_surfaces}
 use Rattle.exact.specs.Judged.{histories}
 use Rattle.exact.specs.Composite.{along_curve}
 use Rattle.exact.proofs.Judged.{Settled, settled, Valued, valued, Sound, curve-exact, surface-answered}
-use Rattle.exact.proofs.Orders.{within}
+use Rattle.exact.proofs.Orders.{within, passed}
 use Rattle.calculus.proofs.Same.{curve-entries-same}
 use Rattle.exact.proofs.CarryJudged.{carry-in-range}
 use Rattle.calculus.specs.declared.Operation.{Operation}
@@ -41,6 +37,7 @@ use Rattle.calculus.specs.Operation.{curve_operation, surface_operation}
 use Rattle.roads.specs.Formed.{formed_by, carried_with}
 use Rattle.calculus.proofs.Operations.{curve-alike, surface-alike}
 use Rattle.roads.proofs.Operations.{carry-operation, carry-exact}
+use Rattle.roads.proofs.Answers.{same-answer}
 
 -- ---- calls on jets of one order
 module _ {n : ℕ} (h : n ≤ 20) where
@@ -57,11 +54,8 @@ module _ {n : ℕ} (h : n ≤ 20) where
       filled_at 21 (pos 0) (pos 0) a (suc n) i (omega arith) ∙ ap (λ (t : Bool). cond t (a i) (pos 0)) (lt-ltb i (suc n) (omega arith))
 
 -- ---- one operation, answered on surfaces of the order k
-module _ {k : ℕ} (high : k ≤ 20) (op : Operation) (s r : SurfaceDerivatives) (p : s.order ≡ k) (q : r.order ≡ k)
-    (e : (on_surfaces (surface_operation checked op) s r).refusal ≡ 0) where
-  abbrev on : SurfaceAnswer
-  on = on_surfaces (surface_operation checked op) s r
-
+module _ {k : ℕ} (high : k ≤ 20) (op : Operation) (s r : SurfaceDerivatives) (p : s.order ≡ k) (q : r.order ≡ k) {t : SurfaceDerivatives}
+    (e : on_surfaces (surface_operation checked op) s r ≡ Ok t) where
   abbrev entries : ℕ → ℕ → Traced
   entries = surface_operation traced op (λ i j. bare (surface_numbers s.entries i j)) (λ i j. bare (surface_numbers r.entries i j))
 
@@ -71,7 +65,8 @@ module _ {k : ℕ} (high : k ≤ 20) (op : Operation) (s r : SurfaceDerivatives)
   integers : ℕ → ℕ → ℤ
   integers = surface_operation plain op (surface_numbers s.entries) (surface_numbers r.entries)
 
-  answered : (on ≡ answered_surface k integers) × ((i j : ℕ) → i + j ≤ k → verdict (entries i j).history ≡ 0)
+  answered : (◌≡◌ {A = Result SurfaceDerivatives Refusal} (Ok t) (answered_surface k integers))
+      × ((i j : ℕ) → i + j ≤ k → ◌≡◌ {A = Verdict} (verdict (entries i j).history) (Ok tt))
   unfolding integers
   answered =
       let is = on-surfaces high (surface_operation checked op) s r p q in
@@ -79,20 +74,23 @@ module _ {k : ℕ} (high : k ≤ 20) (op : Operation) (s r : SurfaceDerivatives)
       (surface-alike Settled traced checked settled k op _ _ (surface_values s.entries) (surface_values r.entries)
       (λ i j l. settle-bare (surface_numbers s.entries i j)) (λ i j l. settle-bare (surface_numbers r.entries i j)))
       (surface-alike Valued traced plain valued k op _ _ (surface_numbers s.entries) (surface_numbers r.entries) (λ i j l. refl) (λ i j l. refl))
-      (sym (ap (λ (x : SurfaceAnswer). x.refusal) is) ∙ e) in
-      (is ∙ h.0, h.1)
+      (sym is ∙ e) in
+      (sym e ∙ is ∙ h.0, h.1)
 
   -- no entry was refused, and the result has the order k and the numbers of the integers
-  result-verdicts : (i j : ℕ) → i + j ≤ k → verdict (entries i j).history ≡ 0
+  result-verdicts : (i j : ℕ) → i + j ≤ k → ◌≡◌ {A = Verdict} (verdict (entries i j).history) (Ok tt)
   result-verdicts = answered.1
 
-  pub result-order : on.jet.order ≡ k
-  result-order = ap (λ (x : SurfaceAnswer). x.jet.order) answered.0
+  result-jet : t ≡ surfaces.made k integers
+  result-jet = same-answer answered.0
 
-  result-numbers : SurfacesAgree k (surface_numbers on.jet.entries) (surface_operation plain op (surface_numbers s.entries) (surface_numbers r.entries))
+  pub result-order : t.order ≡ k
+  result-order = ap (λ (x : SurfaceDerivatives). x.order) result-jet
+
+  result-numbers : SurfacesAgree k (surface_numbers t.entries) (surface_operation plain op (surface_numbers s.entries) (surface_numbers r.entries))
   unfolding integers
   result-numbers i j l =
-      ap (λ (x : SurfaceAnswer). surface_numbers x.jet.entries i j) answered.0
+      ap (λ (x : SurfaceDerivatives). surface_numbers x.entries i j) result-jet
       ∙ array_at (pos 0) (pos 0) integers k i j high l
 
 -- ---- along the curve c, up to the order n; the recipe works on the surfaces at the order k
@@ -102,7 +100,7 @@ module _ (c : ParameterCurve) (k n : ℕ) where
   along_numbers s = carried (curve_numbers c.u) (curve_numbers c.v) (surface_numbers s.entries)
 
   abbrev pub along_jet : SurfaceDerivatives → CurveDerivatives
-  along_jet s = (answered_curve n (along_numbers s)).jet
+  along_jet s = curves.made n (along_numbers s)
 
   -- a surface in the first road's hand, the curve of the same number in the second's, and that number's jet over the integers
   pub record Meets (s : SurfaceDerivatives) (a : CurveDerivatives) (z : ℕ → ℤ) : Type 0 where
@@ -124,22 +122,20 @@ module _ (c : ParameterCurve) (k n : ℕ) where
       (λ i l. refl) (λ i l. refl) (λ i j l. refl) m (le_refl m)
 
   pub along-within : (s : SurfaceDerivatives) → s.order ≤ 20 → c.order ≤ 20 → n ≤ s.order → n ≤ c.order →
-      along_curve s c n ≡ cond (every in_range (numbers (formed_by (carried_with c s) n))) (answered_curve n (along_numbers s)) (refused_curve 9)
+      along_curve s c n ≡ cond (every in_range (numbers (formed_by (carried_with c s) n))) (Ok (along_jet s)) (Err OutOfRange)
   along-within s hs hc ls lc =
       let answer = curve_answer (composite_derivatives (regular checked) (curve_values c.u) (curve_values c.v) (surface_values s.entries)) n in
-      sym (within refused_curve answer s.order c.order n hs hc (omega arith) ls lc)
+      sym (passed s.order c.order n (within s.order c.order n hs hc (omega arith) ls lc) answer)
       ∙ carry-in-range (curve_numbers c.u) (curve_numbers c.v) (surface_numbers s.entries) n
 
   -- the same operation on the curves that the surfaces meet
   module _ (o : Orders) (op : Operation) {s r : SurfaceDerivatives} {a b : CurveDerivatives} {y z : ℕ → ℤ} (p : Meets s a y) (q : Meets r b z)
-      (e : (on_surfaces (surface_operation checked op) s r).refusal ≡ 0) where
-    abbrev jet : SurfaceDerivatives
-    jet = (on_surfaces (surface_operation checked op) s r).jet
-
-    verdicts : (i j : ℕ) → i + j ≤ k → verdict (surface_operation traced op (λ i j. bare (surface_numbers s.entries i j)) (λ i j. bare (surface_numbers r.entries i j)) i j).history ≡ 0
+      {jet : SurfaceDerivatives} (e : on_surfaces (surface_operation checked op) s r ≡ Ok jet) where
+    verdicts : (i j : ℕ) → i + j ≤ k →
+        ◌≡◌ {A = Verdict} (verdict (surface_operation traced op (λ i j. bare (surface_numbers s.entries i j)) (λ i j. bare (surface_numbers r.entries i j)) i j).history) (Ok tt)
     verdicts = result-verdicts o.high op s r p.order q.order e
 
-    result-along : CurvesAgree n (curve_operation plain op (along_numbers s) (along_numbers r)) (along_numbers (jet))
+    result-along : CurvesAgree n (curve_operation plain op (along_numbers s) (along_numbers r)) (along_numbers jet)
     result-along i l =
         carry-operation (curve_numbers c.u) (curve_numbers c.v) (surface_numbers s.entries) (surface_numbers r.entries) k n o.asked op verdicts i l
         ∙ sym (carry-upto (curve_numbers c.u) (curve_numbers c.v) n (λ i j b. result-numbers o.high op s r p.order q.order e i j (omega (arith, o.asked))) i l)
@@ -164,20 +160,20 @@ module _ (c : ParameterCurve) (k n : ℕ) where
     numbers-settle : (m : ℕ) → m ≤ n → Settled (by_numbers m) (curve_operation checked op (curve_values (along_jet s).entries) (curve_values (along_jet r).entries) m)
     numbers-settle =
         curve-alike Settled traced checked settled n op _ _ (curve_values (along_jet s).entries) (curve_values (along_jet r).entries)
-        (λ i l. settle-bare (along_numbers s i) ∙ ap Value (sym (curve-array-at small (along_numbers s) i l)))
-        (λ i l. settle-bare (along_numbers r i) ∙ ap Value (sym (curve-array-at small (along_numbers r) i l)))
+        (λ i l. settle-bare (along_numbers s i) ∙ ap (λ (x : ℤ). Ok x) (sym (curve-array-at small (along_numbers s) i l)))
+        (λ i l. settle-bare (along_numbers r i) ∙ ap (λ (x : ℤ). Ok x) (sym (curve-array-at small (along_numbers r) i l)))
 
     numbers-value : (m : ℕ) → m ≤ n → Valued (by_numbers m) (along_numbers jet m)
     numbers-value m l = (numbers-sound m l).0 ∙ result-along m l
 
     -- the second road's step is answered with the first one's result carried, or refused 9
-    pub step-answer : on_curves (curve_operation checked op) a b ≡ cond (every in_range (numbers (formed_by in_hand n))) (answered_curve n (along_numbers jet)) (refused_curve 9)
+    pub step-answer : on_curves (curve_operation checked op) a b ≡ cond (every in_range (numbers (formed_by in_hand n))) (Ok (along_jet jet)) (Err OutOfRange)
     step-answer =
         ap₂ (on_curves (curve_operation checked op)) p.curve q.curve
         ∙ on-curves small (curve_operation checked op) (along_jet s).entries (along_jet r).entries
         ∙ curve-exact n (curve_operation checked op (curve_values (along_jet s).entries) (curve_values (along_jet r).entries)) by_numbers (along_numbers jet)
         numbers-settle (λ m l. (numbers-value m l, (numbers-sound m l).1))
-        ∙ ap (λ (h : List Traced). cond (every in_range (numbers (histories h))) (answered_curve n (along_numbers jet)) (refused_curve 9))
+        ∙ ap (λ (h : List Traced). cond (every in_range (numbers (histories h))) (Ok (along_jet jet)) (Err OutOfRange))
         (sym (curve-entries-same n hand-numbers))
 
     pub step-meets : Meets jet (along_jet jet) (λ m. (in_hand m).value)

@@ -1,7 +1,7 @@
 -- One step: an operation on surfaces that is answered is carried to the operation on the carried, over the integers, every division of which is
 -- exact. Assumes nothing.
 use mathlib.Core.Path.{◌≡◌, refl, sym, ap, ◌∙◌, subst}
-use mathlib.Core.Bool.{false}
+use Rattle.std.specs.Prelude.{false, Ok}
 use Prim.Native.Nat.{ℕ, suc, ◌+◌, ◌≤◌}
 use native.Mathlib.Nat.{le_refl}
 use native.Mathlib.Omega.{arith}
@@ -9,7 +9,7 @@ use lib.Dec.{eqb}
 use lib.IntN.{ℤ, pos, nat_abs}
 use lib.Signed.{rem_z}
 use borrow.Author.Tests.{eqb-true, eqb-false}
-use Rattle.whole.specs.History.{Traced, bare, verdict}
+use Rattle.whole.specs.History.{Traced, Verdict, bare, verdict}
 use Rattle.whole.proofs.Range.{nat_abs-zero}
 use Rattle.calculus.specs.Kind.{regular, plain}
 use Rattle.calculus.specs.Rising.{before}
@@ -65,7 +65,7 @@ module _ (u v : ℕ → ℤ) (a b : ℕ → ℕ → ℤ) (N : ℕ) where
   operated op = surface_operation traced op (λ i j. bare (a i j)) (λ i j. bare (b i j))
 
   abbrev pub Answered : Operation → Type 0
-  Answered op = (i j : ℕ) → i + j ≤ N → verdict (operated op i j).history ≡ 0
+  Answered op = (i j : ℕ) → i + j ≤ N → ◌≡◌ {A = Verdict} (verdict (operated op i j).history) (Ok tt)
 
   divides : Answered Quotient → (i j : ℕ) → i + j ≤ N → (eqb (nat_abs (b 0 0)) 0 ≡ false) × (rem_z (Surface.quotient_dividend plain a b i j) (b 0 0) ≡ pos 0)
   divides h i j l =

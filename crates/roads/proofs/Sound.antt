@@ -1,13 +1,10 @@
 -- Numbers with their history whose divisions are all exact: a division without a remainder keeps them so, and one that is answered leaves none.
 -- Assumes nothing.
-use mathlib.Core.Path.{◌≡◌, ap, ◌∙◌, subst, sym}
-use mathlib.Core.Bool.{true, false}
-use mathlib.Core.List.{[], ◌∷◌}
-use lib.Dec.{eqb}
-use lib.IntN.{ℤ, nat_abs}
-use lib.Signed.{quot_z, rem_z}
+use Rattle.std.specs.Prelude.{true, false, [], ◌∷◌, ◌≡◌, eqb, ℤ, nat_abs, Ok}
+use Rattle.std.specs.Int.Signed.{quot_z, rem_z}
+use mathlib.Core.Path.{ap, ◌∙◌, subst, sym}
 use Rattle.whole.specs.Checked
-use Rattle.whole.specs.History.{forms, divides, Traced, settle, bare, verdict, traced_over}
+use Rattle.whole.specs.History.{forms, divides, Traced, Verdict, settle, bare, verdict, traced_over}
 use Rattle.whole.proofs.History.{settle-over, exact-then, exact-division, answered-value, settle-answered}
 use Rattle.whole.proofs.Answers.{both-answered, divided-answered}
 use Rattle.exact.proofs.Judged.{Sound, exact_none}
@@ -21,7 +18,8 @@ sound-over t x y p h k = (
 )
 
 -- a division that is answered was one
-pub over-answered : (t : Traced) (y : ℤ) → verdict (traced_over t (bare y)).history ≡ 0 → (eqb (nat_abs y) 0 ≡ false) × (eqb (nat_abs (rem_z t.value y)) 0 ≡ true)
+pub over-answered : (t : Traced) (y : ℤ) → ◌≡◌ {A = Verdict} (verdict (traced_over t (bare y)).history) (Ok tt) →
+    (eqb (nat_abs y) 0 ≡ false) × (eqb (nat_abs (rem_z t.value y)) 0 ≡ true)
 over-answered t y h =
     let a = both-answered Checked.divided (settle t) (settle (bare y)) (sym (settle-over t (bare y)) ∙ settle-answered (traced_over t (bare y)) h) in
     let d = divided-answered a.left a.right a.result in

@@ -1,30 +1,23 @@
--- The loops of a recipe, over any kind of jet: the jets given are cut and put in hand, and what is left to work, on the jets in hand, comes to
--- the whole. Assumes nothing.
-use mathlib.Core.Path.{◌≡◌, refl, sym, ap, ap₂, ◌∙◌, fun_ext}
-use mathlib.Core.Bool.{Bool, true, false, cond}
-use mathlib.Core.List.{List, [], ◌∷◌}
-use Prim.Native.Nat.{ℕ, zero, suc, ◌+◌, ◌-◌, ◌≤◌, ◌<◌}
-use native.Mathlib.Nat.{add-zero, min-le_left, not-suc-le-zero}
+-- The loop of a recipe's steps, over any kind of jet: what is left to work, on the jets in hand, comes to the whole. Assumes nothing.
+use Rattle.std.specs.Prelude.{Result, Ok, Err, Bool, true, false, cond, List, [], ◌∷◌, ◌≡◌, ℕ, suc, ◌+◌, ◌-◌, ◌*◌, ◌^◌, ◌≤◌, ◌<◌, ltb, eqb, length, get_or, set, drop}
+use mathlib.Core.Path.{sym, ap, ap₂, ◌∙◌, fun_ext}
+use native.Mathlib.Nat.{add-zero, mul-le-mul_right}
+use mir.Syntax.{w64}
+use mir.Val.{Fits}
 use native.Mathlib.Numerals.{add-one}
 use native.Mathlib.Decide.{ℕ_discrete}
 use native.Mathlib.Omega.{arith}
-use lib.Dec.{ltb, eqb}
-use lib.ListN.{length, get_or, set, take, drop, length-set, length-take, drop_of_length-le}
-use lib.Seq.{drop-cons, get_or-take, length-take-le, get_or-set_same, get_or-set_other}
+use lib.ListN.{length-set, drop_of_length-le}
+use lib.Seq.{drop-cons, get_or-set_same, get_or-set_other}
+use Rattle.std.proofs.lemmas.List.{get_or_default}
 use borrow.Author.Tests.{ltb-true, eq-eqb, ne_eqb}
+use Rattle.refusals.specs.declared.Refusal.{Refusal}
 use Rattle.whole.proofs.History.{both_true}
-use Rattle.exact.specs.Judged.{by_verdict}
 use Rattle.calculus.specs.declared.Operation.TheVariants.{Sum}
 use Rattle.roads.specs.declared.Step.{Step}
-use Rattle.roads.specs.Recipe.{RecipeKind, with, names_earlier, worked}
-use Rattle.calculus.specs.JetKind.{refused}
+use Rattle.roads.specs.Recipe.{RecipeKind, and_then, with, names_earlier, worked}
 
--- a refusal is passed on
-pub stays : {B : Type 0} (refused : ℕ → B) (b : B) (x : ℕ) → ¬ (x ≡ 0) → refused x ≡ by_verdict refused x b
-stays refused b zero h = absurd (h refl)
-stays refused b (suc x) h = refl
-
-module _ {X E J A : Type 0} (K : RecipeKind X E J A) where
+module _ {J : Type 0} (K : RecipeKind J) where
   -- a list of jets, by number
   abbrev pub held : List J → ℕ → J
   held l i = get_or l i K.blank
@@ -47,82 +40,50 @@ module _ {X E J A : Type 0} (K : RecipeKind X E J A) where
 
   pub worked_same : (ss : List Step) (f g : ℕ → J) (m : ℕ) → 0 < m → ((i : ℕ) → i < m → f i ≡ g i) → names_earlier m ss ≡ true → worked K f m ss ≡ worked K g m ss
   unfolding worked names_earlier
-  worked_same [] f g m p h e = ap (K.jets.answer 0) (h (m - 1) (omega arith))
+  worked_same [] f g m p h e = ap (λ (j : J). Ok j) (h (m - 1) (omega arith))
   worked_same (s ∷ ss) f g m p h e =
       let x = both_true (ltb s.left m) (cond (ltb s.right m) (names_earlier (suc m) ss) false) e in
       let y = both_true (ltb s.right m) (names_earlier (suc m) ss) x.1 in
-      let a = K.apply s.operation (g s.left) (g s.right) in
-      ap₂ (λ (l r : J). by_verdict (refused K.jets) (K.jets.refusal (K.apply s.operation l r)) (worked K (with f m (K.jets.jet (K.apply s.operation l r))) (suc m) ss))
-      (h s.left (ltb-true s.left m x.0)) (h s.right (ltb-true s.right m y.0))
-      ∙ ap (by_verdict (refused K.jets) (K.jets.refusal a))
-      (worked_same ss (with f m (K.jets.jet a)) (with g m (K.jets.jet a)) (suc m) (omega arith) (with-same f g m (K.jets.jet a) h) y.1)
+      ap₂ (λ (l r : J). and_then (K.apply s.operation l r) (λ j. worked K (with f m j) (suc m) ss)) (h s.left (ltb-true s.left m x.0)) (h s.right (ltb-true s.right m y.0))
+      ∙ ap (and_then (K.apply s.operation (g s.left) (g s.right)))
+      (fun_ext (λ j. worked_same ss (with f m j) (with g m j) (suc m) (omega arith) (with-same f g m j h) y.1))
 
--- ---- the jets given are cut to the order of work in turn; the first i are in hand
-pub record Cutting {X E J A : Type 0} (K : RecipeKind X E J A) (jets : List J) (order inputs : ℕ) (jet-of : List J) (i : ℕ) : Type 0 where
-  pub upto : i ≤ inputs
-  pub wide : length jet-of ≡ 16
-  pub done : (k : ℕ) → k < i → get_or jet-of k K.blank ≡ K.cut order (get_or jets k K.blank)
-
-pub cut-begins : {X E J A : Type 0} (K : RecipeKind X E J A) (jets : List J) (order inputs : ℕ) {jet-of : List J} → length jet-of ≡ 16 → Cutting K jets order inputs jet-of 0
-cut-begins K jets order inputs w = record { upto = omega arith; wide = w; done = λ k h. absurd (not-suc-le-zero h) }
-
-module _ {X E J A : Type 0} {K : RecipeKind X E J A} {jets : List J} {order inputs : ℕ} {jet-of : List J} {i : ℕ} (w : Cutting K jets order inputs jet-of i) where
-  pub cut-goes-on : i < inputs → inputs ≤ 4 → Cutting K jets order inputs (set jet-of i (K.cut order (get_or jets i K.blank))) (i + 1)
-  cut-goes-on b four = record {
-    upto = omega arith;
-    wide = length-set jet-of i _ ∙ w.wide;
-    done = λ k h. at k h (ℕ_discrete k i);
-  }
-    where
-      at : (k : ℕ) → k < i + 1 → Dec (k ≡ i) → get_or (set jet-of i (K.cut order (get_or jets i K.blank))) k K.blank ≡ K.cut order (get_or jets k K.blank)
-      at k h (yes e) = rw e (get_or-set_same jet-of i (K.cut order (get_or jets i K.blank)) K.blank (omega (arith, w.wide)))
-      at k h (no e) = get_or-set_other jet-of i k (K.cut order (get_or jets i K.blank)) K.blank e ∙ w.done k (omega arith)
-
-  pub cut-ends : inputs ≤ i → (k : ℕ) → k < inputs → get_or jet-of k K.blank ≡ K.cut order (get_or jets k K.blank)
-  cut-ends b k h = w.done k (omega arith)
-
--- ---- the first n steps of a program are worked on the jets `start`; i of them are done
-pub record Working {X E J A : Type 0} (K : RecipeKind X E J A) (start : List J) (inputs n : ℕ) (program : List Step) (jet-of : List J) (i : ℕ) : Type 0 where
-  pub upto : i ≤ n
+-- ---- a program is worked on the jets `start`; i of its steps are done
+pub record Working {J : Type 0} (K : RecipeKind J) (start : List J) (inputs : ℕ) (program : List Step) (jet-of : List J) (i : ℕ) : Type 0 where
   pub four : inputs ≤ 4
-  pub twelve : n ≤ 12
-  pub long : length program ≡ 12
+  pub twelve : length program ≤ 12
   pub wide : length jet-of ≡ 16
-  pub names : names_earlier (inputs + i) (drop i (take n program)) ≡ true
-  pub rest : worked K (held K jet-of) (inputs + i) (drop i (take n program)) ≡ worked K (held K start) inputs (take n program)
+  pub names : names_earlier (inputs + i) (drop i program) ≡ true
+  pub rest : worked K (held K jet-of) (inputs + i) (drop i program) ≡ worked K (held K start) inputs program
 
 -- what is read past a program's end
 abbrev none : Step
 none = record { operation = Sum; left = 0; right = 0 }
 
-module _ {X E J A : Type 0} (K : RecipeKind X E J A) {start : List J} {inputs n : ℕ} {program : List Step} where
-  pub work-begins : inputs ≤ 4 → n ≤ 12 → length program ≡ 12 → length start ≡ 16 → names_earlier inputs (take n program) ≡ true → Working K start inputs n program start 0
-  work-begins f t l w e = record {
-    upto = omega arith;
+module _ {J : Type 0} (K : RecipeKind J) {start : List J} {inputs : ℕ} {program : List Step} where
+  pub work-begins : inputs ≤ 4 → length program ≤ 12 → length start ≡ 16 → names_earlier inputs program ≡ true → Working K start inputs program start 0
+  work-begins f t w e = record {
     four = f;
     twelve = t;
-    long = l;
     wide = w;
-    names = ap (λ (m : ℕ). names_earlier m (take n program)) (add-zero inputs) ∙ e;
-    rest = ap (λ (m : ℕ). worked K (held K start) m (take n program)) (add-zero inputs);
+    names = ap (λ (m : ℕ). names_earlier m program) (add-zero inputs) ∙ e;
+    rest = ap (λ (m : ℕ). worked K (held K start) m program) (add-zero inputs);
   }
 
-module _ {X E J A : Type 0} {K : RecipeKind X E J A} {start : List J} {inputs n : ℕ} {program : List Step} {jet-of : List J} {i : ℕ} (w : Working K start inputs n program jet-of i) where
-  abbrev outcome : A
-  outcome = worked K (held K start) inputs (take n program)
+module _ {J : Type 0} {K : RecipeKind J} {start : List J} {inputs : ℕ} {program : List Step} {jet-of : List J} {i : ℕ} (w : Working K start inputs program jet-of i) where
+  abbrev outcome : Result J Refusal
+  outcome = worked K (held K start) inputs program
 
   -- the step i
-  module _ (b : i < n) where
+  module _ (b : i < length program) where
     abbrev step : Step
     step = get_or program i none
 
     abbrev later : List Step
-    later = drop (i + 1) (take n program)
+    later = drop (i + 1) program
 
-    left_over : drop i (take n program) ≡ step ∷ later
-    left_over =
-        let l : length (take n program) ≡ n = length-take-le n program (omega (arith, w.twelve, w.long)) in
-        drop-cons (take n program) i none (omega (arith, l)) ∙ ap₂ (λ (s : Step) (k : ℕ). s ∷ drop k (take n program)) (get_or-take n program i none b) (sym (add-one i))
+    left_over : drop i program ≡ step ∷ later
+    left_over = drop-cons program i none b ∙ ap (λ (k : ℕ). step ∷ drop k program) (sym (add-one i))
 
     named : (step.left < inputs + i) × (step.right < inputs + i) × (names_earlier (suc (inputs + i)) later ≡ true)
     unfolding names_earlier
@@ -139,39 +100,49 @@ module _ {X E J A : Type 0} {K : RecipeKind X E J A} {start : List J} {inputs n 
     pub right-in : step.right < 16
     right-in = omega (arith, named.1, w.four, w.twelve)
 
-    abbrev answer : A
+    abbrev answer : Result J Refusal
     answer = K.apply step.operation (held K jet-of step.left) (held K jet-of step.right)
 
-    abbrev after : A
-    after = worked K (with (held K jet-of) (inputs + i) (K.jets.jet answer)) (suc (inputs + i)) later
+    after : J → Result J Refusal
+    after j = worked K (with (held K jet-of) (inputs + i) j) (suc (inputs + i)) later
 
-    one-step : by_verdict (refused K.jets) (K.jets.refusal answer) after ≡ outcome
-    unfolding worked
+    one-step : and_then answer after ≡ outcome
+    unfolding worked after
     one-step = ap (worked K (held K jet-of) (inputs + i)) (sym left_over) ∙ w.rest
 
-    pub work-stops : {a : A} → a ≡ answer → ¬ (K.jets.refusal a ≡ 0) → refused K.jets (K.jets.refusal a) ≡ outcome
-    work-stops {a} e h = ap (λ (x : A). refused K.jets (K.jets.refusal x)) e ∙ stays (refused K.jets) after (K.jets.refusal answer) (λ z. h (ap K.jets.refusal e ∙ z)) ∙ one-step
+    -- a step reads what is in hand, whatever stands for what is not
+    at-hand : {r : Result J Refusal} (d e : J) → r ≡ K.apply step.operation (get_or jet-of step.left d) (get_or jet-of step.right e) → r ≡ answer
+    at-hand d e h =
+        h ∙ ap₂ (K.apply step.operation) (get_or_default jet-of step.left d K.blank (omega (arith, left_in, w.wide)))
+        (get_or_default jet-of step.right e K.blank (omega (arith, right-in, w.wide)))
 
-    pub work-goes-on : {a : A} → a ≡ answer → K.jets.refusal a ≡ 0 → Working K start inputs n program (set jet-of (inputs + i) (K.jets.jet a)) (i + 1)
-    work-goes-on {a} e h =
+    pub work-stops : {r : Result J Refusal} (d e : J) → r ≡ K.apply step.operation (get_or jet-of step.left d) (get_or jet-of step.right e) →
+        {c : Refusal} → r ≡ Err c → Err c ≡ outcome
+    work-stops d e h k = ap (λ (a : Result J Refusal). and_then a after) (sym k ∙ at-hand d e h) ∙ one-step
+
+    pub work-goes-on : {r : Result J Refusal} (d e : J) → r ≡ K.apply step.operation (get_or jet-of step.left d) (get_or jet-of step.right e) →
+        {j : J} → r ≡ Ok j → Working K start inputs program (set jet-of (inputs + i) j) (i + 1)
+    unfolding after
+    work-goes-on d e h {j} k =
         let m : inputs + (i + 1) ≡ suc (inputs + i) = omega arith in
         record {
-          upto = omega arith;
           four = w.four;
           twelve = w.twelve;
-          long = w.long;
-          wide = length-set jet-of (inputs + i) (K.jets.jet a) ∙ w.wide;
+          wide = length-set jet-of (inputs + i) j ∙ w.wide;
           names = ap (λ (k : ℕ). names_earlier k later) m ∙ named.2;
-          rest = ap₂ (λ (f : ℕ → J) (k : ℕ). worked K f k later) (stored K jet-of (inputs + i) (K.jets.jet a) (omega (arith, w.wide, w.four, w.twelve))) m
-              ∙ ap (λ (x : A). worked K (with (held K jet-of) (inputs + i) (K.jets.jet x)) (suc (inputs + i)) later) e
-              ∙ ap (λ (x : ℕ). by_verdict (refused K.jets) x after) (sym (ap K.jets.refusal (sym e) ∙ h))
-              ∙ one-step;
+          rest = ap₂ (λ (f : ℕ → J) (k : ℕ). worked K f k later) (stored K jet-of (inputs + i) j (omega (arith, b, w.wide, w.four, w.twelve))) m
+              ∙ ap (λ (a : Result J Refusal). and_then a after) (sym k ∙ at-hand d e h) ∙ one-step;
         }
 
-  pub work-ends : n ≤ i → (K.jets.answer 0) (held K jet-of (inputs + n - 1)) ≡ outcome
+  pub work-ends : (d : J) → 0 < inputs → length program ≤ i → i ≤ length program → Ok (get_or jet-of (inputs + length program - 1) d) ≡ outcome
   unfolding worked
-  work-ends h =
-      let e : i ≡ n = omega (arith, w.upto) in
-      ap (λ (k : ℕ). (K.jets.answer 0) (held K jet-of (inputs + k - 1))) (sym e)
-      ∙ ap (worked K (held K jet-of) (inputs + i)) (sym (drop_of_length-le (take n program) {i = i} (omega (arith, length-take n program, min-le_left n (length program)))))
+  work-ends d p h l =
+      let e : i ≡ length program = omega arith in
+      ap (λ (j : J). Ok j) (get_or_default jet-of (inputs + length program - 1) d K.blank (omega (arith, w.wide, w.four, w.twelve, p)))
+      ∙ ap (λ (k : ℕ). Ok (held K jet-of (inputs + k - 1))) (sym e)
+      ∙ ap (worked K (held K jet-of) (inputs + i)) (sym (drop_of_length-le program {i = i} h))
       ∙ w.rest
+
+-- where sixteen fit in memory, a jet's place among them is a number of the machine
+pub offset : (i s : ℕ) → i < 16 → 16 * s < 2 ^ 63 → Fits w64 (i * s)
+offset i s h k = omega (arith, mul-le-mul_right {m = i} {n = 16} s (omega arith), k)

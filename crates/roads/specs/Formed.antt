@@ -12,7 +12,7 @@ use Rattle.calculus.specs.Order.{curve_entries}
 use Rattle.exact_formulas.specs.Entries.{curve_numbers, surface_numbers}
 use Rattle.exact.specs.Judged.{histories}
 use Rattle.roads.specs.declared.Step.{Step}
-use Rattle.roads.specs.declared.SurfaceRecipe.{SurfaceRecipe}
+use Rattle.roads.specs.declared.Recipe.{Recipe}
 use Rattle.calculus.specs.Operation.{curve_operation}
 use Rattle.roads.specs.Recipe.{with}
 use Rattle.roads.specs.Roads.{surface_steps}
@@ -40,8 +40,8 @@ steps_take n jet-of m [] = []
 steps_take n jet-of m (s ∷ ss) = formed_by (step_with s jet-of) n ++ steps_take n (with jet-of m (λ i. (step_with s jet-of i).value)) (suc m) ss
 
 -- all numbers that the second road forms, some of them more than once
-abbrev pub numbers_formed : SurfaceRecipe → ParameterCurve → ℕ → List ℤ
+abbrev pub numbers_formed : Recipe SurfaceDerivatives → ParameterCurve → ℕ → List ℤ
 numbers_formed r c n =
-    let inputs = take r.inputs r.surfaces in
+    let inputs = take r.inputs r.jets in
     numbers (carries_take c n inputs
     ++ steps_take n (λ k i. (carried_with c (get_or inputs k surface_steps.blank) i).value) r.inputs (take r.steps r.program))

@@ -1,51 +1,29 @@
-// The checks of a recipe that surfaces and curves share.
-ghost use Rattle.std.specs.Prelude.{◌≡◌, ◌≤◌, min, take};
+// The checks of a recipe.
+ghost use Rattle.std.specs.Prelude.{◌≡◌, ◌≤◌, length, take};
 ghost use Rattle.roads.specs.Recipe.{names_earlier, well_formed};
 
 use crate::Step;
 
 // Whether each step names numbers before its own.
-fn names_earlier(inputs: usize, steps: usize, program: [Step; 12]) -> bool
-    requires { (inputs ≤ 4) × (steps ≤ 12) }
-    ensures { result ≡ names_earlier inputs (take steps program) }
+fn names_earlier(inputs: usize, program: &[Step]) -> bool
+    requires { (inputs ≤ 4) × (length program.now ≤ 12) }
+    ensures { result ≡ names_earlier inputs program.now }
 {
-    let mut i = 0;
-    while i < steps {
-        let s = program[i];
-        let m = inputs + i;
-        if m <= s.left {
+    for i in 0..program.len() {
+        let step = program[i];
+        if inputs + i <= step.left || inputs + i <= step.right {
             return false;
         }
-        if m <= s.right {
-            return false;
-        }
-        i += 1;
     }
     true
 }
 
 // Whether the counts are in range, and each step names numbers before its own.
-pub fn well_formed(inputs: usize, steps: usize, program: [Step; 12]) -> bool
-    ensures { result ≡ well_formed inputs steps (take steps program) }
+pub fn well_formed(inputs: usize, steps: usize, program: &[Step; 12]) -> bool
+    ensures { result ≡ well_formed inputs steps (take steps program.now) }
 {
-    if inputs == 0 {
+    if inputs == 0 || 4 < inputs || steps == 0 || 12 < steps {
         return false;
     }
-    if 4 < inputs {
-        return false;
-    }
-    if steps == 0 {
-        return false;
-    }
-    if 12 < steps {
-        return false;
-    }
-    names_earlier(inputs, steps, program)
-}
-
-// How many of the four places the count of inputs names.
-pub fn given(inputs: usize) -> usize
-    ensures { result ≡ min inputs 4 }
-{
-    if inputs < 4 { inputs } else { 4 }
+    names_earlier(inputs, &program[..steps])
 }

@@ -60,10 +60,8 @@ fn power(x: f64, n: usize) -> f64
     ensures { result ≡ power_of x n }
 {
     let mut p = 1.0;
-    let mut i = 0;
-    while i < n {
+    for i in 0..n {
         p = p * x;
-        i += 1;
     }
     p
 }

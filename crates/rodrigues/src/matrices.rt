@@ -89,66 +89,21 @@ pub fn symmetric(xx: f64, xy: f64, xz: f64, yy: f64, yz: f64, zz: f64) -> Matrix
     matrix(xx, xy, xz, xy, yy, yz, xz, yz, zz)
 }
 
-// The source's match over the axis' orders, one order after the other.
-fn not_by_x(y: usize, z: usize, axis: Vector3, s: f64, c: f64, k: f64) -> Matrix3
-    ensures { result ≡ by_axis 0 y z axis s c k }
-{
-    match y {
-        0 => match z {
-            0 => rodrigues(axis, s, c, k),
-            1 => by_z(axis, s, k),
-            2 => symmetric(0.0, 0.0, 0.0, 0.0, 0.0, 2.0 * k),
-            _ => crate::zero(),
-        },
-        1 => match z {
-            0 => by_y(axis, s, k),
-            1 => symmetric(0.0, 0.0, 0.0, 0.0, k, 0.0),
-            _ => crate::zero(),
-        },
-        2 => match z {
-            0 => symmetric(0.0, 0.0, 0.0, 2.0 * k, 0.0, 0.0),
-            _ => crate::zero(),
-        },
-        _ => crate::zero(),
-    }
-}
-
-fn once_by_x(y: usize, z: usize, axis: Vector3, s: f64, c: f64, k: f64) -> Matrix3
-    ensures { result ≡ by_axis 1 y z axis s c k }
-{
-    match y {
-        0 => match z {
-            0 => by_x(axis, s, k),
-            1 => symmetric(0.0, 0.0, k, 0.0, 0.0, 0.0),
-            _ => crate::zero(),
-        },
-        1 => match z {
-            0 => symmetric(0.0, k, 0.0, 0.0, 0.0, 0.0),
-            _ => crate::zero(),
-        },
-        _ => crate::zero(),
-    }
-}
-
-fn twice_by_x(y: usize, z: usize, axis: Vector3, s: f64, c: f64, k: f64) -> Matrix3
-    ensures { result ≡ by_axis 2 y z axis s c k }
-{
-    match y {
-        0 => match z {
-            0 => symmetric(2.0 * k, 0.0, 0.0, 0.0, 0.0, 0.0),
-            _ => crate::zero(),
-        },
-        _ => crate::zero(),
-    }
-}
-
+// x, y and z times by the axis' components.
 pub fn by_axis(x: usize, y: usize, z: usize, axis: Vector3, s: f64, c: f64, k: f64) -> Matrix3
     ensures { result ≡ by_axis x y z axis s c k }
 {
-    match x {
-        0 => not_by_x(y, z, axis, s, c, k),
-        1 => once_by_x(y, z, axis, s, c, k),
-        2 => twice_by_x(y, z, axis, s, c, k),
+    match (x, y, z) {
+        (0, 0, 0) => rodrigues(axis, s, c, k),
+        (1, 0, 0) => by_x(axis, s, k),
+        (0, 1, 0) => by_y(axis, s, k),
+        (0, 0, 1) => by_z(axis, s, k),
+        (2, 0, 0) => symmetric(2.0 * k, 0.0, 0.0, 0.0, 0.0, 0.0),
+        (0, 2, 0) => symmetric(0.0, 0.0, 0.0, 2.0 * k, 0.0, 0.0),
+        (0, 0, 2) => symmetric(0.0, 0.0, 0.0, 0.0, 0.0, 2.0 * k),
+        (0, 1, 1) => symmetric(0.0, 0.0, 0.0, 0.0, k, 0.0),
+        (1, 0, 1) => symmetric(0.0, 0.0, k, 0.0, 0.0, 0.0),
+        (1, 1, 0) => symmetric(0.0, k, 0.0, 0.0, 0.0, 0.0),
         _ => crate::zero(),
     }
 }

@@ -2,8 +2,8 @@
 use mathlib.Core.Path.{◌≡◌, refl}
 use lib.Ieee.{Float, nan, of_bits, add, mul, neg}
 use Rattle.ieee_vectors.specs.Vectors.{vector, positive_zero}
-use Rattle.vectors.specs.Answers.{refused3}
-use Rattle.vectors.specs.declared.VectorAnswer.TheVariants.{Refused}
+use Rattle.std.specs.Prelude.{Err}
+use Rattle.refusals.specs.declared.Refusal.TheVariants.{OrderAbove20, InputNotFinite, AnswerNotFinite}
 use Rattle.ieee_vectors.proofs.Floats.{minus_one, huge}
 use Rattle.rolling_ball_fillet.specs.declared.ContactCircle.{ContactCircle}
 use Rattle.rodrigues.specs.Rotation.{one, turned, pair_of, rotation, zeros}
@@ -19,15 +19,15 @@ unfolding add mul neg of_bits
 signed-zero = refl
 
 -- ---- refusals
-pub order-21 : rotation_answer 0 0 0 21 (vector positive_zero positive_zero one) one positive_zero ≡ refused3 1
+pub order-21 : rotation_answer 0 0 0 21 (vector positive_zero positive_zero one) one positive_zero ≡ Err OrderAbove20
 order-21 = refl
 
-pub not_finite : rotation_answer 0 0 0 0 (vector nan positive_zero one) one positive_zero ≡ refused3 5
+pub not_finite : rotation_answer 0 0 0 0 (vector nan positive_zero one) one positive_zero ≡ Err InputNotFinite
 not_finite = refl
 
-pub overflow : rotation_answer 1 0 0 0 (vector huge positive_zero one) positive_zero minus_one ≡ refused3 10
+pub overflow : rotation_answer 1 0 0 0 (vector huge positive_zero one) positive_zero minus_one ≡ Err AnswerNotFinite
 unfolding add mul neg of_bits
 overflow = refl
 
-pub derivative-order-21 : (o : ContactCircle) (s c : Float) → derivative_answer o 21 s c ≡ Refused 1
+pub derivative-order-21 : (o : ContactCircle) (s c : Float) → derivative_answer o 21 s c ≡ Err OrderAbove20
 derivative-order-21 o s c = refl

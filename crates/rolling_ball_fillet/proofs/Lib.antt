@@ -2,6 +2,4 @@ pub mod Examples
 pub mod Tests
 pub mod Tested
 pub mod CenterFigures
-pub mod Filled
-pub mod Parameters
 pub mod PartialFigures

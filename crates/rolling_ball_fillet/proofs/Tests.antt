@@ -4,10 +4,11 @@ use mathlib.Core.Bool.{Bool, true, false, ◌||◌}
 use Prim.Native.Nat.{ℕ, ◌≤◌}
 use borrow.Author.Tests.{ltb-false}
 use lib.Dec.{ltb}
+use Rattle.refusals.specs.declared.Refusal.{Refusal}
 use Rattle.calculus.specs.JetKind.{tested, above20}
 
 -- the tests before the work, each with what is known of it
-pub as-tested : {A : Type 0} (refused : ℕ → A) (r : A) (above20 unfit finite : Bool) {p q s : Bool} → above20 ≡ p → unfit ≡ q → finite ≡ s →
+pub as-tested : {A : Type 0} (refused : Refusal → A) (r : A) (above20 unfit finite : Bool) {p q s : Bool} → above20 ≡ p → unfit ≡ q → finite ≡ s →
     tested refused p q s r ≡ tested refused above20 unfit finite r
 as-tested refused r above20 unfit finite e f g = sym (λ i. tested refused (e i) (f i) (g i) r)
 
@@ -20,9 +21,6 @@ pub or_right : (p q : Bool) → (p || q) ≡ false → q ≡ false
 or_right true true e = e
 or_right true false e = refl
 or_right false q e = e
-
-pub order_below : (k n : ℕ) (p q : Bool) → (ltb k n || p || q) ≡ false → n ≤ k
-order_below k n p q e = ltb-false k n (or_left (ltb k n) p (or_left (ltb k n || p) q e))
 
 pub not-above-20 : (m n : ℕ) → above20 m n ≡ false → (m ≤ 20) × (n ≤ 20)
 not-above-20 m n e = (ltb-false 20 m (or_left (ltb 20 m) (ltb 20 n) e), ltb-false 20 n (or_right (ltb 20 m) (ltb 20 n) e))

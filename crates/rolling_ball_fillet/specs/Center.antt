@@ -1,17 +1,17 @@
--- What `sub_center_contacts_ders` returns: document 01's refusal number, or the derivatives of the ball's centre, its contact points and their parameters
+-- What `sub_center_contacts_ders` returns: document 01's refusal, or the derivatives of the ball's centre, its contact points and their parameters
 -- along the edge. Checked as 1, 2, 5; then 6 and 7; 10 last. Assumes nothing.
-use Rattle.std.specs.Prelude.{Bool, cond, ◌&&◌, ◌||◌, ℕ, ◌+◌, ltb, eqb, Float}
+use Rattle.std.specs.Prelude.{Bool, cond, ◌&&◌, ◌||◌, ℕ, ◌+◌, ltb, Float, Result, Ok, Err}
 use Rattle.ieee_vectors.specs.Finite.{finite_vector}
 use Rattle.calculus.specs.JetKind.{finite_up_to, tested, above20}
 use Rattle.contacts.specs.Center.{center_contacts as contacts_at}
 use Rattle.contacts.specs.declared.Place.{Place}
 use Rattle.contacts.specs.declared.CenterContacts.{CenterContacts}
 use Rattle.rolling_ball_fillet.specs.Answers.{finite_circle}
-use Rattle.rolling_ball_fillet.specs.Jets.{no_ders}
 use Rattle.rolling_ball_fillet.specs.declared.ContactCircle.{ContactCircle}
 use Rattle.rolling_ball_fillet.specs.declared.RollingBallFilletSurface.{RollingBallFilletSurface}
 use Rattle.rolling_ball_fillet.specs.declared.CenterContactDers.{CenterContactDers}
-use Rattle.rolling_ball_fillet.specs.declared.CenterContactAnswer.{CenterContactAnswer}
+use Rattle.refusals.specs.declared.Refusal.{Refusal}
+use Rattle.refusals.specs.declared.Refusal.TheVariants.{AnswerNotFinite}
 use Rattle.derivatives.specs.Answer.{curves, parameters}
 use Rattle.vector_derivatives.specs.Answer.{vector_curves, vector_surfaces}
 
@@ -33,7 +33,7 @@ placed f cc = record {
   normal1 = f.normal1;
 }
 
--- ---- the five jets beside 0: the centre's of order n, the others of order n + 1, whose last entry is zero; or the zero jets of order 0 beside a refusal
+-- ---- the five jets: the centre's of order n, the others of order n + 1, whose last entry is zero
 abbrev pub ders_of : ℕ → CenterContacts → CenterContactDers
 ders_of n a = record {
   center_ders = record { order = n; entries = a.center };
@@ -43,14 +43,12 @@ ders_of n a = record {
   uv1_ders = record { order = n + 1; u = a.uv1.u; v = a.uv1.v };
 }
 
-abbrev pub refused_contacts : ℕ → CenterContactAnswer
-refused_contacts c = record { refusal = c; ders = no_ders }
-
-abbrev pub answered_contacts : ℕ → CenterContacts → CenterContactAnswer
-answered_contacts n a = cond (eqb a.refusal 0) (record { refusal = 0; ders = ders_of n a }) (refused_contacts a.refusal)
+abbrev pub answered_contacts : ℕ → Result CenterContacts Refusal → Result CenterContactDers Refusal
+answered_contacts n (Ok a) = Ok (ders_of n a)
+answered_contacts n (Err r) = Err r
 
 -- on all floats, finite or not
-unfoldable pub center_contacts : RollingBallFilletSurface → ContactCircle → ℕ → CenterContactAnswer
+unfoldable pub center_contacts : RollingBallFilletSurface → ContactCircle → ℕ → Result CenterContactDers Refusal
 center_contacts f cc n = answered_contacts n (contacts_at (placed f cc) n)
 
 -- ---- the tests before the work: the jets have the order n + 1 or more, and are finite up to it
@@ -76,15 +74,19 @@ finite_given f cc n = finite_parts f cc n n n n
 abbrev pub finite_whole : RollingBallFilletSurface → ContactCircle → Bool
 finite_whole f cc = finite_parts f cc f.edge_curve.order f.radius.order f.surface0.order f.surface1.order
 
--- ---- and after it: refused jets are finite, and stay what they are
+-- ---- and after it
 abbrev pub finite_contacts : CenterContactDers → ℕ → Bool
 finite_contacts d n =
     (finite_up_to vector_curves d.center_ders n && (finite_up_to vector_curves d.contact0_ders (n + 1) && finite_up_to vector_curves d.contact1_ders (n + 1)))
     && (finite_up_to parameters d.uv0_ders (n + 1) && finite_up_to parameters d.uv1_ders (n + 1))
 
-abbrev pub returned_contacts : CenterContactAnswer → ℕ → CenterContactAnswer
-returned_contacts a n = cond (finite_contacts a.ders n) a (refused_contacts 10)
+abbrev pub finite_ders : ℕ → CenterContactDers → Result CenterContactDers Refusal
+finite_ders n d = cond (finite_contacts d n) (Ok d) (Err AnswerNotFinite)
 
-abbrev pub center_contact_answer : RollingBallFilletSurface → ContactCircle → ℕ → CenterContactAnswer
+abbrev pub returned_contacts : Result CenterContactDers Refusal → ℕ → Result CenterContactDers Refusal
+returned_contacts (Ok d) n = finite_ders n d
+returned_contacts (Err r) n = Err r
+
+abbrev pub center_contact_answer : RollingBallFilletSurface → ContactCircle → ℕ → Result CenterContactDers Refusal
 center_contact_answer f cc n =
-    tested refused_contacts (beyond f n) (short f (n + 1)) (finite_given f cc (n + 1)) (returned_contacts (center_contacts f cc n) n)
+    tested Err (beyond f n) (short f (n + 1)) (finite_given f cc (n + 1)) (returned_contacts (center_contacts f cc n) n)

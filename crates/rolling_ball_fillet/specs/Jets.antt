@@ -1,13 +1,9 @@
--- The jets that stand for the ball's centre and contacts: none beside a refusal, cut to an order, and the tests of their orders. Assumes nothing.
+-- The jets that stand for the ball's centre and contacts: cut to an order, and the tests of their orders. Assumes nothing.
 use Rattle.std.specs.Prelude.{ℕ, suc, Bool, ◌||◌, ltb}
 use Rattle.derivatives.specs.Answer.{parameters}
 use Rattle.rolling_ball_fillet.specs.declared.CenterContactDers.{CenterContactDers}
 use Rattle.calculus.specs.JetKind.{cut}
 use Rattle.vector_derivatives.specs.Answer.{vector_curves}
-
--- ---- the zero jets of order 0, which stand beside a refusal
-abbrev pub no_ders : CenterContactDers
-no_ders = record { center_ders = vector_curves.none; contact0_ders = vector_curves.none; contact1_ders = vector_curves.none; uv0_ders = parameters.none; uv1_ders = parameters.none }
 
 -- ---- the centre cut to the order n, and the contacts and their parameters one further
 abbrev pub cut_ders : CenterContactDers → ℕ → CenterContactDers

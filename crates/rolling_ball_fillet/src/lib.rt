@@ -1,6 +1,6 @@
-// The fillet that a rolling ball leaves between two surfaces: its contact circle, how that turns, and the fillet's partial derivatives. Refusals: 1 where
-// an order is above 20, 2 where a jet's is too low, 5 where a float handed in is not finite, 6 where a determinant is zero, 7 where a divisor is, 10
-// where a returned float is not finite, 11 where a pair of orders is not served.
+// The fillet that a rolling ball leaves between two surfaces: its contact circle, how that turns, and the fillet's partial derivatives. Refused, in this
+// order: an order above 20, a jet's that is too low, a pair of orders that is not served, a float handed in that is not finite, a determinant or a
+// divisor that is zero, and a returned float that is not finite.
 #![tactic(auto)]
 
 ghost use Rattle.std.specs.Prelude.{◌≡◌};
@@ -10,20 +10,19 @@ ghost use Rattle.rolling_ball_fillet.specs.Partials.{derivative_v, derivative_u_
 ghost use Rattle.rolling_ball_fillet.specs.PartialAnswer.{vder_info_answer, partial_answer};
 ghost use Rattle.rolling_ball_fillet.specs.SubDer.{sub_der_mn};
 
-use booleans::both;
 use derivatives::{CurveDerivatives, ParameterCurve};
-use ieee_vectors::{Vector2, Vector3};
+use ieee_vectors::{Finite, Matrix3, Vector2, Vector3};
 use partials::EdgePartial;
+use refusals::Refusal;
 pub use rodrigues::Pair;
 use vector_derivatives::{VectorCurveDerivatives, VectorSurfaceDerivatives};
-use vectors::{Matrix3Answer, VectorAnswer};
 
 mod axis_angle;
 mod centers;
 mod checks;
 mod edge_partials;
-mod given;
 mod info;
+mod inputs;
 mod jets;
 mod sub_der;
 
@@ -65,12 +64,6 @@ pub struct CenterContactDers {
     pub uv1_ders: ParameterCurve,
 }
 
-#[derive(Clone, Copy)]
-pub struct CenterContactAnswer {
-    pub refusal: u8,
-    pub ders: CenterContactDers,
-}
-
 // How the circle's axis and angle move along the edge, beside its centre and contacts.
 #[derive(Clone, Copy)]
 pub struct VderInfo {
@@ -81,10 +74,17 @@ pub struct VderInfo {
 
 // With the clamped cosine of the angle.
 #[derive(Clone, Copy)]
-pub struct VderInfoAnswer {
-    pub refusal: u8,
+pub struct VderInfoWithCosine {
     pub info: VderInfo,
     pub cosine: f64,
+}
+
+// The share u of the arc that is passed, and the sine and cosine of angle·u.
+#[derive(Clone, Copy)]
+struct Share {
+    u: f64,
+    s: f64,
+    c: f64,
 }
 
 // Rodrigues' rotation, derived x, y and z times by the axis' components and n times by the angle, whose sine and cosine are s and c.
@@ -96,19 +96,17 @@ pub fn rot_der_n(
     axis: Vector3,
     s: f64,
     c: f64,
-) -> Matrix3Answer
+) -> Result<Matrix3, Refusal>
     ensures { result ≡ rotation_answer x y z n axis s c }
 {
-    if checks::served(x, y, z, n) {
-        if checks::finite_turn(axis, s, c) {
-            return vectors::returned3(rodrigues::rotation(x, y, z, n, axis, s, c));
-        }
-        return vectors::refused3(5);
+    if !checks::served(x, y, z, n) {
+        return Err(Refusal::OrderAbove20);
     }
-    vectors::refused3(1)
+    let inputs = checks::finite_turn(axis, s, c);
+    vectors::from_inputs(inputs, rodrigues::rotation(x, y, z, n, axis, s, c))
 }
 
-pub fn from_axis_angle(axis: Vector3, s: f64, c: f64) -> Matrix3Answer
+pub fn from_axis_angle(axis: Vector3, s: f64, c: f64) -> Result<Matrix3, Refusal>
     ensures { result ≡ rotation_answer 0 0 0 0 axis s c }
 {
     rot_der_n(0, 0, 0, 0, axis, s, c)
@@ -118,9 +116,7 @@ impl ContactPoint {
     pub fn is_finite(self) -> bool
         ensures { result ≡ finite_contact self }
     {
-        let p = self.point;
-        let uv = self.uv;
-        checks::finite_with(p.is_finite(), uv.x, uv.y)
+        self.point.is_finite() && ieee::is_finite(self.uv.x) && ieee::is_finite(self.uv.y)
     }
 }
 
@@ -128,89 +124,87 @@ impl ContactCircle {
     pub fn is_finite(self) -> bool
         ensures { result ≡ finite_circle self }
     {
-        let center = self.center;
-        let axis = self.axis;
-        let p = self.contact_point0;
-        let q = self.contact_point1;
-        let vectors = both(center.is_finite(), axis.is_finite());
-        let turn = both(vectors, ieee::is_finite(self.angle));
-        let first = both(turn, p.is_finite());
-        both(first, q.is_finite())
+        let turn = self.center.is_finite() && self.axis.is_finite() && ieee::is_finite(self.angle);
+        turn && self.contact_point0.is_finite() && self.contact_point1.is_finite()
     }
 
     // The derivative of order m along the arc, by the share u of it that is passed; s and c are the sine and cosine of angle·u.
-    pub fn derivative_n(self, m: usize, s: f64, c: f64) -> VectorAnswer
+    pub fn derivative_n(self, m: usize, s: f64, c: f64) -> Result<Vector3, Refusal>
         ensures { result ≡ derivative_answer self m s c }
     {
-        if checks::order_served(m) {
-            let inputs = checks::finite_with(self.is_finite(), s, c);
-            return vectors::vector_from(inputs, sub_der::along_arc(self, m, s, c));
+        if 20 < m {
+            return Err(Refusal::OrderAbove20);
         }
-        VectorAnswer::Refused(1)
+        let inputs = self.is_finite() && ieee::is_finite(s) && ieee::is_finite(c);
+        vectors::from_inputs(inputs, sub_der::along_arc(&self, m, s, c))
     }
 }
 
 impl CenterContactDers {
     // The axis and the angle up to the centre's order, from the radius' derivatives and the angle itself.
-    pub fn vder_info(self, rders: CurveDerivatives, angle: f64) -> VderInfoAnswer
+    pub fn vder_info(
+        self,
+        rders: CurveDerivatives,
+        angle: f64,
+    ) -> Result<VderInfoWithCosine, Refusal>
         ensures { result ≡ vder_info_answer self rders angle }
     {
-        let center = self.center_ders;
-        let n = center.order;
-        if info::beyond(self, rders) {
-            return axis_angle::refused(1);
+        let n = self.center_ders.order;
+        if 19 < n || jets::above_20_contacts(&self) || 20 < rders.order {
+            return Err(Refusal::OrderAbove20);
         }
-        let k = n + 1;
-        if info::short(self, rders, k) {
-            return axis_angle::refused(2);
+        if info::short(&self, &rders, n + 1) {
+            return Err(Refusal::Shape);
         }
-        if info::finite_given(self, rders, angle, n) {
-            let r = rders.entries;
-            let a = axis_angle::vder_info(self, &r, angle, n);
-            return info::returned(a, n);
+        if !info::finite_given(&self, &rders, angle, n) {
+            return Err(Refusal::InputNotFinite);
         }
-        axis_angle::refused(5)
+        let found = axis_angle::vder_info(&self, &rders.entries, angle, n)?;
+        info::returned(found, n)
     }
 }
 
 // The fillet's partial derivatives at the share u of the arc; s and c are the sine and cosine of angle·u.
 impl VderInfo {
-    pub fn derivative_v(self, u: f64, s: f64, c: f64) -> VectorAnswer
+    pub fn derivative_v(self, u: f64, s: f64, c: f64) -> Result<Vector3, Refusal>
         ensures { result ≡ partial_answer derivative_v 1 self u s c }
     {
-        sub_der::partial_answer(EdgePartial::V, self, u, s, c)
+        sub_der::partial_answer(EdgePartial::V, &self, Share { u, s, c })
     }
 
-    pub fn derivative_uv(self, u: f64, s: f64, c: f64) -> VectorAnswer
+    pub fn derivative_uv(self, u: f64, s: f64, c: f64) -> Result<Vector3, Refusal>
         ensures { result ≡ partial_answer derivative_u_v 1 self u s c }
     {
-        sub_der::partial_answer(EdgePartial::Uv, self, u, s, c)
+        sub_der::partial_answer(EdgePartial::Uv, &self, Share { u, s, c })
     }
 
-    pub fn derivative_vv(self, u: f64, s: f64, c: f64) -> VectorAnswer
+    pub fn derivative_vv(self, u: f64, s: f64, c: f64) -> Result<Vector3, Refusal>
         ensures { result ≡ partial_answer derivative_v_v 2 self u s c }
     {
-        sub_der::partial_answer(EdgePartial::Vv, self, u, s, c)
+        sub_der::partial_answer(EdgePartial::Vv, &self, Share { u, s, c })
     }
 }
 
 impl RollingBallFilletSurface {
     // How the centre, the contact points and their parameters move along the edge, up to the order n.
-    pub fn sub_center_contacts_ders(self, cc: ContactCircle, n: usize) -> CenterContactAnswer
+    pub fn sub_center_contacts_ders(
+        self,
+        cc: ContactCircle,
+        n: usize,
+    ) -> Result<CenterContactDers, Refusal>
         ensures { result ≡ center_contact_answer self cc n }
     {
-        if given::beyond(self, n) {
-            return centers::refused(1);
+        if 19 < n || inputs::above_20_jets(&self) {
+            return Err(Refusal::OrderAbove20);
         }
-        let k = n + 1;
-        if given::short(self, k) {
-            return centers::refused(2);
+        if inputs::short(&self, n + 1) {
+            return Err(Refusal::Shape);
         }
-        if given::finite_given(self, cc, k) {
-            let a = centers::center_contacts(self, cc, n);
-            return given::returned(a, n);
+        if !inputs::finite_given(&self, &cc, n + 1) {
+            return Err(Refusal::InputNotFinite);
         }
-        centers::refused(5)
+        let ders = centers::center_contacts(&self, &cc, n)?;
+        inputs::returned(ders, n)
     }
 
     // The fillet's partial derivative, m times by u and n times by v, at the share u of the arc; s and c are the sine and cosine of angle·u.
@@ -223,13 +217,13 @@ impl RollingBallFilletSurface {
         angle: f64,
         s: f64,
         c: f64,
-    ) -> VectorAnswer
+    ) -> Result<Vector3, Refusal>
         ensures { result ≡ sub_der_mn self m n u cc angle s c }
     {
-        if sub_der::above_20_pair(self, m, n) {
-            return VectorAnswer::Refused(1);
+        if 20 < m || 20 < n || inputs::above_20_jets(&self) {
+            return Err(Refusal::OrderAbove20);
         }
         let d = partials::decide(m, n);
-        sub_der::by_decision(d, m, self, cc, angle, u, s, c)
+        sub_der::by_decision(d, m, &self, &cc, angle, Share { u, s, c })
     }
 }

@@ -22,8 +22,7 @@ pub fn put(a: [f64; 63], m: usize, e: Vector3) -> [f64; 63]
 pub fn first_only(e: Vector3) -> [f64; 63]
     ensures { result ≡ first_only e }
 {
-    let z = [0.0f64; 63];
-    put(z, 0, e)
+    put([0.0f64; 63], 0, e)
 }
 
 // The entry m, at most 20, of d · (a - b).
@@ -38,7 +37,7 @@ pub fn dot_difference(d: &[f64; 63], a: &[f64; 63], b: &[f64; 63], m: usize) -> 
 pub fn derivative_dot(a: &[f64; 63], b: &[f64; 63], m: usize) -> f64
     ensures { result ≡ product_by (regular real) dot (derivative (vector_numbers a.now)) (vector_numbers b.now) (min m 19) }
 {
-    let k = calculus::smaller(m, 19);
+    let k = m.min(19);
     let d = vector_formulas::derivative(a, k);
     vector_formulas::dot(&d, b, k)
 }

@@ -47,6 +47,7 @@ pub struct SurfaceInfo {
 }
 
 // The entries of order 0.
+#[tactic(auto, unfolding(crate::specs::SurfaceInfo::initial, calculus::specs::Graded::index))]
 pub fn initial(s: &[f64; 693], foot: Vector2, normal: Vector3) -> SurfaceInfo
     ensures { result ≡ initial_of (vector_surface_numbers s.now) foot normal }
 {
@@ -100,6 +101,7 @@ fn known(
 }
 
 // The matrix of the parameters, for the offset e.
+#[tactic(auto, unfolding(calculus::specs::Graded::index))]
 pub fn form(s: &[f64; 693], e: Vector3) -> Matrix2
     ensures { result ≡ form_of (vector_surface_numbers s.now) e }
 {
@@ -115,91 +117,75 @@ pub fn form(s: &[f64; 693], e: Vector3) -> Matrix2
 }
 
 // The parameters of the order m.
-fn parameters_at(s: &[f64; 693], center: &[f64; 63], info: SurfaceInfo, m: usize) -> Vector2
+#[tactic(auto, unfolding(crate::specs::SurfaceInfo::parameters))]
+fn parameters_at(s: &[f64; 693], center: &[f64; 63], info: &SurfaceInfo, m: usize) -> Vector2
     requires { m < 20 }
-    ensures { result ≡ parameters_of (vector_surface_numbers s.now) center.now info m }
+    ensures { result ≡ parameters_of (vector_surface_numbers s.now) center.now info.now m }
 {
-    let t = info.carried.point;
-    let du = info.carried.du;
-    let dv = info.carried.dv;
-    let u = info.uv.u;
-    let v = info.uv.v;
-    let carried = products::along(s, &u, &v, m);
-    let by_u = products::along_u(s, &u, &v, m);
-    let by_v = products::along_v(s, &u, &v, m);
-    let x = known(&du, &t, center, carried, by_u, m);
-    let y = known(&dv, &t, center, carried, by_v, m);
-    let matrix = form(s, offset(&t, center));
+    let point = &info.carried.point;
+    let carried = products::along(s, &info.uv, m);
+    let by_u = products::along_u(s, &info.uv, m);
+    let by_v = products::along_v(s, &info.uv, m);
+    let x = known(&info.carried.du, point, center, carried, by_u, m);
+    let y = known(&info.carried.dv, point, center, carried, by_v, m);
+    let matrix = form(s, offset(point, center));
     let inverse = matrix.unchecked_inverse();
     inverse.neg().image(Vector2 { x, y })
 }
 
 // The arrays with their entries of the order m.
-fn next_parameters(s: &[f64; 693], center: &[f64; 63], info: SurfaceInfo, m: usize) -> Parameters
+#[tactic(auto, unfolding(crate::specs::SurfaceInfo::next_parameters))]
+fn next_parameters(s: &[f64; 693], center: &[f64; 63], info: &SurfaceInfo, m: usize) -> Parameters
     requires { m < 20 }
-    ensures { result ≡ next_parameters (vector_surface_numbers s.now) center.now info m }
+    ensures { result ≡ next_parameters (vector_surface_numbers s.now) center.now info.now m }
 {
     let p = parameters_at(s, center, info, m);
-    let u = info.uv.u;
-    let v = info.uv.v;
     Parameters {
-        u: products::put_number(u, m, p.x),
-        v: products::put_number(v, m, p.y),
+        u: products::put_number(info.uv.u, m, p.x),
+        v: products::put_number(info.uv.v, m, p.y),
     }
 }
 
-fn next_carried(s: &[f64; 693], uv: Parameters, a: Carried, m: usize) -> Carried
+#[tactic(auto, unfolding(crate::specs::SurfaceInfo::next_carried))]
+fn next_carried(s: &[f64; 693], uv: &Parameters, a: &Carried, m: usize) -> Carried
     requires { m < 20 }
-    ensures { result ≡ next_carried (vector_surface_numbers s.now) uv a m }
+    ensures { result ≡ next_carried (vector_surface_numbers s.now) uv.now a.now m }
 {
-    let u = uv.u;
-    let v = uv.v;
-    let t = a.point;
-    let du = a.du;
-    let dv = a.dv;
     Carried {
-        point: arrays::put(t, m, products::along(s, &u, &v, m)),
-        du: arrays::put(du, m, products::along_u(s, &u, &v, m)),
-        dv: arrays::put(dv, m, products::along_v(s, &u, &v, m)),
+        point: arrays::put(a.point, m, products::along(s, uv, m)),
+        du: arrays::put(a.du, m, products::along_u(s, uv, m)),
+        dv: arrays::put(a.dv, m, products::along_v(s, uv, m)),
     }
 }
 
-fn next_norm(cross: &[f64; 63], a: Normal, m: usize) -> [f64; 21]
+fn next_norm(cross: &[f64; 63], norm: &[f64; 21], m: usize) -> [f64; 21]
     requires { (0 < m) × (m < 20) }
-    ensures { result ≡ next_norm cross.now a.norm m }
+    ensures { result ≡ next_norm cross.now norm.now m }
 {
-    let norm = a.norm;
-    let k = m - 1;
-    let p = arrays::derivative_dot(cross, cross, k);
-    let q = products::derivative_product(&norm, &norm, k);
-    products::put_number(norm, m, (p - q) / norm[0])
+    let p = arrays::derivative_dot(cross, cross, m - 1);
+    let q = products::derivative_product(norm, norm, m - 1);
+    products::put_number(*norm, m, (p - q) / norm[0])
 }
 
-fn next_normal(c: Carried, a: Normal, m: usize) -> Normal
+fn next_normal(c: &Carried, a: &Normal, m: usize) -> Normal
     requires { (0 < m) × (m < 20) }
-    ensures { result ≡ next_normal c a m }
+    ensures { result ≡ next_normal c.now a.now m }
 {
-    let du = c.du;
-    let dv = c.dv;
-    let old = a.cross;
-    let unit = a.unit;
-    let cross = arrays::put(old, m, products::cross_entry(&du, &dv, m));
-    let norm = next_norm(&cross, a, m);
-    Normal {
-        cross,
-        norm,
-        unit: arrays::put(unit, m, products::rational_entry(&cross, &norm, m)),
-    }
+    let cross = arrays::put(a.cross, m, products::cross_entry(&c.du, &c.dv, m));
+    let norm = next_norm(&cross, &a.norm, m);
+    let unit = arrays::put(a.unit, m, products::rational_entry(&cross, &norm, m));
+    Normal { cross, norm, unit }
 }
 
 // From the entries up to the order n, at most 18, and the centre up to the next: all entries of the order n + 1.
+#[tactic(auto, unfolding(crate::specs::SurfaceInfo::routine))]
 pub fn routine(s: &[f64; 693], center: &[f64; 63], info: SurfaceInfo, n: usize) -> SurfaceInfo
     ensures { result ≡ routine_of (vector_surface_numbers s.now) center.now info (suc (min n 18)) }
 {
-    let m = calculus::smaller(n, 18) + 1;
-    let uv = next_parameters(s, center, info, m);
-    let carried = next_carried(s, uv, info.carried, m);
-    let normal = next_normal(carried, info.normal, m);
+    let m = n.min(18) + 1;
+    let uv = next_parameters(s, center, &info, m);
+    let carried = next_carried(s, &uv, &info.carried, m);
+    let normal = next_normal(&carried, &info.normal, m);
     SurfaceInfo {
         uv,
         carried,

@@ -10,9 +10,10 @@ ghost use Rattle.formulas.specs.Numbers.{curve_numbers};
 ghost use Rattle.vector_formulas.specs.Vector.{vectors, vector_numbers, vector_surface_numbers};
 ghost use Rattle.surface_info.specs.SurfaceInfo.{first_number_only};
 
+use crate::Parameters;
 use ieee_vectors::Vector3;
 
-// The array of floats with the entry m stored; and with entry 0, and zeros past it.
+// The array of floats with the entry m stored; and with entry 0, and zeros past it. Floats and vectors have functions of their own (document 01).
 pub fn put_number(a: [f64; 21], m: usize, x: f64) -> [f64; 21]
     requires { m ≤ 20 }
     ensures { result ≡ set a m x }
@@ -25,8 +26,7 @@ pub fn put_number(a: [f64; 21], m: usize, x: f64) -> [f64; 21]
 pub fn first_number_only(x: f64) -> [f64; 21]
     ensures { result ≡ first_number_only x }
 {
-    let z = [0.0f64; 21];
-    put_number(z, 0, x)
+    put_number([0.0f64; 21], 0, x)
 }
 
 // The entry m of a' b.
@@ -54,26 +54,26 @@ pub fn rational_entry(a: &[f64; 63], w: &[f64; 21], m: usize) -> Vector3
     vector_formulas::vector_at(&q, m)
 }
 
-// A surface and its derivatives by u and by v, carried along the curve (u, v).
-pub fn along(s: &[f64; 693], u: &[f64; 21], v: &[f64; 21], m: usize) -> Vector3
+// A surface and its derivatives by u and by v, carried along the parameters.
+pub fn along(s: &[f64; 693], uv: &Parameters, m: usize) -> Vector3
     requires { m ≤ 20 }
-    ensures { result ≡ composite_derivative vectors (curve_numbers u.now) (curve_numbers v.now) (vector_surface_numbers s.now) m }
+    ensures { result ≡ composite_derivative vectors (curve_numbers uv.now.u) (curve_numbers uv.now.v) (vector_surface_numbers s.now) m }
 {
-    float_carry::vectors::derivative(s, u, v, m)
+    float_carry::vectors::derivative(s, &uv.u, &uv.v, m)
 }
 
-pub fn along_u(s: &[f64; 693], u: &[f64; 21], v: &[f64; 21], m: usize) -> Vector3
+pub fn along_u(s: &[f64; 693], uv: &Parameters, m: usize) -> Vector3
     requires { m < 20 }
-    ensures { result ≡ composite_derivative vectors (curve_numbers u.now) (curve_numbers v.now) (derivative_u (vector_surface_numbers s.now)) m }
+    ensures { result ≡ composite_derivative vectors (curve_numbers uv.now.u) (curve_numbers uv.now.v) (derivative_u (vector_surface_numbers s.now)) m }
 {
     let d = vector_formulas::derivative_u(s, m);
-    float_carry::vectors::derivative(&d, u, v, m)
+    float_carry::vectors::derivative(&d, &uv.u, &uv.v, m)
 }
 
-pub fn along_v(s: &[f64; 693], u: &[f64; 21], v: &[f64; 21], m: usize) -> Vector3
+pub fn along_v(s: &[f64; 693], uv: &Parameters, m: usize) -> Vector3
     requires { m < 20 }
-    ensures { result ≡ composite_derivative vectors (curve_numbers u.now) (curve_numbers v.now) (derivative_v (vector_surface_numbers s.now)) m }
+    ensures { result ≡ composite_derivative vectors (curve_numbers uv.now.u) (curve_numbers uv.now.v) (derivative_v (vector_surface_numbers s.now)) m }
 {
     let d = vector_formulas::derivative_v(s, m);
-    float_carry::vectors::derivative(&d, u, v, m)
+    float_carry::vectors::derivative(&d, &uv.u, &uv.v, m)
 }

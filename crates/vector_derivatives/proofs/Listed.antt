@@ -1,10 +1,6 @@
 -- A loop that writes vectors in turn into a list, x, y and z of each. Assumes nothing.
-use mathlib.Core.Path.{◌≡◌, refl, ap, subst}
-use mathlib.Core.List.{List, ◌∷◌}
-use Prim.Native.Nat.{ℕ, suc, ◌+◌, ◌*◌, ◌<◌}
-use native.Mathlib.Omega.{arith}
-use lib.ListN.{length, set}
-use lib.Ieee.{Float}
+use Rattle.std.proofs.Common.{◌≡◌, ◌∷◌, List, Float, ℕ, suc, ◌+◌, ◌*◌, ◌<◌, length, set, refl, ap, arith}
+use mathlib.Core.Path.{subst}
 use Rattle.ieee_vectors.specs.declared.Vector3.{Vector3}
 use Rattle.calculus.proofs.LoopWriting.{Writing, writing-goes-on}
 use Rattle.vector_formulas.specs.Vector.{put, flat}

@@ -1,4 +1,3 @@
 pub mod Answer
-pub mod Names
 pub mod Composite
 pub mod Inner

@@ -1,11 +1,7 @@
 -- A formula on jets of vectors reads of the entries before it only those that are formed: what the array holds serves as well.
 -- Assumes nothing.
-use mathlib.Core.Path.{◌≡◌, refl, ap₂}
-use mathlib.Core.List.{List}
-use Prim.Native.Nat.{ℕ, zero, suc, ◌-◌, ◌≤◌, zero-le}
-use native.Mathlib.Nat.{le_refl}
-use native.Mathlib.Omega.{arith}
-use lib.Ieee.{Float, nan}
+use Rattle.std.proofs.Common.{◌≡◌, refl, ap₂, List, ℕ, zero, suc, ◌-◌, ◌≤◌, zero-le, le_refl, arith, Float}
+use lib.Ieee.{nan}
 use Rattle.ieee.specs.SquareRoot.{square_root}
 use Rattle.ieee_vectors.specs.declared.Vector3.{Vector3}
 use Rattle.ieee_vectors.specs.Vectors.{quotient, dot, positive_zero}

@@ -1,26 +1,25 @@
 -- Arrays of vectors: what they hold, what a loop stores in them, and when they are finite. Assumes nothing.
-use mathlib.Core.Path.{◌≡◌, refl, sym, ap, ap₂, ◌∙◌}
-use mathlib.Core.Bool.{Bool, cond}
-use mathlib.Core.List.{List, [], ◌∷◌}
-use Prim.Native.Nat.{ℕ, zero, suc, ◌+◌, ◌*◌, ◌≤◌, ◌<◌}
-use native.Mathlib.Omega.{arith}
-use lib.ListN.{length, get_or, set, replicate, get_or-eq_default}
-use lib.Ieee.{Float, nan}
-use borrow.Author.Tests.{lt-ltb}
+use Rattle.std.proofs.Common.{◌≡◌, Bool, true, false, cond, ◌&&◌, List, [], ◌∷◌, ◌++◌, Float, ℕ, zero, suc, ◌+◌, ◌*◌, ◌≤◌, ◌<◌, ltb, length, get_or, set, replicate, take, drop, refl, sym, ap, ap₂, ◌∙◌, arith}
+use Rattle.std.specs.Float.{nan}
+use Rattle.std.specs.Float.Ieee.Scale.{finite}
+use Rattle.std.proofs.lemmas.List.{get_or-take, get_or-drop, length-take-le}
+use Rattle.std.proofs.Math.ListN.{get_or-eq_default}
+use borrow.Author.Tests.{lt-ltb, le-ltb, ltb-true, ltb-false}
 use Rattle.ieee_vectors.specs.declared.Vector3.{Vector3}
 use Rattle.ieee_vectors.specs.Vectors.{vector, positive_zero}
 use Rattle.ieee_vectors.specs.Finite.{finite_vector}
-use Rattle.booleans.proofs.Tests.{first}
 use Rattle.calculus.specs.Array.{listed, filled, curve_array, surface_array}
 use Rattle.calculus.specs.Rising.{before, rising}
-use Rattle.calculus.proofs.LoopFilling.{CurveStored, curve-none, curve-more, curve-all, curve-earlier, filled_at}
+use Rattle.calculus.proofs.LoopFilling.{CurveStored, curve-none, curve-more, curve-all, curve-earlier, filled_at, listed_same}
 use Rattle.calculus.proofs.LoopSurfaceFilling.{array_at}
 use Rattle.calculus.proofs.Same.{filled-same}
 use Rattle.calculus.proofs.UpTo.{CurvesAgree, SurfacesAgree}
 use Rattle.calculus.specs.Graded.{triangle, index, graded}
 use Rattle.calculus.proofs.Graded.{index-place}
 use Rattle.vector_formulas.specs.Vector.{origin, put, stored, vector_numbers, flat, vector_surface_numbers, vector_array, vector_surface_array, all_vectors_finite, finite_vector_surface}
+use Rattle.formulas.specs.Numbers.{curve_numbers, all_pass, all_finite, finite_list}
 use Rattle.formulas.proofs.Finite.{same}
+use Rattle.formulas.proofs.Curves.{copied}
 
 -- what the logic reads past the end
 abbrev pub nowhere : Vector3
@@ -60,7 +59,7 @@ end-at l k h p q =
 
 -- one stored where the array has the entry
 pub stored-put : (l : List Float) (k : ℕ) (v : Vector3) → 3 * k + 2 < length l → stored l k v ≡ put l (3 * k) v
-stored-put l k v h = first (put l (3 * k) v) l (lt-ltb (3 * k + 2) (length l) h)
+stored-put l k v h = ap (λ (t : Bool). cond t (put l (3 * k) v) l) (lt-ltb (3 * k + 2) (length l) h)
 
 pub flat-at : (l : List Vector3) (k : ℕ) → vector_numbers (flat l) k ≡ get_or l k nowhere
 unfolding flat
@@ -148,7 +147,7 @@ vectors-earlier step {r} {m} h k l =
 pub vectors-agree : (f : ℕ → Vector3) (n : ℕ) → n ≤ 20 → {r : List Float} → r ≡ vector_array f n → CurvesAgree n (vector_numbers r) f
 vectors-agree f n h e k l =
     ap (λ (x : List Float). vector_numbers x k) e ∙ flat-at (curve_array origin f n) k ∙ filled_at 21 nowhere origin f (suc n) k (omega arith)
-    ∙ first (f k) origin (lt-ltb k (suc n) (omega arith))
+    ∙ ap (λ (t : Bool). cond t (f k) origin) (lt-ltb k (suc n) (omega arith))
 
 pub surface-agrees : (s : ℕ → ℕ → Vector3) (n : ℕ) → n ≤ 20 → {r : List Float} → r ≡ vector_surface_array s n → SurfacesAgree n (vector_surface_numbers r) s
 surface-agrees s n h e i j l =
@@ -170,5 +169,79 @@ pub surface-finite : (l : List Float) (n : ℕ) → all_vectors_finite (vector_n
 surface-finite l n =
     same finite_vector (vector_numbers l) (graded (vector_surface_numbers l)) (triangle (suc n)) (λ k h. ap (vector_numbers l) (sym (index-place k)))
 
-pub after_one : (k : ℕ) → 1 + k ≡ suc k
-after_one k = omega arith
+-- the first vectors are finite where the floats of a list that begins with them are
+three-tests : (a b c d : Bool) → (a && b && c && d) ≡ (a && (b && c && d))
+three-tests true b c d = refl
+three-tests false b c d = refl
+
+first-finite : (l : List Float) (n : ℕ) → all_finite (curve_numbers l) (3 * n) ≡ all_vectors_finite (vector_numbers l) n
+unfolding all_pass
+first-finite l zero = refl
+first-finite l (suc n) =
+    ap (all_finite (curve_numbers l)) (three n)
+    ∙ three-tests (all_finite (curve_numbers l) (3 * n)) (finite (get_or l (3 * n) nan)) (finite (get_or l (suc (3 * n)) nan)) (finite (get_or l (suc (suc (3 * n))) nan))
+    ∙ ap₂ ◌&&◌ (first-finite l n) (ap₂ (λ (j k : ℕ). finite (get_or l (3 * n) nan) && finite (get_or l j nan) && finite (get_or l k nan)) one two)
+  where
+    one : suc (3 * n) ≡ 3 * n + 1
+    one = omega arith
+
+    two : suc (suc (3 * n)) ≡ 3 * n + 2
+    two = omega arith
+
+pub vectors-finite : (l : List Float) (n : ℕ) → 3 * n ≤ length l → finite_list (take (3 * n) l) ≡ all_vectors_finite (vector_numbers l) n
+vectors-finite l n h =
+    let long : length (take (3 * n) l) ≡ 3 * n = length-take-le (3 * n) l h in
+    ap (all_finite (curve_numbers (take (3 * n) l))) long
+    ∙ same finite (curve_numbers (take (3 * n) l)) (curve_numbers l) (3 * n) (λ k q. get_or-take (3 * n) l k nan q)
+    ∙ first-finite l n
+
+-- the first n + 1 vectors are copied into an array of zeros
+pub vectors_copied : (f : ℕ → Vector3) (n : ℕ) (part : List Float) → n ≤ 20 → length part ≡ 3 * n + 3 → ((k : ℕ) → k < suc n → vector_numbers part k ≡ f k) →
+    part ++ drop (3 * n + 3) (replicate 63 positive_zero) ≡ vector_array f n
+vectors_copied f n part b l h =
+    copied 63 (curve_numbers part) part (omega arith) l (λ k q. refl)
+    ∙ flat-listed written 0 21
+    ∙ ap flat (listed_same (λ j. vector (written (3 * j)) (written (3 * j + 1)) (written (3 * j + 2))) (λ k. cond (ltb k (suc n)) (f k) origin) 0 0 21
+    (λ x q. entry (0 + x) (ltb (0 + x) (suc n)) refl))
+  where
+    written : ℕ → Float
+    written k = cond (ltb k (3 * n + 3)) (curve_numbers part k) positive_zero
+
+    within : (k : ℕ) → k < 3 * n + 3 → written k ≡ curve_numbers part k
+    within k q = ap (λ (t : Bool). cond t (curve_numbers part k) positive_zero) (lt-ltb k (3 * n + 3) q)
+
+    past : (k : ℕ) → 3 * n + 3 ≤ k → written k ≡ positive_zero
+    past k q = ap (λ (t : Bool). cond t (curve_numbers part k) positive_zero) (le-ltb k (3 * n + 3) q)
+
+    entry : (j : ℕ) (t : Bool) → ltb j (suc n) ≡ t → vector (written (3 * j)) (written (3 * j + 1)) (written (3 * j + 2)) ≡ cond t (f j) origin
+    entry j true e =
+        let g : j < suc n = ltb-true j (suc n) e in
+        ap₂ (λ (x y : Float). vector x y (written (3 * j + 2))) (within (3 * j) (omega arith)) (within (3 * j + 1) (omega arith))
+        ∙ ap (vector (curve_numbers part (3 * j)) (curve_numbers part (3 * j + 1))) (within (3 * j + 2) (omega arith)) ∙ h j g
+    entry j false e =
+        let g : suc n ≤ j = ltb-false j (suc n) e in
+        ap₂ (λ (x y : Float). vector x y (written (3 * j + 2))) (past (3 * j) (omega arith)) (past (3 * j + 1) (omega arith))
+        ∙ ap (vector positive_zero positive_zero) (past (3 * j + 2) (omega arith))
+
+-- an entry of the first floats of a list, and of those past the first vector
+pub vector-taken : (l : List Float) (m k : ℕ) → 3 * k + 2 < m → vector_numbers (take m l) k ≡ vector_numbers l k
+vector-taken l m k h =
+    ap₂ (λ (x y : Float). vector x y (get_or (take m l) (3 * k + 2) nan)) (get_or-take m l (3 * k) nan (omega arith)) (get_or-take m l (3 * k + 1) nan (omega arith))
+    ∙ ap (vector (get_or l (3 * k) nan) (get_or l (3 * k + 1) nan)) (get_or-take m l (3 * k + 2) nan h)
+
+pub vector-dropped : (l : List Float) (k : ℕ) → vector_numbers (drop 3 l) k ≡ vector_numbers l (suc k)
+vector-dropped l k =
+    ap₂ (λ (x y : Float). vector x y (get_or (drop 3 l) (3 * k + 2) nan)) (get_or-drop 3 l (3 * k) nan ∙ ap read zero-on) (get_or-drop 3 l (3 * k + 1) nan ∙ ap read one-on)
+    ∙ ap (vector (read (3 * suc k)) (read (3 * suc k + 1))) (get_or-drop 3 l (3 * k + 2) nan ∙ ap read two-on)
+  where
+    read : ℕ → Float
+    read i = get_or l i nan
+
+    zero-on : 3 + 3 * k ≡ 3 * suc k
+    zero-on = omega arith
+
+    one-on : 3 + (3 * k + 1) ≡ 3 * suc k + 1
+    one-on = omega arith
+
+    two-on : 3 + (3 * k + 2) ≡ 3 * suc k + 2
+    two-on = omega arith

@@ -1,7 +1,7 @@
 // Arrays of vectors, three floats an entry. Each `requires` is met by the callers.
 ghost use Rattle.std.specs.Prelude.{◌≡◌, ◌+◌, ◌*◌, ◌≤◌, ◌<◌, length, get_or};
 ghost use Rattle.std.specs.Float.{nan};
-ghost use Rattle.vector_formulas.specs.Vector.{put, vector_numbers, vector_surface_numbers, all_vectors_finite, finite_vector_curve, finite_vector_surface};
+ghost use Rattle.vector_formulas.specs.Vector.{put, vector_numbers, all_vectors_finite};
 
 use ieee_vectors::Vector3;
 
@@ -58,33 +58,10 @@ pub fn store(a: &mut [f64], k: usize, v: Vector3)
     a[i + 2] = v.z;
 }
 
-// Whether the first n vectors are finite.
+// Whether the first n vectors are finite, as their floats are.
 pub fn all_finite(a: &[f64], n: usize) -> bool
     requires { 3 * n ≤ length a.now }
     ensures { result ≡ all_vectors_finite (vector_numbers a.now) n }
 {
-    let mut i = 0;
-    while i < n {
-        let v = vector_at(a, i);
-        if !v.is_finite() {
-            return false;
-        }
-        i += 1;
-    }
-    true
-}
-
-// Whether the entries up to the order n are finite, of a curve and of a surface.
-pub fn curve_finite(a: &[f64; 63], n: usize) -> bool
-    requires { n ≤ 20 }
-    ensures { result ≡ finite_vector_curve (vector_numbers a.now) n }
-{
-    all_finite(a, n + 1)
-}
-
-pub fn surface_finite(a: &[f64; 693], n: usize) -> bool
-    requires { n ≤ 20 }
-    ensures { result ≡ finite_vector_surface (vector_surface_numbers a.now) n }
-{
-    all_finite(a, calculus::surface_count(n))
+    formulas::finite_list(&a[..3 * n])
 }

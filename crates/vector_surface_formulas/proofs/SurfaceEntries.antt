@@ -1,9 +1,5 @@
 -- A formula reads only entries of a surface that are formed, or that it forms: what the array holds serves as well. Assumes nothing.
-use mathlib.Core.Path.{◌≡◌, refl, sym, ap, ap₂, ◌∙◌}
-use mathlib.Core.List.{List}
-use Prim.Native.Nat.{ℕ, ◌+◌, ◌≤◌}
-use native.Mathlib.Omega.{arith}
-use lib.Ieee.{Float}
+use Rattle.std.proofs.Common.{◌≡◌, refl, sym, ap, ap₂, ◌∙◌, List, ℕ, ◌+◌, ◌≤◌, arith, Float}
 use Rattle.ieee_vectors.specs.declared.Vector3.{Vector3}
 use Rattle.ieee_vectors.specs.Vectors.{quotient}
 use Rattle.calculus.specs.Rising.{before_entry, rising_rows}

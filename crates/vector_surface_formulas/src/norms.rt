@@ -4,7 +4,6 @@ ghost use Rattle.ieee.specs.SquareRoot.{square_root};
 ghost use Rattle.ieee_vectors.specs.Vectors.{dot, positive_zero};
 ghost use Rattle.calculus.specs.InTurn.{in_turn};
 ghost use Rattle.calculus.specs.Array.{surface_array};
-ghost use Rattle.calculus.specs.Choose.{binomial_table};
 ghost use Rattle.formulas.specs.Real.{real};
 ghost use Rattle.calculus.specs.Norm.{others as others_of, surface_norm_entry};
 ghost use Rattle.formulas.specs.Numbers.{surface_numbers};
@@ -13,76 +12,65 @@ ghost use Rattle.vector_surface_formulas.specs.Formulas.{vector_surface_norm};
 ghost use Rattle.vector_surface_formulas.specs.Inner.{with_other};
 
 use crate::entries::dot_entry;
-use crate::terms;
-use crate::terms::{coefficient, number_at, surface_at};
-use booleans::{both, either};
+use formulas::{index, number_at, surface_coefficient};
+use vector_formulas::surface_at;
 
 // Whether [i][j] is the first or the last of the terms at [m][n].
 fn at_end(m: usize, n: usize, i: usize, j: usize) -> bool
     ensures { result ≡ ((eqb i 0 && eqb j 0) || (eqb i m && eqb j n)) }
 {
-    either(both(i == 0, j == 0), both(i == m, j == n))
+    (i == 0 && j == 0) || (i == m && j == n)
 }
 
-fn with_other(
-    sum: f64,
-    q: &[f64; 231],
-    c: &[u32; 231],
-    m: usize,
-    n: usize,
-    i: usize,
-    j: usize,
-) -> f64
-    requires { (i ≤ m) × (j ≤ n) × (m + n ≤ 20) × (c.now ≡ binomial_table) }
+fn with_other(sum: f64, q: &[f64; 231], m: usize, n: usize, i: usize, j: usize) -> f64
+    requires { (i ≤ m) × (j ≤ n) × (m + n ≤ 20) }
     ensures { result ≡ with_other (surface_numbers q.now) m n sum (i, j) }
 {
     if at_end(m, n, i, j) {
         return sum;
     }
-    let k = coefficient(c, m, n, i, j);
+    let k = surface_coefficient(m, n, i, j);
     let x = number_at(q, i, j);
     let y = number_at(q, m - i, n - j);
     sum + x * y * k
 }
 
 // The terms of one i, j rising, added to a sum.
-fn others_row(start: f64, q: &[f64; 231], c: &[u32; 231], m: usize, n: usize, i: usize) -> f64
-    requires { (i ≤ m) × (m + n ≤ 20) × (c.now ≡ binomial_table) }
+#[tactic(auto, using(formulas::proofs::Sums::turn_none, formulas::proofs::Sums::turn_more))]
+fn others_row(start: f64, q: &[f64; 231], m: usize, n: usize, i: usize) -> f64
+    requires { (i ≤ m) × (m + n ≤ 20) }
     ensures { result ≡ in_turn (with_other (surface_numbers q.now) m n) start (λ j. (i, j)) (suc n) }
 {
     let mut sum = start;
-    let mut j = 0;
-    while j <= n {
-        sum = with_other(sum, q, c, m, n, i, j);
-        j += 1;
+    for j in 0..n + 1 {
+        sum = with_other(sum, q, m, n, i, j);
     }
     sum
 }
 
-fn others(q: &[f64; 231], c: &[u32; 231], m: usize, n: usize) -> f64
-    requires { (m + n ≤ 20) × (c.now ≡ binomial_table) }
+#[tactic(auto, using(formulas::proofs::Sums::rows_none, formulas::proofs::Sums::rows_more))]
+fn others(q: &[f64; 231], m: usize, n: usize) -> f64
+    requires { m + n ≤ 20 }
     ensures { result ≡ others_of real square_root dot (surface_numbers q.now) m n }
 {
     let mut sum = 0.0f64;
-    let mut i = 0;
-    while i <= m {
-        sum = others_row(sum, q, c, m, n, i);
-        i += 1;
+    for i in 0..m + 1 {
+        sum = others_row(sum, q, m, n, i);
     }
     sum
 }
 
 // The norm's entry [m][n], from the entries q before it.
-fn norm_entry(s: &[f64; 693], q: &[f64; 231], c: &[u32; 231], m: usize, n: usize) -> f64
-    requires { (m + n ≤ 20) × (c.now ≡ binomial_table) }
+fn norm_entry(s: &[f64; 693], q: &[f64; 231], m: usize, n: usize) -> f64
+    requires { m + n ≤ 20 }
     ensures { result ≡ surface_norm_entry real square_root dot (vector_surface_numbers s.now) (surface_numbers q.now) m n }
 {
-    if both(m == 0, n == 0) {
+    if m == 0 && n == 0 {
         let v = surface_at(s, 0, 0);
         return v.magnitude();
     }
-    let p = dot_entry(s, s, c, m, n);
-    let o = others(q, c, m, n);
+    let p = dot_entry(s, s, m, n);
+    let o = others(q, m, n);
     let d = number_at(q, 0, 0);
     (p - o) / (d + d)
 }
@@ -92,18 +80,10 @@ pub fn norms(s: &[f64; 693], n: usize) -> [f64; 231]
     requires { n ≤ 20 }
     ensures { result ≡ surface_array positive_zero (vector_surface_norm (vector_surface_numbers s.now)) n }
 {
-    let c = calculus::binomials();
     let mut r = [0.0f64; 231];
-    let mut i = 0;
-    let mut j = 0;
-    while i <= n {
-        let e = norm_entry(s, &r, &c, i, j);
-        let k = terms::index(i, j);
-        r[k] = e;
-        j += 1;
-        if n < i + j {
-            i += 1;
-            j = 0;
+    for i in 0..n + 1 {
+        for j in 0..n + 1 - i {
+            r[index(i, j)] = norm_entry(s, &r, i, j);
         }
     }
     r

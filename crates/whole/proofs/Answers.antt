@@ -1,39 +1,33 @@
 -- What an answer of a checked operation says: its numbers were answered, and the result is that of the integers. Assumes nothing.
-use mathlib.Core.Path.{◌≡◌, refl, sym, ap, ◌∙◌}
-use mathlib.Core.Bool.{Bool, true, false, cond}
-use Prim.Native.Nat.{ℕ, zero, suc, ◌*◌, ◌/◌, ◌%◌}
-use native.Mathlib.Omega.{arith}
-use native.Mathlib.Nat.{div-add-mod', mul-mod_left, zero-mul}
-use lib.Dec.{eqb}
-use lib.IntN.{ℤ, pos, negsuc, neg_ℤ, ◌*ℤ◌, nat_abs}
-use lib.Signed.{quot_z, rem_z}
-use borrow.Author.Tests.{eqb-true}
-use Rattle.whole.specs.declared.Whole.{Whole}
-use Rattle.whole.specs.declared.Whole.TheVariants.{Value, Refused}
-use Rattle.whole.specs.Checked.{in_range, formed, divided, both}
+use Rattle.std.proofs.Common.{◌≡◌, refl, sym, ap, ◌∙◌, Bool, true, false, cond, ℕ, zero, suc, ◌*◌, ◌/◌, ◌%◌, arith, eqb, ℤ, pos, negsuc, neg_ℤ, ◌*ℤ◌, nat_abs, Ok, Err, is_ok, MatchResult}
+use Rattle.std.proofs.Math.Nat.{div-add-mod', mul-mod_left, zero-mul}
+use Rattle.std.proofs.lemmas.Bool.{eqb-true}
+use Rattle.std.specs.Int.Signed.{quot_z, rem_z}
+use Rattle.std.specs.Result.{result_unwrap_or}
+use Rattle.refusals.specs.declared.Refusal.{Refusal}
+use Rattle.refusals.specs.declared.Refusal.TheVariants.{DivisionByZero, Remainder, OutOfRange}
+use Rattle.whole.specs.Checked.{Whole, in_range, formed, divided, both, Both}
 use Rattle.whole.proofs.Range.{never, nat_abs-neg}
 
 -- ---- a number is no refusal
-abbrev answered : Whole → Bool
-answered (Value z) = true
-answered (Refused c) = false
+abbrev refused : Refusal → Whole
+refused c = Err c
 
-abbrev value_or : ℤ → Whole → ℤ
-value_or d (Value z) = z
-value_or d (Refused c) = d
+abbrev answer : ℤ → Whole
+answer z = Ok z
 
-pub no_answer : {X : Type 0} {c : ℕ} {z : ℤ} → Refused c ≡ Value z → X
-no_answer e = never (ap answered e)
+pub no_answer : {X : Type 0} {c : Refusal} {z : ℤ} → refused c ≡ Ok z → X
+no_answer e = never (ap is_ok e)
 
-pub same-value : {x y : ℤ} → Value x ≡ Value y → x ≡ y
-same-value {x} e = ap (value_or x) e
+pub same-value : {x y : ℤ} → answer x ≡ Ok y → x ≡ y
+same-value {x = x} e = ap (λ (w : Whole). result_unwrap_or w x) e
 
 -- ---- a number formed
-formed-by : (t : Bool) (z y : ℤ) → cond t (Value z) (Refused 9) ≡ Value y → (t ≡ true) × (z ≡ y)
+formed-by : (t : Bool) (z y : ℤ) → cond t (Ok z) (Err OutOfRange) ≡ Ok y → (t ≡ true) × (z ≡ y)
 formed-by true z y e = (refl, same-value e)
 formed-by false z y e = no_answer e
 
-pub formed-answered : (z : ℤ) {y : ℤ} → formed z ≡ Value y → (in_range z ≡ true) × (z ≡ y)
+pub formed-answered : (z : ℤ) {y : ℤ} → formed z ≡ Ok y → (in_range z ≡ true) × (z ≡ y)
 unfolding formed
 formed-answered z {y} e = formed-by (in_range z) z y e
 
@@ -41,22 +35,32 @@ formed-answered z {y} e = formed-by (in_range z) z y e
 pub record Answered (f : ℤ → ℤ → Whole) (x y : Whole) (z : ℤ) : Type 0 where
   pub left : ℤ
   pub right : ℤ
-  pub left_is : x ≡ Value left
-  pub right_is : y ≡ Value right
-  pub result : f left right ≡ Value z
+  pub left_is : x ≡ Ok left
+  pub right_is : y ≡ Ok right
+  pub result : f left right ≡ Ok z
 
-pub both-answered : (f : ℤ → ℤ → Whole) (x y : Whole) {z : ℤ} → both f x y ≡ Value z → Answered f x y z
-both-answered f (Value a) (Value b) e = record { left = a; right = b; left_is = refl; right_is = refl; result = e }
-both-answered f (Value a) (Refused d) e = no_answer e
-both-answered f (Refused c) y e = no_answer e
+pub both-answered : (f : ℤ → ℤ → Whole) (x y : Whole) {z : ℤ} → both f x y ≡ Ok z → Answered f x y z
+both-answered f (Ok a) (Ok b) e = record { left = a; right = b; left_is = refl; right_is = refl; result = e }
+both-answered f (Ok a) (Err d) e = no_answer e
+both-answered f (Err c) y e = no_answer e
+
+-- a caller whose own refusals are those of the operations hands on the first
+pub first-refusal : (f : ℤ → ℤ → Whole) (x y r : Whole) → Both (λ c e. e ≡ c) f x y r → r ≡ both f x y
+first-refusal f (Ok a) (Ok b) r h = result-is (f a b) h
+  where
+    result-is : (w : Whole) → MatchResult w (λ z. r ≡ Ok z) (λ c. (e : Refusal) × (e ≡ c) × (r ≡ Err e)) → r ≡ w
+    result-is (Ok z) h = h
+    result-is (Err c) h = h.2 ∙ ap Err h.1
+first-refusal f (Ok a) (Err d) r h = h
+first-refusal f (Err c) y r h = h
 
 -- ---- an exact quotient
-divided-by : (t u : Bool) (w : Whole) {q : ℤ} → cond t (Refused 7) (cond u w (Refused 8)) ≡ Value q → (t ≡ false) × (u ≡ true) × (w ≡ Value q)
+divided-by : (t u : Bool) (w : Whole) {q : ℤ} → cond t (Err DivisionByZero) (cond u w (Err Remainder)) ≡ Ok q → (t ≡ false) × (u ≡ true) × (w ≡ Ok q)
 divided-by true u w e = no_answer e
 divided-by false true w e = (refl, refl, e)
 divided-by false false w e = no_answer e
 
-pub divided-answered : (x y : ℤ) {q : ℤ} → divided x y ≡ Value q → (eqb (nat_abs y) 0 ≡ false) × (eqb (nat_abs (rem_z x y)) 0 ≡ true) × (formed (quot_z x y) ≡ Value q)
+pub divided-answered : (x y : ℤ) {q : ℤ} → divided x y ≡ Ok q → (eqb (nat_abs y) 0 ≡ false) × (eqb (nat_abs (rem_z x y)) 0 ≡ true) × (formed (quot_z x y) ≡ Ok q)
 unfolding divided
 divided-answered x y e = divided-by (eqb (nat_abs y) 0) (eqb (nat_abs (rem_z x y)) 0) (formed (quot_z x y)) e
 
@@ -82,7 +86,7 @@ quotient-times (pos a) (negsuc b) h = neg-times-neg (a / suc b) b ∙ ap pos (ex
 quotient-times (negsuc a) (pos b) h = neg-times (suc a / b) b ∙ ap (λ (n : ℕ). neg_ℤ (pos n)) (exact-nat (suc a) b (sym (nat_abs-neg (suc a % b)) ∙ h))
 quotient-times (negsuc a) (negsuc b) h = ap (λ (n : ℕ). neg_ℤ (pos n)) (exact-nat (suc a) (suc b) (sym (nat_abs-neg (suc a % suc b)) ∙ h))
 
-pub divided-times : (x y : ℤ) {q : ℤ} → divided x y ≡ Value q → q *ℤ y ≡ x
+pub divided-times : (x y : ℤ) {q : ℤ} → divided x y ≡ Ok q → q *ℤ y ≡ x
 divided-times x y e =
     let h = divided-answered x y e in
     ap (λ (z : ℤ). z *ℤ y) (sym (formed-answered (quot_z x y) h.2).1) ∙ quotient-times x y (eqb-true (nat_abs (rem_z x y)) 0 h.1)

@@ -1,65 +1,64 @@
 -- Numbers with their history: what each operation comes to is the checked operation, and what a verdict says of the numbers that were formed.
 -- Assumes nothing.
-use mathlib.Core.Path.{◌≡◌, refl, sym, ap, ◌∙◌}
-use mathlib.Core.Bool.{Bool, true, false, cond}
-use mathlib.Core.List.{List, [], ◌∷◌, ◌++◌, map}
-use Prim.Native.Nat.{ℕ, zero, suc}
-use native.Mathlib.Omega.{arith}
-use lib.Dec.{eqb}
-use lib.IntN.{ℤ, pos, ◌+ℤ◌, ◌-ℤ◌, ◌*ℤ◌, nat_abs}
-use lib.Signed.{quot_z, rem_z}
-use Rattle.whole.specs.declared.Whole.{Whole}
-use Rattle.whole.specs.declared.Whole.TheVariants.{Value, Refused}
-use Rattle.whole.specs.Checked.{in_range, formed, divided, both, plus, minus, times, over, of_nat}
-use Rattle.whole.specs.History.{Event, forms, divides, Traced, judge, or_else, verdict, settle_by, settle, bare, then, traced_plus, traced_minus, traced_times, traced_over, traced_of_nat, numbers, every, exact}
+use Rattle.std.proofs.Common.{◌≡◌, refl, sym, ap, ◌∙◌, arith, Bool, true, false, cond, List, [], ◌∷◌, ◌++◌, map, ℕ, eqb, ℤ, pos, ◌+ℤ◌, ◌-ℤ◌, ◌*ℤ◌, nat_abs, Result, Ok, Err, is_ok}
+use Rattle.std.specs.Int.Signed.{quot_z, rem_z}
+use Rattle.std.specs.Result.{result_and}
+use Rattle.refusals.specs.Number.{number_of}
+use Rattle.refusals.specs.declared.Refusal.{Refusal}
+use Rattle.refusals.specs.declared.Refusal.TheVariants.{DivisionByZero, Remainder, OutOfRange}
+use Rattle.whole.specs.Checked.{Whole, in_range, formed, divided, both, plus, minus, times, over, of_nat}
+use Rattle.whole.specs.History.{Event, forms, divides, Traced, Verdict, range_verdict, division_verdict, judge, verdict, settle, bare, then, traced_plus, traced_minus, traced_times, traced_over, traced_of_nat, numbers, every, exact}
 use Rattle.whole.proofs.Range.{never}
 use Rattle.whole.proofs.Answers.{same-value}
 
 -- ---- the verdict on two histories, one after the other
-or_assoc : (a b c : ℕ) → or_else (or_else a b) c ≡ or_else a (or_else b c)
-or_assoc zero b c = refl
-or_assoc (suc a) b c = refl
+and_assoc : (a b c : Verdict) → result_and (result_and a b) c ≡ result_and a (result_and b c)
+and_assoc (Ok x) b c = refl
+and_assoc (Err r) b c = refl
 
-pub verdict-append : (h k : List Event) → verdict (h ++ k) ≡ or_else (verdict h) (verdict k)
+pub verdict-append : (h k : List Event) → verdict (h ++ k) ≡ result_and (verdict h) (verdict k)
 unfolding verdict
 verdict-append [] k = refl
-verdict-append (e ∷ h) k = ap (or_else (judge e)) (verdict-append h k) ∙ sym (or_assoc (judge e) (verdict h) (verdict k))
+verdict-append (e ∷ h) k = ap (result_and (judge e)) (verdict-append h k) ∙ sym (and_assoc (judge e) (verdict h) (verdict k))
 
-pub verdict-then : (f : ℤ → ℤ → ℤ) (es : ℤ → ℤ → List Event) (s t : Traced) → verdict (then f es s t).history ≡ or_else (verdict s.history) (or_else (verdict t.history) (verdict (es s.value t.value)))
+pub verdict-then : (f : ℤ → ℤ → ℤ) (es : ℤ → ℤ → List Event) (s t : Traced) → verdict (then f es s t).history ≡ result_and (verdict s.history) (result_and (verdict t.history) (verdict (es s.value t.value)))
 verdict-then f es s t =
     verdict-append s.history (t.history ++ es s.value t.value)
-    ∙ ap (or_else (verdict s.history)) (verdict-append t.history (es s.value t.value))
+    ∙ ap (result_and (verdict s.history)) (verdict-append t.history (es s.value t.value))
 
 -- ---- each operation comes to the checked one
-by_cases : (f : ℤ → ℤ → Whole) (v w u : ℕ) (x y z : ℤ) → settle_by u z ≡ f x y → settle_by (or_else v (or_else w u)) z ≡ both f (settle_by v x) (settle_by w y)
-by_cases f zero zero u x y z e = e
-by_cases f zero (suc w) u x y z e = refl
-by_cases f (suc v) w u x y z e = refl
+by_cases : (f : ℤ → ℤ → Whole) (v w u : Verdict) (x y z : ℤ) → result_and u (Ok z) ≡ f x y →
+    result_and (result_and v (result_and w u)) (Ok z) ≡ both f (result_and v (Ok x)) (result_and w (Ok y))
+by_cases f (Ok i) (Ok j) u x y z e = e
+by_cases f (Ok i) (Err d) u x y z e = refl
+by_cases f (Err c) w u x y z e = refl
 
-pub settle-then : (f : ℤ → ℤ → ℤ) (es : ℤ → ℤ → List Event) (g : ℤ → ℤ → Whole) → ((x y : ℤ) → settle_by (verdict (es x y)) (f x y) ≡ g x y) →
+pub settle-then : (f : ℤ → ℤ → ℤ) (es : ℤ → ℤ → List Event) (g : ℤ → ℤ → Whole) → ((x y : ℤ) → result_and (verdict (es x y)) (Ok (f x y)) ≡ g x y) →
     (s t : Traced) → settle (then f es s t) ≡ both g (settle s) (settle t)
 settle-then f es g e s t =
-    ap (λ (n : ℕ). settle_by n (f s.value t.value)) (verdict-then f es s t)
+    ap (λ (v : Verdict). result_and v (Ok (f s.value t.value))) (verdict-then f es s t)
     ∙ by_cases g (verdict s.history) (verdict t.history) (verdict (es s.value t.value)) s.value t.value (f s.value t.value) (e s.value t.value)
 
-in-or-out : (t : Bool) (z : ℤ) → settle_by (or_else (cond t 0 9) 0) z ≡ cond t (Value z) (Refused 9)
+in-or-out : (t : Bool) (z : ℤ) → result_and (result_and (range_verdict t) (verdict [])) (Ok z) ≡ cond {0} t (Ok z) (Err OutOfRange)
+unfolding verdict
 in-or-out true z = refl
 in-or-out false z = refl
 
-forms-one : (z : ℤ) → settle_by (verdict (forms z ∷ [])) z ≡ formed z
+forms-one : (z : ℤ) → result_and (verdict (forms z ∷ [])) (Ok z) ≡ formed z
 unfolding verdict formed
 forms-one z = in-or-out (in_range z) z
 
-division : (t u : Bool) (r : ℕ) (z : ℤ) (w : Whole) → settle_by r z ≡ w → settle_by (or_else (cond t 7 (cond u 0 8)) r) z ≡ cond t (Refused 7) (cond u w (Refused 8))
+division : (t u : Bool) (r : Verdict) (z : ℤ) (w : Whole) → result_and r (Ok z) ≡ w →
+    result_and (result_and (division_verdict t u) r) (Ok z) ≡ cond t (Err DivisionByZero) (cond u w (Err Remainder))
 division true u r z w e = refl
 division false true r z w e = e
 division false false r z w e = refl
 
-divides-one : (x y : ℤ) → settle_by (verdict (divides x y ∷ (forms (quot_z x y) ∷ []))) (quot_z x y) ≡ divided x y
+divides-one : (x y : ℤ) → result_and (verdict (divides x y ∷ (forms (quot_z x y) ∷ []))) (Ok (quot_z x y)) ≡ divided x y
 unfolding verdict divided
 divides-one x y = division (eqb (nat_abs y) 0) (eqb (nat_abs (rem_z x y)) 0) (verdict (forms (quot_z x y) ∷ [])) (quot_z x y) (formed (quot_z x y)) (forms-one (quot_z x y))
 
-pub settle-bare : (z : ℤ) → settle (bare z) ≡ Value z
+pub settle-bare : (z : ℤ) → settle (bare z) ≡ Ok z
 unfolding verdict
 settle-bare z = refl
 
@@ -78,33 +77,28 @@ settle-over = settle-then quot_z (λ x y. divides x y ∷ (forms (quot_z x y) �
 pub settle-of_nat : (n : ℕ) → settle (traced_of_nat n) ≡ of_nat n
 settle-of_nat n = forms-one (pos n)
 
--- ---- a number is answered where the verdict is 0, and otherwise the verdict is the refusal
-pub settle-answered : (t : Traced) → verdict t.history ≡ 0 → settle t ≡ Value t.value
-settle-answered t h = ap (λ (n : ℕ). settle_by n t.value) h
+-- ---- a number is answered where nothing is refused, and otherwise the verdict is the refusal
+pub settle-answered : (t : Traced) → verdict t.history ≡ Ok tt → settle t ≡ Ok t.value
+settle-answered t h = ap (λ (v : Verdict). result_and v (Ok t.value)) h
 
-pub settle-refused : (t : Traced) (c : ℕ) → verdict t.history ≡ suc c → settle t ≡ Refused (suc c)
-settle-refused t c h = ap (λ (n : ℕ). settle_by n t.value) h
+pub settle-refused : (t : Traced) (c : Refusal) → verdict t.history ≡ Err c → settle t ≡ Err c
+settle-refused t c h = ap (λ (v : Verdict). result_and v (Ok t.value)) h
 
--- the number of a refusal, and 0 for a number
-abbrev number : Whole → ℕ
-number (Value z) = 0
-number (Refused c) = c
+verdict_by : (v : Verdict) (z : ℤ) → result_and (result_and v (Ok z)) (Ok tt) ≡ v
+verdict_by (Ok tt) z = refl
+verdict_by (Err c) z = refl
 
-number_by : (v : ℕ) (z : ℤ) → number (settle_by v z) ≡ v
-number_by zero z = refl
-number_by (suc c) z = refl
+verdict-of-settle : (t : Traced) {w : Whole} → settle t ≡ w → verdict t.history ≡ result_and w (Ok tt)
+verdict-of-settle t h = sym (verdict_by (verdict t.history) t.value) ∙ ap (λ (w : Whole). result_and w (Ok tt)) h
 
-verdict-of-settle : (t : Traced) {w : Whole} → settle t ≡ w → number w ≡ verdict t.history
-verdict-of-settle t h = sym (ap number h) ∙ number_by (verdict t.history) t.value
+pub answered-verdict : (t : Traced) {z : ℤ} → settle t ≡ Ok z → verdict t.history ≡ Ok tt
+answered-verdict t h = verdict-of-settle t h
 
-pub answered-verdict : (t : Traced) {z : ℤ} → settle t ≡ Value z → verdict t.history ≡ 0
-answered-verdict t h = sym (verdict-of-settle t h)
-
-pub answered-value : (t : Traced) {z : ℤ} → settle t ≡ Value z → t.value ≡ z
+pub answered-value : (t : Traced) {z : ℤ} → settle t ≡ Ok z → t.value ≡ z
 answered-value t h = same-value (sym (settle-answered t (answered-verdict t h)) ∙ h)
 
-pub refused-verdict : (t : Traced) {c : ℕ} → settle t ≡ Refused c → verdict t.history ≡ c
-refused-verdict t h = sym (verdict-of-settle t h)
+pub refused-verdict : (t : Traced) {c : Refusal} → settle t ≡ Err c → verdict t.history ≡ Err c
+refused-verdict t h = verdict-of-settle t h
 
 -- ---- two tests
 pub both_true : (t u : Bool) → cond t u false ≡ true → (t ≡ true) × (u ≡ true)
@@ -177,22 +171,23 @@ pub numbers-division : (x y : ℤ) → numbers (divides x y ∷ (forms (quot_z x
 unfolding numbers
 numbers-division x y = refl
 
--- ---- where every division is exact, a history is refused exactly where a number that it forms is out of range, and then by 9
-one_more : (t u : Bool) → or_else (cond t 0 9) (cond u 0 9) ≡ cond (cond t u false) 0 9
+-- ---- where every division is exact, a history is refused exactly where a number that it forms is out of range
+one_more : (t u : Bool) → result_and (range_verdict t) (range_verdict u) ≡ range_verdict (cond t u false)
 one_more true u = refl
 one_more false u = refl
 
-divides-more : (t s u : Bool) (v w : ℕ) → cond t false (cond s u false) ≡ true → (u ≡ true → v ≡ w) → or_else (cond t 7 (cond s 0 8)) v ≡ w
+divides-more : (t s u : Bool) (v w : Verdict) → cond t false (cond s u false) ≡ true → (u ≡ true → v ≡ w) →
+    result_and (division_verdict t s) v ≡ w
 divides-more true s u v w e f = never e
 divides-more false true u v w e f = f e
 divides-more false false u v w e f = never e
 
-pub verdict-exact : (h : List Event) → exact h ≡ true → verdict h ≡ cond (every in_range (numbers h)) 0 9
+pub verdict-exact : (h : List Event) → exact h ≡ true → verdict h ≡ range_verdict (every in_range (numbers h))
 unfolding verdict exact numbers every
 verdict-exact [] e = refl
-verdict-exact (forms z ∷ h) e = ap (or_else (cond (in_range z) 0 9)) (verdict-exact h e) ∙ one_more (in_range z) (every in_range (numbers h))
+verdict-exact (forms z ∷ h) e = ap (result_and (range_verdict (in_range z))) (verdict-exact h e) ∙ one_more (in_range z) (every in_range (numbers h))
 verdict-exact (divides x y ∷ h) e =
-    divides-more (eqb (nat_abs y) 0) (eqb (nat_abs (rem_z x y)) 0) (exact h) (verdict h) (cond (every in_range (numbers h)) 0 9) e (verdict-exact h)
+    divides-more (eqb (nat_abs y) 0) (eqb (nat_abs (rem_z x y)) 0) (exact h) (verdict h) (range_verdict (every in_range (numbers h))) e (verdict-exact h)
 
 pub exact-forms : (l : List ℤ) → exact (map forms l) ≡ true
 unfolding exact
@@ -205,60 +200,56 @@ numbers-forms [] = refl
 numbers-forms (z ∷ l) = ap (λ (k : List ℤ). z ∷ k) (numbers-forms l)
 
 -- a history that forms numbers only
-pub verdict-forms : (l : List ℤ) → verdict (map forms l) ≡ cond (every in_range l) 0 9
-verdict-forms l = verdict-exact (map forms l) (exact-forms l) ∙ ap (λ (k : List ℤ). cond (every in_range k) 0 9) (numbers-forms l)
+pub verdict-forms : (l : List ℤ) → verdict (map forms l) ≡ range_verdict (every in_range l)
+verdict-forms l = verdict-exact (map forms l) (exact-forms l) ∙ ap (λ (k : List ℤ). range_verdict (every in_range k)) (numbers-forms l)
 
-settle-cond : (t : Bool) (z : ℤ) → settle_by (cond t 0 9) z ≡ cond t (Value z) (Refused 9)
+settle-cond : (t : Bool) (z : ℤ) → result_and (range_verdict t) (Ok z) ≡ cond t (Ok z) (Err OutOfRange)
 settle-cond true z = refl
 settle-cond false z = refl
 
-pub settle-exact : (t : Traced) → exact t.history ≡ true → settle t ≡ cond (every in_range (numbers t.history)) (Value t.value) (Refused 9)
+pub settle-exact : (t : Traced) → exact t.history ≡ true → settle t ≡ cond (every in_range (numbers t.history)) (Ok t.value) (Err OutOfRange)
 settle-exact t e =
-    ap (λ (n : ℕ). settle_by n t.value) (verdict-exact t.history e) ∙ settle-cond (every in_range (numbers t.history)) t.value
+    ap (λ (v : Verdict). result_and v (Ok t.value)) (verdict-exact t.history e) ∙ settle-cond (every in_range (numbers t.history)) t.value
 
 -- ---- what a verdict says of its history
-pub or-zero : (a b : ℕ) → or_else a b ≡ 0 → (a ≡ 0) × (b ≡ 0)
-or-zero zero b e = (refl, e)
-or-zero (suc a) b e = absurd (omega (arith, e))
+pub both-ok : {A : Type 0} (v : Verdict) (w : Result A Refusal) {a : A} → result_and v w ≡ Ok a → (v ≡ Ok tt) × (w ≡ Ok a)
+both-ok (Ok tt) w e = (refl, e)
+both-ok (Err c) w e = never (ap is_ok e)
 
-pub verdict-parts : (h k : List Event) → verdict (h ++ k) ≡ 0 → (verdict h ≡ 0) × (verdict k ≡ 0)
-verdict-parts h k e = or-zero (verdict h) (verdict k) (sym (verdict-append h k) ∙ e)
+pub verdict-parts : (h k : List Event) → verdict (h ++ k) ≡ Ok tt → (verdict h ≡ Ok tt) × (verdict k ≡ Ok tt)
+verdict-parts h k e = both-ok (verdict h) (verdict k) (sym (verdict-append h k) ∙ e)
 
-zero-first : (t : Bool) (v : ℕ) → or_else (cond t 0 9) v ≡ 0 → (t ≡ true) × (v ≡ 0)
-zero-first true v e = (refl, e)
-zero-first false v e = absurd (omega (arith, e))
+pub in-range-true : (t : Bool) → range_verdict t ≡ Ok tt → t ≡ true
+in-range-true true e = refl
+in-range-true false e = never (ap is_ok e)
 
-zero-divides : (t s : Bool) (v : ℕ) → or_else (cond t 7 (cond s 0 8)) v ≡ 0 → ((u : Bool) → u ≡ true → cond t false (cond s u false) ≡ true) × (v ≡ 0)
-zero-divides true s v e = absurd (omega (arith, e))
-zero-divides false true v e = (λ u h. h, e)
-zero-divides false false v e = absurd (omega (arith, e))
+exact-first : (t s u : Bool) → division_verdict t s ≡ Ok tt → u ≡ true → cond t false (cond s u false) ≡ true
+exact-first true s u e h = never (ap is_ok e)
+exact-first false true u e h = h
+exact-first false false u e h = never (ap is_ok e)
 
-pub answered-exact : (h : List Event) → verdict h ≡ 0 → exact h ≡ true
+pub answered-exact : (h : List Event) → verdict h ≡ Ok tt → exact h ≡ true
 unfolding verdict exact
 answered-exact [] e = refl
-answered-exact (forms z ∷ h) e = answered-exact h (zero-first (in_range z) (verdict h) e).1
+answered-exact (forms z ∷ h) e = answered-exact h (both-ok (judge (forms z)) (verdict h) e).1
 answered-exact (divides x y ∷ h) e =
-    let s = zero-divides (eqb (nat_abs y) 0) (eqb (nat_abs (rem_z x y)) 0) (verdict h) e in
-    s.0 (exact h) (answered-exact h s.1)
+    let s = both-ok (judge (divides x y)) (verdict h) e in
+    exact-first (eqb (nat_abs y) 0) (eqb (nat_abs (rem_z x y)) 0) (exact h) s.0 (answered-exact h s.1)
 
-zero-true : (t : Bool) (n : ℕ) → n ≡ cond t 0 9 → n ≡ 0 → t ≡ true
-zero-true true n e h = refl
-zero-true false n e h = absurd (omega (arith, e, h))
+pub answered-in-range : (h : List Event) → verdict h ≡ Ok tt → every in_range (numbers h) ≡ true
+answered-in-range h e = in-range-true (every in_range (numbers h)) (sym (verdict-exact h (answered-exact h e)) ∙ e)
 
-pub answered-in-range : (h : List Event) → verdict h ≡ 0 → every in_range (numbers h) ≡ true
-answered-in-range h e = zero-true (every in_range (numbers h)) (verdict h) (verdict-exact h (answered-exact h e)) e
+out-first : (t u : Bool) (v : Verdict) → result_and (range_verdict t) v ≡ Err OutOfRange → (v ≡ Err OutOfRange → u ≡ false) → cond t u false ≡ false
+out-first true u v e f = f e
+out-first false u v e f = refl
 
-nine-first : (t u : Bool) (v : ℕ) → or_else (cond t 0 9) v ≡ 9 → (v ≡ 9 → u ≡ false) → cond t u false ≡ false
-nine-first true u v e f = f e
-nine-first false u v e f = refl
+out-divides : (t s : Bool) (v : Verdict) → result_and (division_verdict t s) v ≡ Err OutOfRange → v ≡ Err OutOfRange
+out-divides true s v e = absurd (omega (arith, ap number_of e))
+out-divides false true v e = e
+out-divides false false v e = absurd (omega (arith, ap number_of e))
 
-nine-divides : (t s : Bool) (v : ℕ) → or_else (cond t 7 (cond s 0 8)) v ≡ 9 → v ≡ 9
-nine-divides true s v e = absurd (omega (arith, e))
-nine-divides false true v e = e
-nine-divides false false v e = absurd (omega (arith, e))
-
-pub nine-out-of-range : (h : List Event) → verdict h ≡ 9 → every in_range (numbers h) ≡ false
+pub out-of-range : (h : List Event) → verdict h ≡ Err OutOfRange → every in_range (numbers h) ≡ false
 unfolding verdict numbers every
-nine-out-of-range [] e = absurd (omega (arith, e))
-nine-out-of-range (forms z ∷ h) e = nine-first (in_range z) (every in_range (numbers h)) (verdict h) e (nine-out-of-range h)
-nine-out-of-range (divides x y ∷ h) e = nine-out-of-range h (nine-divides (eqb (nat_abs y) 0) (eqb (nat_abs (rem_z x y)) 0) (verdict h) e)
+out-of-range [] e = absurd (omega (arith, ap number_of e))
+out-of-range (forms z ∷ h) e = out-first (in_range z) (every in_range (numbers h)) (verdict h) e (out-of-range h)
+out-of-range (divides x y ∷ h) e = out-of-range h (out-divides (eqb (nat_abs y) 0) (eqb (nat_abs (rem_z x y)) 0) (verdict h) e)

@@ -1,7 +1,5 @@
 -- the operations at 64 bits
 pub mod Range
-pub mod Sums
-pub mod Products
 pub mod Quotients
 -- what an answer says, and numbers with their history
 pub mod Answers

@@ -11,9 +11,10 @@ use mir.Syntax.{w64}
 use mir.Val.{SFits, of_z}
 use mir.Facts.{to_z-of_z}
 use borrow.Author.Tests.{eq-eqb, ne_eqb}
-use Rattle.whole.specs.declared.Whole.TheVariants.{Value, Refused}
+use Rattle.std.specs.Prelude.{Ok, Err}
+use Rattle.refusals.specs.declared.Refusal.TheVariants.{DivisionByZero, Remainder}
 use Rattle.whole.specs.Checked.{formed, divided}
-use Rattle.whole.proofs.Range.{nat_abs-neg, nat_abs-zero, tz, of-bits, raw-is, raw-fits, raw-value}
+use Rattle.whole.proofs.Range.{nat_abs-neg, nat_abs-zero, formed-in, tz, of-bits, raw-is}
 
 mag-neg : (r : ℕ) {m : ℕ} → r ≤ suc m → mag (neg_ℤ (pos r)) ≤ m
 mag-neg zero h = omega arith
@@ -33,7 +34,7 @@ quot-mag (negsuc m) (negsuc (suc n)) h = le-of-lt-suc (div-lt_self {n = suc m} {
     le-of-lt-suc : {x y : ℕ} → x < suc y → x ≤ y
     le-of-lt-suc l = omega arith
 
-pub div-zero : (a : ℤ) {b : ℤ} → b ≡ pos 0 → Refused 7 ≡ divided a b
+pub div-zero : (a : ℤ) {b : ℤ} → b ≡ pos 0 → Err DivisionByZero ≡ divided a b
 unfolding divided
 div-zero a h = rw h
 
@@ -61,7 +62,7 @@ module _ {a b : ℤ} (fa : SFits w64 a) (fb : SFits w64 b) (nz : of_z w64 b ≡ 
   not-zero = ne_eqb (nat_abs b) 0 (λ e. nz (ap (of_z w64) (nat_abs-zero b e)))
 
   pub div-asks : (0 < of_z w64 b) × SFits w64 (quot_z (tz a) (tz b))
-  div-asks = (pos_of (of_z w64 b) nz, raw-fits fa fb quot_z quot_fits)
+  div-asks = (pos_of (of_z w64 b) nz, rw (to_z-of_z fa, to_z-of_z fb) quot_fits)
     where
       pos_of : (n : ℕ) → (n ≡ 0 → ⊥) → 0 < n
       pos_of n h = omega arith
@@ -69,13 +70,13 @@ module _ {a b : ℤ} (fa : SFits w64 a) (fb : SFits w64 b) (nz : of_z w64 b ≡ 
   rem_is : of_z w64 (rem_z (tz a) (tz b)) ≡ of_z w64 (rem_z a b)
   rem_is = raw-is fa fb (λ x y. of_z w64 (rem_z x y))
 
-  pub div-exact : of_z w64 (rem_z (tz a) (tz b)) ≡ 0 → Value (tz (quot_z (tz a) (tz b))) ≡ divided a b
+  pub div-exact : of_z w64 (rem_z (tz a) (tz b)) ≡ 0 → Ok (tz (quot_z (tz a) (tz b))) ≡ divided a b
   unfolding divided
   div-exact h =
-      raw-value fa fb quot_z quot_fits
+      raw-is fa fb (λ x y. Ok (tz (quot_z x y))) ∙ ap Ok (to_z-of_z quot_fits) ∙ sym (formed-in (quot_z a b) quot_fits.sfits)
       ∙ sym (rw (not-zero, eq-eqb (nat_abs (rem_z a b)) 0 (ap nat_abs (of-bits 0 rem-fits (sym rem_is ∙ h)))))
 
-  pub div-left : (of_z w64 (rem_z (tz a) (tz b)) ≡ 0 → ⊥) → Refused 8 ≡ divided a b
+  pub div-left : (of_z w64 (rem_z (tz a) (tz b)) ≡ 0 → ⊥) → Err Remainder ≡ divided a b
   unfolding divided
   div-left h =
       sym (rw (not-zero, ne_eqb (nat_abs (rem_z a b)) 0 (λ e. h (rem_is ∙ ap (of_z w64) (nat_abs-zero (rem_z a b) e)))))

@@ -1,11 +1,12 @@
 -- Whole numbers with their history: arithmetic has no bound, and each operation records the number that it forms, and each division its
--- two numbers before. The verdict on a history is the refusal of the first event that is refused, and 0 where none is. A history is all that a number
+-- two numbers before. The verdict on a history is the refusal of the first event that is refused, if one is. A history is all that a number
 -- rests on, and no log of the work: a number that is used twice brings its history twice, and a coefficient is recorded at each use. Assumes nothing.
-use Rattle.std.specs.Prelude.{Bool, true, false, cond, List, [], ◌∷◌, ◌++◌, ℕ, zero, suc, eqb, ℤ, pos, ◌+ℤ◌, ◌-ℤ◌, ◌*ℤ◌, nat_abs}
+use Rattle.std.specs.Prelude.{Bool, true, false, cond, List, [], ◌∷◌, ◌++◌, ℕ, eqb, ℤ, pos, ◌+ℤ◌, ◌-ℤ◌, ◌*ℤ◌, nat_abs, Result, Ok, Err, ⊤}
 use Rattle.std.specs.Int.Signed.{quot_z, rem_z}
-use Rattle.whole.specs.declared.Whole.{Whole}
-use Rattle.whole.specs.declared.Whole.TheVariants.{Value, Refused}
-use Rattle.whole.specs.Checked.{in_range}
+use Rattle.std.specs.Result.{result_and}
+use Rattle.refusals.specs.declared.Refusal.{Refusal}
+use Rattle.refusals.specs.declared.Refusal.TheVariants.{DivisionByZero, Remainder, OutOfRange}
+use Rattle.whole.specs.Checked.{Whole, in_range}
 
 pub data Event : Type 0 where
   forms : ℤ → Event
@@ -15,27 +16,28 @@ pub record Traced : Type 0 where
   pub value : ℤ
   pub history : List Event
 
--- 9: out of range; 7: a division by zero; 8: a division that leaves a remainder
-abbrev pub judge : Event → ℕ
-judge (forms z) = cond (in_range z) 0 9
-judge (divides x y) = cond (eqb (nat_abs y) 0) 7 (cond (eqb (nat_abs (rem_z x y)) 0) 0 8)
+-- nothing is refused, or why something is
+abbrev pub Verdict : Type 0
+Verdict = Result ⊤ Refusal
 
--- the first refusal of two
-abbrev pub or_else : ℕ → ℕ → ℕ
-or_else zero d = d
-or_else (suc c) d = suc c
+-- of numbers, by whether all are in range; and of a division, by whether it is by zero, and exact
+abbrev pub range_verdict : Bool → Verdict
+range_verdict inside = cond inside (Ok tt) (Err OutOfRange)
 
-unfoldable pub verdict : List Event → ℕ
-verdict [] = 0
-verdict (e ∷ es) = or_else (judge e) (verdict es)
+abbrev pub division_verdict : Bool → Bool → Verdict
+division_verdict by_zero exact = cond by_zero (Err DivisionByZero) (cond exact (Ok tt) (Err Remainder))
+
+abbrev pub judge : Event → Verdict
+judge (forms z) = range_verdict (in_range z)
+judge (divides x y) = division_verdict (eqb (nat_abs y) 0) (eqb (nat_abs (rem_z x y)) 0)
+
+unfoldable pub verdict : List Event → Verdict
+verdict [] = Ok tt
+verdict (e ∷ es) = result_and (judge e) (verdict es)
 
 -- what a number with its history comes to
-abbrev pub settle_by : ℕ → ℤ → Whole
-settle_by zero z = Value z
-settle_by (suc c) z = Refused (suc c)
-
 abbrev pub settle : Traced → Whole
-settle t = settle_by (verdict t.history) t.value
+settle t = result_and (verdict t.history) (Ok t.value)
 
 -- a number that is given, bare of a history: nothing is formed
 abbrev pub bare : ℤ → Traced

@@ -1,168 +1,83 @@
-// Signed 64-bit arithmetic that answers or refuses, in every case. Refusals bear document 01's numbers: 7 a division by zero, 8 a quotient
-// that leaves a remainder, 9 a number formed outside -2^63 to 2^63 - 1. -2^63 is a number like any other.
-#![tactic(auto)]
+// Signed 64-bit arithmetic that answers or refuses, in every case: a division by zero, a quotient that leaves a remainder, and a number formed
+// outside -2^63 to 2^63 - 1 are refused. -2^63 is a number like any other.
+#![tactic(auto, using(crate::proofs::Range::or_refused))]
 
-ghost use Rattle.std.specs.Prelude.{◌≡◌, ◌*◌, leb, ◌+ℤ◌, ◌-ℤ◌, ◌*ℤ◌, nat_abs};
-ghost use Rattle.whole.specs.Checked.{formed, divided, plus, minus, times, over};
-ghost use Rattle.whole.specs.Inner.{room};
+ghost use Rattle.std.specs.Prelude.{◌≡◌, ◌+ℤ◌, ◌-ℤ◌, ◌*ℤ◌, nat_abs};
+ghost use Rattle.whole.specs.Checked.{formed, divided, Both};
 
-// An exact number, or the number of a refusal.
-#[derive(Clone, Copy)]
-pub enum Whole {
-    Value(i64),
-    Refused(u8),
-}
+use refusals::Refusal;
 
-// The tests of `add` and `sub` compare a with an end of the range moved back by b, which cannot leave the range.
-pub fn add(a: i64, b: i64) -> Whole
+pub fn add(a: i64, b: i64) -> Result<i64, Refusal>
     ensures { result ≡ formed (a +ℤ b) }
 {
-    if b < 0 {
-        if a < -9223372036854775808 - b {
-            return Whole::Refused(9);
-        }
-    } else {
-        if 9223372036854775807 - b < a {
-            return Whole::Refused(9);
-        }
-    }
-    let sum = a + b;
-    Whole::Value(sum)
+    a.checked_add(b).ok_or(Refusal::OutOfRange)
 }
 
-pub fn sub(a: i64, b: i64) -> Whole
+pub fn sub(a: i64, b: i64) -> Result<i64, Refusal>
     ensures { result ≡ formed (a -ℤ b) }
 {
-    if b < 0 {
-        if 9223372036854775807 + b < a {
-            return Whole::Refused(9);
-        }
-    } else {
-        if a < -9223372036854775808 + b {
-            return Whole::Refused(9);
-        }
-    }
-    let difference = a - b;
-    Whole::Value(difference)
+    a.checked_sub(b).ok_or(Refusal::OutOfRange)
 }
 
-// An unsigned number, since that of -2^63 is no signed one.
-pub fn magnitude(a: i64) -> u64
-    ensures { result ≡ nat_abs a }
-{
-    if a < 0 { (-1 - a) as u64 + 1 } else { a as u64 }
-}
-
-// The largest magnitude that a product of two numbers may have, by its sign.
-fn limit(a: i64, b: i64) -> u64
-    ensures { result ≡ room a b }
-{
-    if (a < 0) == (b < 0) {
-        9223372036854775807
-    } else {
-        9223372036854775808
-    }
-}
-
-// Whether x * y is at most `most`, without forming it.
-fn fits(x: u64, y: u64, most: u64) -> bool
-    ensures { result ≡ leb (x * y) most }
-{
-    if x == 0 { true } else { y <= most / x }
-}
-
-// Two small numbers have a product in range: most products are decided so, by one comparison a number.
-fn small(a: i64) -> bool
-    ensures { result ≡ leb (nat_abs a) 2147483648 }
-{
-    if a < -2147483648 {
-        false
-    } else {
-        a <= 2147483648
-    }
-}
-
-pub fn mul(a: i64, b: i64) -> Whole
+pub fn mul(a: i64, b: i64) -> Result<i64, Refusal>
     ensures { result ≡ formed (a *ℤ b) }
 {
-    if small(a) {
-        if small(b) {
-            let product = a * b;
-            return Whole::Value(product);
-        }
-    }
-    if fits(magnitude(a), magnitude(b), limit(a, b)) {
-        let product = a * b;
-        Whole::Value(product)
-    } else {
-        Whole::Refused(9)
-    }
+    a.checked_mul(b).ok_or(Refusal::OutOfRange)
 }
 
 // The machine cannot divide -2^63 by -1, so -1 goes by a difference.
-pub fn div(a: i64, b: i64) -> Whole
+pub fn div(a: i64, b: i64) -> Result<i64, Refusal>
     ensures { result ≡ divided a b }
 {
     if b == 0 {
-        return Whole::Refused(7);
+        return Err(Refusal::DivisionByZero);
     }
     if b == -1 {
         return sub(0, a);
     }
-    let remainder = a % b;
-    if remainder == 0 {
-        let quotient = a / b;
-        Whole::Value(quotient)
+    if a % b == 0 {
+        Ok(a / b)
     } else {
-        Whole::Refused(8)
+        Err(Refusal::Remainder)
     }
 }
 
-// On numbers that may be refused already: the first refusal is passed on, whatever its number is.
-pub fn plus(x: Whole, y: Whole) -> Whole
-    ensures { result ≡ plus x y }
+// For callers that print or compare: the magnitude of -2^63 is no signed number.
+pub fn magnitude(a: i64) -> u64
+    ensures { result ≡ nat_abs a }
 {
-    match x {
-        Whole::Value(a) => match y {
-            Whole::Value(b) => add(a, b),
-            Whole::Refused(d) => Whole::Refused(d),
-        },
-        Whole::Refused(c) => Whole::Refused(c),
-    }
+    a.unsigned_abs()
 }
 
-pub fn minus(x: Whole, y: Whole) -> Whole
-    ensures { result ≡ minus x y }
+// On numbers that may be refused already, whatever their refusals are: the first refusal is handed on.
+pub fn plus<E: From<Refusal> + Drop>(x: Result<i64, E>, y: Result<i64, E>) -> Result<i64, E>
+    ensures { Both E.from_gives (λ a b. formed (a +ℤ b)) x y result }
 {
-    match x {
-        Whole::Value(a) => match y {
-            Whole::Value(b) => sub(a, b),
-            Whole::Refused(d) => Whole::Refused(d),
-        },
-        Whole::Refused(c) => Whole::Refused(c),
-    }
+    let a = x?;
+    let b = y?;
+    Ok(add(a, b)?)
 }
 
-pub fn times(x: Whole, y: Whole) -> Whole
-    ensures { result ≡ times x y }
+pub fn minus<E: From<Refusal> + Drop>(x: Result<i64, E>, y: Result<i64, E>) -> Result<i64, E>
+    ensures { Both E.from_gives (λ a b. formed (a -ℤ b)) x y result }
 {
-    match x {
-        Whole::Value(a) => match y {
-            Whole::Value(b) => mul(a, b),
-            Whole::Refused(d) => Whole::Refused(d),
-        },
-        Whole::Refused(c) => Whole::Refused(c),
-    }
+    let a = x?;
+    let b = y?;
+    Ok(sub(a, b)?)
 }
 
-pub fn over(x: Whole, y: Whole) -> Whole
-    ensures { result ≡ over x y }
+pub fn times<E: From<Refusal> + Drop>(x: Result<i64, E>, y: Result<i64, E>) -> Result<i64, E>
+    ensures { Both E.from_gives (λ a b. formed (a *ℤ b)) x y result }
 {
-    match x {
-        Whole::Value(a) => match y {
-            Whole::Value(b) => div(a, b),
-            Whole::Refused(d) => Whole::Refused(d),
-        },
-        Whole::Refused(c) => Whole::Refused(c),
-    }
+    let a = x?;
+    let b = y?;
+    Ok(mul(a, b)?)
+}
+
+pub fn over<E: From<Refusal> + Drop>(x: Result<i64, E>, y: Result<i64, E>) -> Result<i64, E>
+    ensures { Both E.from_gives divided x y result }
+{
+    let a = x?;
+    let b = y?;
+    Ok(div(a, b)?)
 }

@@ -1,21 +1,14 @@
-use mathlib.Core.Path.{◌≡◌, sym}
-use lib.ListN.{length}
-use native.Mathlib.Omega.{arith}
-use Rattle.calculus.proofs.LoopOrders.{smaller, not-smaller, smallest-none}
+use Rattle.std.proofs.Common.{ap, sym, ◌∙◌, ◌≤◌, min, rules, arith}
+use Rattle.calculus.proofs.LoopOrders.{smallest-at, smallest-none, smallest_up_to_20}
 use Rattle.calculus.proofs.smallest.Goals as goal
 
-pub loop-i-init : goal.loop-i-init
-loop-i-init c = (omega arith, sym (smallest-none c.args.orders.now (length c.args.orders.now) (omega arith)))
+pub loop-n-init : goal.loop-n-init
+loop-n-init c = (omega arith, omega (arith, smallest_up_to_20 c.args.orders.now))
 
-pub loop-i-preserved-then-n-least : goal.loop-i-preserved-then-n-least
-loop-i-preserved-then-n-least c =
-    (omega arith, smaller c.args.orders.now c.loop-i.i c.loop-i.least c.loop-i-test.true c.loop-i.invariant.0 c.loop-i.invariant.1 c.if-n-least.true)
-
-pub loop-i-preserved : goal.loop-i-preserved
-loop-i-preserved c =
-    (omega arith, not-smaller c.args.orders.now c.loop-i.i c.loop-i.least c.loop-i-test.true c.loop-i.invariant.0 c.loop-i.invariant.1 c.if-n-least.false)
+pub loop-n-preserved : goal.loop-n-preserved
+loop-n-preserved c =
+    let at = smallest-at c.args.orders.now c.loop-n.n-index (search rules) in
+    (omega (arith, c.smaller-least.ensures, c.loop-n.invariant.0), omega (arith, at, c.smaller-least.ensures, c.loop-n.invariant.1))
 
 pub returns : goal.returns
-returns c =
-    let e : c.loop-i.i ≡ 0 = omega arith in
-    rw e at c.loop-i.invariant.1
+returns c = omega (arith, smallest-none c.args.orders.now c.loop-n.n-index c.loop-n-test.false, c.loop-n.invariant.0, c.loop-n.invariant.1)

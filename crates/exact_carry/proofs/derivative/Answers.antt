@@ -1,33 +1,41 @@
-use mathlib.Core.Path.{◌≡◌, refl, ◌∙◌, ap₂}
-use native.Mathlib.Numerals.{add-one}
+-- `exact_carry::derivative` meets its contract. Assumes nothing.
+use Rattle.std.proofs.Common.{rules, ◌≡◌, suc, ◌+◌, ◌-◌, refl, ap, ap₂, ◌∙◌, arith, Ok, FitsSigned, w64}
+use Rattle.std.proofs.Math.Facts.{to_z-of_z}
 use Rattle.partitions.specs.Parts.{lists}
-use Rattle.calculus.specs.Kind.{regular}
+use Rattle.calculus.specs.Carry.{through_len}
 use Rattle.calculus.specs.InTurn.{along_list}
-use Rattle.calculus.specs.Carry.{summand, through_len, coordinates, surface_entry}
 use Rattle.exact_formulas.specs.Kinds.{checked}
-use Rattle.exact_formulas.specs.Entries.{curve_values, surface_values}
-use native.Mathlib.Omega.{arith}
-use Rattle.exact_carry.proofs.derivative.Invariants.{through}
+use Rattle.exact_formulas.proofs.Terms.{handed}
+use Rattle.exact_carry.proofs.Masks.{terms, through, through-stays}
 use Rattle.exact_carry.proofs.derivative.Goals as goal
 
 pub loop-len-init : goal.loop-len-init
 unfolding through_len
-loop-len-init c = (refl, omega arith)
+loop-len-init c = refl
 
-pub along_lists-total-requires : goal.along_lists-total-requires
-along_lists-total-requires c = (omega arith, omega arith, omega arith)
+pub returns-in_err-total : goal.returns-in_err-total
+unfolding through_len
+returns-in_err-total c =
+    let s = c.args in
+    let t = terms s.entries.now s.u.now s.v.now in
+    let j : c.loop-len.len ≡ suc (c.loop-len.len - 1) = omega arith in
+    handed c.from_residual.ensures
+    ∙ through-stays s.entries.now s.u.now s.v.now c.min-n.result (suc (c.loop-len.len - 1)) (c.min-n.result - c.loop-len.len) c.min-n.result (omega arith)
+    (c.in_err-total.ensures ∙ ap₂ (λ x n. along_list checked.plus x t (lists c.min-n.result n)) c.loop-len.invariant j)
+    ∙ ap₂ (through s.entries.now s.u.now s.v.now) c.min-n.ensures c.min-n.ensures
 
 pub loop-len-preserved : goal.loop-len-preserved
 unfolding through_len
 loop-len-preserved c =
     let s = c.args in
-    let e = summand (regular checked) 2 (coordinates (curve_values s.u.now) (curve_values s.v.now)) (surface_entry (surface_values s.entries.now)) in (
-      rw add-one (c.along_lists-total.ensures ∙ ap₂ (λ x n. along_list checked.plus x e (lists c.smaller-n.result n)) c.loop-len.invariant.0 (add-one c.loop-len.len)),
-      omega arith,
-    )
+    let t = terms s.entries.now s.u.now s.v.now in
+    let j : c.loop-len.len ≡ suc (c.loop-len.len - 1) = omega arith in
+    let k : c.loop-len.len + 1 - 1 ≡ suc (c.loop-len.len - 1) = omega arith in
+    let f : FitsSigned w64 c.in_ok-total.total = search rules in
+    rw k (ap Ok (to_z-of_z f) ∙ c.in_ok-total.ensures ∙ ap₂ (λ x n. along_list checked.plus x t (lists c.min-n.result n)) c.loop-len.invariant j)
 
 pub returns : goal.returns
 returns c =
     let s = c.args in
-    let e : c.loop-len.len ≡ c.smaller-n.result = omega arith in
-    c.loop-len.invariant.0 ∙ ap₂ (through s.entries.now s.u.now s.v.now) c.smaller-n.ensures (e ∙ c.smaller-n.ensures)
+    let e : c.loop-len.len - 1 ≡ c.min-n.result = omega arith in
+    c.loop-len.invariant ∙ ap₂ (through s.entries.now s.u.now s.v.now) c.min-n.ensures (e ∙ c.min-n.ensures)

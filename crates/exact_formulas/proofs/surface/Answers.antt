@@ -1,14 +1,10 @@
 -- `exact_formulas::surface` meets its contract. Assumes nothing.
-use mathlib.Core.Path.{◌∙◌, ap₂}
-use native.Mathlib.Omega.{arith}
+use Rattle.std.proofs.Common.{ap₂, ◌∙◌}
 use Rattle.exact_formulas.specs.Entries.{surface_values, formed_surface}
 use Rattle.exact_formulas.proofs.Formulas.{surface-operation}
 use Rattle.exact_formulas.proofs.surface.Goals as goal
 
-pub entries-requires : goal.entries-requires
-entries-requires c = omega arith
-
 pub returns : goal.returns
 returns c =
     let a = c.args in
-    c.entries.ensures ∙ ap₂ formed_surface (surface-operation a.op (surface_values a.a.now) (surface_values a.b.now)) c.smaller.ensures
+    c.entries.ensures ∙ ap₂ formed_surface (surface-operation a.op (surface_values a.a.now) (surface_values a.b.now)) c.min.ensures

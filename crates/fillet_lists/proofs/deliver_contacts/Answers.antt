@@ -1,23 +1,31 @@
 -- `fillet_lists::deliver_contacts` meets its contract. Assumes nothing.
-use mathlib.Core.Path.{refl}
+use Rattle.std.proofs.Common.{◌≡◌, ℕ, List, Float, ap, sym, ◌∙◌}
+use Rattle.std.specs.Prelude.{Result, Ok, ⊤}
+use Rattle.refusals.specs.declared.Refusal.{Refusal}
+use Rattle.rolling_ball_fillet.specs.declared.CenterContactDers.{CenterContactDers}
 use Rattle.fillet_lists.specs.Delivery.{Five, deliver_contacts}
-use Rattle.given.proofs.Admission.{refused, allowed}
-use Rattle.vector_derivatives.specs.Answer.{vector_curves}
-use Rattle.derivatives.specs.Answer.{parameters}
-use Rattle.calculus.specs.JetKind.{into_list}
 use Rattle.fillet_lists.proofs.deliver_contacts.Goals as goal
 
-pub returns-then-c-ne0 : goal.returns-then-c-ne0
-unfolding deliver_contacts
-returns-then-c-ne0 c =
-    let s = c.args in
-    let d = s.a.ders in
-    refused {L = Five} (s.center.now, (s.contact0.now, (s.contact1.now, (s.uv0.now, s.uv1.now)))) refl
-    (0, ((into_list vector_curves d.center_ders s.center.now).1, ((into_list vector_curves d.contact0_ders s.contact0.now).1, ((into_list vector_curves d.contact1_ders s.contact1.now).1, ((into_list parameters d.uv0_ders s.uv0.now).1, ((into_list parameters) d.uv1_ders s.uv1.now).1))))) c.if-c-ne0.true
+abbrev list : Result ⊤ Refusal × List Float → List Float
+list r = r.1
 
-pub returns : goal.returns
+pub returns-in-Err : goal.returns-in-Err
 unfolding deliver_contacts
-returns c =
-    let s = c.args in
-    allowed {L = Five} (s.center.now, (s.contact0.now, (s.contact1.now, (s.uv0.now, s.uv1.now)))) refl c.if-c-ne0.false
-    (λ i. (0, ((c.into_list.ensures i).1, ((c.into_list-2.ensures i).1, ((c.into_list-3.ensures i).1, ((c.into_list-4.ensures i).1, (c.into_list-5.ensures i).1))))))
+returns-in-Err c =
+    let a = c.args in
+    sym (ap (λ (w : Result CenterContactDers Refusal). deliver_contacts w (a.center.now, (a.contact0.now, (a.contact1.now, (a.uv0.now, a.uv1.now))))) c.in-Err.is)
+
+pub returns-in-Ok : goal.returns-in-Ok
+unfolding deliver_contacts
+returns-in-Ok c =
+    let a = c.args in
+    let d = c.in-Ok.d in
+    let i = ap list c.into_list.ensures in
+    let j = ap list c.into_list-in-Ok.ensures in
+    let k = ap list c.into_list-in-Ok-2.ensures in
+    let l = ap list c.into_list-in-Ok-3.ensures in
+    let r = ap list c.into_list-in-Ok-4.ensures in
+    let delivered : ◌≡◌ {A = ℕ × Five}
+    (0, (c.into_list.new.out, (c.into_list-in-Ok.new.out, (c.into_list-in-Ok-2.new.out, (c.into_list-in-Ok-3.new.out, c.into_list-in-Ok-4.new.out)))))
+    (deliver_contacts (Ok d) (a.center.now, (a.contact0.now, (a.contact1.now, (a.uv0.now, a.uv1.now))))) = λ t. (0, (i t, (j t, (k t, (l t, r t))))) in
+    delivered ∙ sym (ap (λ (w : Result CenterContactDers Refusal). deliver_contacts w (a.center.now, (a.contact0.now, (a.contact1.now, (a.uv0.now, a.uv1.now))))) c.in-Ok.is)

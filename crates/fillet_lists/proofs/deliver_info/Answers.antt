@@ -1,24 +1,25 @@
 -- `fillet_lists::deliver_info` meets its contract. Assumes nothing.
-use mathlib.Core.Path.{refl}
-use mathlib.Core.List.{[], ◌∷◌}
-use Rattle.float_lists.specs.Delivery.{written, deliver_float}
+use Rattle.std.proofs.Common.{◌≡◌, ℕ, List, Float, ap, sym, ◌∙◌}
+use Rattle.std.specs.Prelude.{Result, Ok, ⊤}
+use Rattle.refusals.specs.declared.Refusal.{Refusal}
+use Rattle.rolling_ball_fillet.specs.declared.VderInfoWithCosine.{VderInfoWithCosine}
 use Rattle.fillet_lists.specs.Delivery.{Three, deliver_info}
-use Rattle.given.proofs.Admission.{refused, allowed}
-use Rattle.vector_derivatives.specs.Answer.{vector_curves}
-use Rattle.derivatives.specs.Answer.{curves}
-use Rattle.calculus.specs.JetKind.{into_list}
 use Rattle.fillet_lists.proofs.deliver_info.Goals as goal
 
-pub returns-then-c-ne0 : goal.returns-then-c-ne0
-unfolding deliver_info
-returns-then-c-ne0 c =
-    let s = c.args in
-    refused {L = Three} (s.axis.now, (s.angle.now, s.cosine.now)) refl
-    (0, ((into_list vector_curves s.a.info.axis_ders s.axis.now).1, ((into_list curves s.a.info.angle_ders s.angle.now).1, (written (s.a.cosine ∷ []) s.cosine.now).1))) c.if-c-ne0.true
+abbrev list : Result ⊤ Refusal × List Float → List Float
+list r = r.1
 
-pub returns : goal.returns
-unfolding deliver_info deliver_float
-returns c =
-    let s = c.args in
-    allowed {L = Three} (s.axis.now, (s.angle.now, s.cosine.now)) refl c.if-c-ne0.false
-    (λ i. (0, ((c.into_list.ensures i).1, ((c.into_list-2.ensures i).1, (c.float.ensures i).1))))
+pub returns-in-Err : goal.returns-in-Err
+unfolding deliver_info
+returns-in-Err c = let a = c.args in sym (ap (λ (w : Result VderInfoWithCosine Refusal). deliver_info w (a.axis.now, (a.angle.now, a.cosine.now))) c.in-Err.is)
+
+pub returns-in-Ok : goal.returns-in-Ok
+unfolding deliver_info
+returns-in-Ok c =
+    let a = c.args in
+    let i = ap list c.into_list.ensures in
+    let j = ap list c.into_list-in-Ok.ensures in
+    let k = c.write.ensures.list in
+    let delivered : ◌≡◌ {A = ℕ × Three} (0, (c.into_list.new.out, (c.into_list-in-Ok.new.out, c.write.new.out)))
+    (deliver_info (Ok c.in-Ok.found) (a.axis.now, (a.angle.now, a.cosine.now))) = λ t. (0, (i t, (j t, k t))) in
+    delivered ∙ sym (ap (λ (w : Result VderInfoWithCosine Refusal). deliver_info w (a.axis.now, (a.angle.now, a.cosine.now))) c.in-Ok.is)

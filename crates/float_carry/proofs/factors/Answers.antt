@@ -1,51 +1,43 @@
-use Rattle.calculus.proofs.LoopBits.{factors-at, factors-past, by-u, by-v}
-use Rattle.calculus.specs.Carry.{factors as Factors, coordinates}
+use Rattle.std.proofs.Common.{◌≡◌, ◌+◌, ◌/◌, ◌%◌, drop, get_or, sym, ap, ◌∙◌, arith}
 use Rattle.partitions.proofs.Member.{part-total}
-use lib.ListN.{drop, get_or}
+use Rattle.calculus.specs.Carry.{factors as Factors, coordinates}
+use Rattle.calculus.proofs.LoopBits.{factors-at, factors-past, by-u, by-v}
 use Rattle.formulas.specs.Numbers.{curve_numbers}
 use Rattle.formulas.specs.Real.{real}
-use mathlib.Core.Path.{◌≡◌, refl, sym, ap, ◌∙◌}
-use Prim.Native.Nat.{◌+◌, ◌/◌, ◌%◌}
-use native.Mathlib.Omega.{arith}
 use Rattle.float_carry.proofs.factors.Goals as goal
 use Rattle.float_carry.proofs.factors.Goals.{then-rest-eq0, else-rest-eq0}
 
-pub loop-p-init : goal.loop-p-init
-loop-p-init c = (refl, omega arith)
-
 -- a part is at most the total, so u and v have its order
 pub offset_bounds-u-a : goal.offset_bounds-u-a
-offset_bounds-u-a c = omega (arith, part-total c.args.list.now c.loop-p.p)
+offset_bounds-u-a c = omega (arith, part-total c.args.list.now c.loop-a.a-index)
 
 pub bounds-u-a : goal.bounds-u-a
-bounds-u-a c = omega (arith, part-total c.args.list.now c.loop-p.p)
+bounds-u-a c = omega (arith, part-total c.args.list.now c.loop-a.a-index)
 
 pub offset_bounds-v-a : goal.offset_bounds-v-a
-offset_bounds-v-a c = omega (arith, part-total c.args.list.now c.loop-p.p)
+offset_bounds-v-a c = omega (arith, part-total c.args.list.now c.loop-a.a-index)
 
 pub bounds-v-a : goal.bounds-v-a
-bounds-v-a c = omega (arith, part-total c.args.list.now c.loop-p.p)
+bounds-v-a c = omega (arith, part-total c.args.list.now c.loop-a.a-index)
 
-pub loop-p-preserved : goal.loop-p-preserved
-loop-p-preserved c =
+pub loop-a-preserved : goal.loop-a-preserved
+loop-a-preserved c =
     let j = c.if-rest-eq0 in
-    let l = c.loop-p in
+    let l = c.loop-a in
     let s = c.args in
     let u = curve_numbers s.u.now in
     let v = curve_numbers s.v.now in
     let f = coordinates u v in
-    let a = get_or s.list.now l.p 0 in
+    let a = get_or s.list.now l.a-index 0 in
     let x : j.x ≡ f (l.rest % 2) a = elim j.branch [
       | then-rest-eq0 w ↦ by-u u v (l.rest % 2) a j.x w.if-rest-eq0.true w.x-is
       | else-rest-eq0 w ↦ by-v u v (l.rest % 2) a j.x w.if-rest-eq0.false w.x-is
-    ] in (
-      ap (λ r. Factors real 2 f r (drop (l.p + 1) s.list.now) (l.rest / 2)) (ap (real.times l.product) x)
-          ∙ sym (factors-at real 2 f l.product s.list.now l.p l.rest (omega arith)) ∙ l.invariant.0,
-      omega arith,
-    )
+    ] in
+    ap (λ r. Factors real 2 f r (drop (l.a-index + 1) s.list.now) (l.rest / 2)) (ap (real.times l.product) x)
+    ∙ sym (factors-at real 2 f l.product s.list.now l.a-index l.rest (omega arith)) ∙ l.invariant
 
 pub returns : goal.returns
 returns c =
     let s = c.args in
-    let l = c.loop-p in
-    sym (factors-past real 2 (coordinates (curve_numbers s.u.now) (curve_numbers s.v.now)) l.product s.list.now l.p l.rest (omega arith)) ∙ l.invariant.0
+    let l = c.loop-a in
+    sym (factors-past real 2 (coordinates (curve_numbers s.u.now) (curve_numbers s.v.now)) l.product s.list.now l.a-index l.rest (omega arith)) ∙ l.invariant

@@ -1,7 +1,5 @@
 -- `formulas::derivative_v` meets its contract. Assumes nothing.
-use mathlib.Core.Path.{ap₂, ◌∙◌}
-use Prim.Native.Nat.{ℕ}
-use lib.Ieee.{Float}
+use Rattle.std.proofs.Common.{ℕ, Float, ap₂, ◌∙◌}
 use Rattle.calculus.specs.Array.{surface_array}
 use Rattle.ieee_vectors.specs.Vectors.{positive_zero}
 use Rattle.formulas.specs.Numbers.{surface_numbers}
@@ -9,4 +7,4 @@ use Rattle.calculus.proofs.LoopShifts.{v-entries}
 use Rattle.formulas.proofs.derivative_v.Goals as goal
 
 pub returns : goal.returns
-returns c = c.shifted.ensures ∙ ap₂ (λ (g : ℕ → ℕ → Float) (k : ℕ). surface_array positive_zero g k) (v-entries (surface_numbers c.args.a.now)) c.smaller.ensures
+returns c = c.shifted.ensures ∙ ap₂ (λ (g : ℕ → ℕ → Float) (k : ℕ). surface_array positive_zero g k) (v-entries (surface_numbers c.args.a.now)) c.min.ensures

@@ -1,7 +1,5 @@
 -- `formulas::surface` meets its contract. Assumes nothing.
-use mathlib.Core.Path.{ap₂, ◌∙◌}
-use Prim.Native.Nat.{ℕ}
-use lib.Ieee.{Float}
+use Rattle.std.proofs.Common.{ℕ, Float, ap₂, ◌∙◌}
 use Rattle.calculus.specs.Array.{surface_array}
 use Rattle.ieee_vectors.specs.Vectors.{positive_zero}
 use Rattle.formulas.specs.Numbers.{surface_numbers}
@@ -11,4 +9,4 @@ use Rattle.formulas.proofs.surface.Goals as goal
 pub returns : goal.returns
 returns c =
     let s = c.args in
-    c.entries.ensures ∙ ap₂ (λ (g : ℕ → ℕ → Float) (k : ℕ). surface_array positive_zero g k) (surface-by s.f (surface_numbers s.a.now) (surface_numbers s.b.now)) c.smaller.ensures
+    c.entries.ensures ∙ ap₂ (λ (g : ℕ → ℕ → Float) (k : ℕ). surface_array positive_zero g k) (surface-by s.f (surface_numbers s.a.now) (surface_numbers s.b.now)) c.min.ensures

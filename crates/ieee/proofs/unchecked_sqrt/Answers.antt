@@ -7,9 +7,6 @@ pub of_positive-requires : goal.of_positive-requires
 of_positive-requires c =
     is_positive c.args.x c.if-x.true (sym c.is_finite.ensures ∙ c.if-is_finite.true)
 
-pub returns-then-is_finite : goal.returns-then-is_finite
-returns-then-is_finite c = c.of_positive.ensures
-
 pub returns-then-x : goal.returns-then-x
 returns-then-x c =
     at-infinity c.args.x c.if-x.true (sym c.is_finite.ensures ∙ c.if-is_finite.false)

@@ -1,18 +1,13 @@
-use mathlib.Core.Path.{refl, ◌∙◌, ap, ap₂, sym}
-use native.Mathlib.Omega.{arith}
-use lib.Seq.{take_all}
+use Rattle.std.proofs.Common.{◌∙◌, ap₂, refl, sym, rules}
 use Rattle.parts_text.specs.Reading.{fed, step}
 use Rattle.parts_text.proofs.Fed.{fed-more}
-use borrow.Author.Rules.{rules}
 use Rattle.parts_text.proofs.feed.Goals as goal
 
-pub loop-i-init : goal.loop-i-init
+pub loop-b-init : goal.loop-b-init
 unfolding fed
-loop-i-init c = (omega arith, refl)
+loop-b-init c = refl
 
-pub loop-i-preserved : goal.loop-i-preserved
-loop-i-preserved c =
-    (omega arith, c.step-s.ensures ∙ ap₂ step c.loop-i.invariant.1 c.kind_of-k.ensures ∙ sym (fed-more c.args.state c.args.bytes.now c.loop-i.i (search rules)))
-
-pub returns : goal.returns
-returns c = c.loop-i.invariant.1 ∙ ap (fed c.args.state) (take_all c.loop-i.i c.args.bytes.now (search rules))
+pub loop-b-preserved : goal.loop-b-preserved
+loop-b-preserved c =
+    let l = c.loop-b in
+    c.step-s.ensures ∙ ap₂ step l.invariant c.kind_of.ensures ∙ sym (fed-more c.args.state c.args.bytes.now l.b-index (search rules))

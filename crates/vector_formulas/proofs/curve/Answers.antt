@@ -1,6 +1,5 @@
 -- `vector_formulas::curve` meets its contract. Assumes nothing.
-use mathlib.Core.Path.{ap₂, ◌∙◌}
-use Prim.Native.Nat.{ℕ}
+use Rattle.std.proofs.Common.{ap₂, ◌∙◌, ℕ}
 use Rattle.ieee_vectors.specs.declared.Vector3.{Vector3}
 use Rattle.formulas.specs.Numbers.{curve_numbers}
 use Rattle.vector_formulas.specs.Vector.{vector_numbers, vector_array}
@@ -10,4 +9,4 @@ use Rattle.vector_formulas.proofs.curve.Goals as goal
 pub returns : goal.returns
 returns c =
     let s = c.args in
-    c.entries.ensures ∙ ap₂ (λ (g : ℕ → Vector3) (k : ℕ). vector_array g k) (vectors-by s.f (vector_numbers s.a.now) (vector_numbers s.b.now) (curve_numbers s.w.now)) c.smaller.ensures
+    c.entries.ensures ∙ ap₂ (λ (g : ℕ → Vector3) (k : ℕ). vector_array g k) (vectors-by s.f (vector_numbers s.a.now) (vector_numbers s.b.now) (curve_numbers s.w.now)) c.min.ensures

@@ -1,10 +1,6 @@
 -- `vector_formulas::store` meets its contract. Assumes nothing.
-use mathlib.Core.Path.{sym, ◌∙◌}
-use Prim.Native.Nat.{◌+◌, ◌*◌}
-use native.Mathlib.Omega.{arith}
-use lib.ListN.{length}
+use Rattle.std.proofs.Common.{sym, ◌∙◌, ◌+◌, ◌*◌, arith, length, Bool, cond, ap}
 use borrow.Author.Tests.{le-ltb}
-use Rattle.booleans.proofs.Tests.{second}
 use Rattle.vector_formulas.specs.Vector.{put}
 use Rattle.vector_formulas.proofs.Vectors.{stored-put}
 use Rattle.vector_formulas.proofs.store.Goals as goal
@@ -17,4 +13,4 @@ returns-then-k-a c =
 pub returns-else-k-a : goal.returns-else-k-a
 returns-else-k-a c =
     let s = c.args in
-    sym (second (put s.a.now (3 * s.k) s.v) s.a.now (le-ltb (3 * s.k + 2) (length s.a.now) (omega arith)))
+    sym (ap (λ (t : Bool). cond t (put s.a.now (3 * s.k) s.v) s.a.now) (le-ltb (3 * s.k + 2) (length s.a.now) (omega arith)))

@@ -1,8 +1,5 @@
 -- `capi_roads::recipe_steps::read_steps` meets its contract. Assumes nothing.
-use mathlib.Core.List.{List}
-use mathlib.Core.Path.{◌≡◌}
-use Prim.Native.Nat.{ℕ, ◌≤◌, ◌-◌, ◌/◌, min}
-use lib.ListN.{length}
+use Rattle.std.specs.Prelude.{List, ◌≡◌, ℕ, ◌/◌, min, length}
 use Rattle.calculus.proofs.LoopFilling.{CurveStored}
 use Rattle.roads.specs.declared.Step.{Step}
 use Rattle.capi_roads.specs.Recipes.{step_at, blank_step}
@@ -13,7 +10,4 @@ abbrev pub Entry : List ℕ → ℕ → Step → Type 0
 Entry steps k v = v ≡ step_at steps k
 
 abbrev pub invariant-loop-i : goal.invariant-loop-i
-invariant-loop-i l = (l.i ≤ l.count) × (l.count ≡ min (length l.steps / 3) 12) × CurveStored 12 blank_step blank_step (Entry l.steps) l.i l.program
-
-abbrev pub decreases-loop-i : goal.decreases-loop-i
-decreases-loop-i l = l.count - l.i
+invariant-loop-i l = (l.count ≡ min (length l.steps / 3) 12) × CurveStored 12 blank_step blank_step (Entry l.steps) l.i l.program

@@ -1,14 +1,12 @@
--- `derivatives::surface::write` meets its contract. The invariant: the entries passed are written. Assumes nothing.
-use Rattle.calculus.proofs.LoopWriting.{Writing}
-use Rattle.calculus.proofs.LoopLeft.{Inside, surface_left}
+-- A surface's entries are written. The invariants: those passed are, and l is how many they are. Assumes nothing.
 use Rattle.calculus.specs.Order.{surface_entries}
-use Prim.Native.Nat.{◌*◌}
+use Rattle.calculus.proofs.LoopLeft.{surface_left}
+use Rattle.calculus.proofs.LoopWriting.{Writing}
 use Rattle.formulas.specs.Numbers.{surface_numbers}
-use Prim.Native.Nat.{suc, ◌+◌, ◌-◌}
 use Rattle.derivatives.proofs.surface.write.Given as goal
 
 abbrev pub invariant-loop-i : goal.invariant-loop-i
-invariant-loop-i l = Writing (surface_entries (surface_numbers l.a) l.n) l.out (surface_left (surface_numbers l.a) l.n l.i l.j) l.l × Inside l.n l.i l.j
+invariant-loop-i at = Writing (surface_entries (surface_numbers at.a.entries) at.n) at.out (surface_left (surface_numbers at.a.entries) at.n at.i 0) at.l
 
-abbrev pub decreases-loop-i : goal.decreases-loop-i
-decreases-loop-i l = (suc l.n - l.i) * 22 + (suc l.n - l.j)
+abbrev pub invariant-loop-j : goal.invariant-loop-j
+invariant-loop-j at = Writing (surface_entries (surface_numbers at.a.entries) at.n) at.out (surface_left (surface_numbers at.a.entries) at.n at.i at.j) at.l

@@ -1,22 +1,15 @@
--- `exact::CurveDerivatives::into_list` meets its contract. Assumes nothing.
-use mathlib.Core.Path.{sym, ap, ◌∙◌}
-use mathlib.Core.List.{List}
-use Prim.Native.Nat.{suc}
-use native.Mathlib.Numerals.{add-one}
-use lib.IntN.{ℤ}
-use lib.ListN.{length}
-use borrow.Author.Tests.{lt-ltb, le-ltb, eq-eqb, ne_eqb}
+-- `exact::CurveDerivatives::into_list` meets its contract: the entries are copied. Assumes nothing.
+use Rattle.std.proofs.Common.{◌≡◌, List, ℤ, pos, suc, ◌+◌, length, take, ap, ◌∙◌, add-one, Ok, arith}
+use Rattle.std.proofs.lemmas.List.{length-take, get_or-take}
+use borrow.Author.Tests.{le-ltb, eq-eqb}
+use Rattle.exact_formulas.specs.Entries.{curve_numbers}
+use Rattle.exact.proofs.Filled.{all-listed}
 use Rattle.exact.proofs.CurveDerivatives.into_list.Goals as goal
 
-pub returns-then-n-gt20 : goal.returns-then-n-gt20
-returns-then-n-gt20 c = rw (lt-ltb 20 c.args.self.order c.if-n-gt20.true)
-
-pub returns-then-out-n : goal.returns-then-out-n
-returns-then-out-n c =
-    let a = c.args in
-    rw (le-ltb 20 a.self.order c.if-n-gt20.false, eq-eqb (length a.out.now) (suc a.self.order) (c.if-out-n.true ∙ add-one a.self.order)) (ap (λ (l : List ℤ). (0, l)) c.write.ensures)
-
-pub returns-else-out-n : goal.returns-else-out-n
-returns-else-out-n c =
-    let a = c.args in
-    rw (le-ltb 20 a.self.order c.if-n-gt20.false, ne_eqb (length a.out.now) (suc a.self.order) (λ q. c.if-out-n.false (q ∙ sym (add-one a.self.order))))
+pub returns : goal.returns
+returns c =
+    let s = c.args.self in
+    let n = s.order in
+    let l : length (take (n + 1) s.entries) ≡ suc n = simp length-take (omega arith) in
+    rw (c.copy_from_slice.ensures.after, le-ltb 20 n c.if-n-gt20.false, eq-eqb (length c.args.out.now) (suc n) (c.if-out-n.false ∙ add-one n))
+    (ap (λ (x : List ℤ). (Ok tt, x)) (all-listed (curve_numbers s.entries) (take (n + 1) s.entries) l (λ k q. get_or-take (n + 1) s.entries k (pos 0) (omega arith))))

@@ -1,20 +1,24 @@
 -- `exact::surface::on_two` meets its contract. Assumes nothing.
-use mathlib.Core.Path.{◌∙◌}
-use native.Mathlib.Omega.{arith}
-use borrow.Author.Tests.{lt-ltb, le-ltb}
-use Rattle.exact.proofs.Answers.{surface-operated}
+use Rattle.std.proofs.Common.{◌≤◌, arith}
+use Rattle.std.proofs.lemmas.Result.{err_from_is_err_and}
+use borrow.Author.Tests.{le-ltb}
+use Rattle.calculus.specs.Operation.{surface_operation}
+use Rattle.exact_formulas.specs.Kinds.{checked}
+use Rattle.exact_formulas.specs.Entries.{surface_values}
+use Rattle.exact.proofs.Answers.{surface-answered, surface-refused}
 use Rattle.exact.proofs.surface.on_two.Goals as goal
 
-pub returns-then-m-gt20 : goal.returns-then-m-gt20
-returns-then-m-gt20 c = rw (lt-ltb 20 c.args.a.order c.if-m-gt20.true) c.refused_surface.ensures
-
-pub returns-then-n-gt20 : goal.returns-then-n-gt20
-returns-then-n-gt20 c =
+pub returns-in_err-entries : goal.returns-in_err-entries
+returns-in_err-entries c =
     let a = c.args in
-    rw (le-ltb 20 a.a.order c.if-m-gt20.false, lt-ltb 20 a.b.order c.if-n-gt20.true) c.refused_surface-then-n-gt20.ensures
+    let h : c.min-order.result ≤ 20 = omega (arith, c.min-order.ensures, c.if-a-gt20.false) in
+    let p = err_from_is_err_and c.from_residual.result c.from_residual.ensures.1 in
+    rw (p.1, p.2, le-ltb 20 a.a.order c.if-a-gt20.false, le-ltb 20 a.b.order c.if-b-gt20.false, ← c.min-order.ensures)
+    (surface-refused (surface_operation checked a.op (surface_values a.a.entries) (surface_values a.b.entries)) h c.surface.ensures c.in_err-entries.was)
 
 pub returns : goal.returns
 returns c =
     let a = c.args in
-    rw (le-ltb 20 a.a.order c.if-m-gt20.false, le-ltb 20 a.b.order c.if-n-gt20.false, ← c.smaller-k.ensures)
-    (c.surface_with.ensures ∙ surface-operated a.op c.smaller-k.result a.a.entries a.b.entries (omega arith) c.surface-formed.ensures)
+    let h : c.min-order.result ≤ 20 = omega (arith, c.min-order.ensures, c.if-a-gt20.false) in
+    rw (le-ltb 20 a.a.order c.if-a-gt20.false, le-ltb 20 a.b.order c.if-b-gt20.false, ← c.min-order.ensures)
+    (surface-answered (surface_operation checked a.op (surface_values a.a.entries) (surface_values a.b.entries)) h c.surface.ensures c.in_ok-entries.was)

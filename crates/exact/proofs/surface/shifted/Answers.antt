@@ -1,81 +1,41 @@
-use mathlib.Core.Path.{sym, ap}
-use Prim.Native.Nat.{ℕ, ◌+◌, ◌<◌}
-use native.Mathlib.Omega.{arith}
+-- `exact::surface::shifted` meets its contract. Assumes nothing.
+use Rattle.std.proofs.Common.{◌+◌, ◌≤◌, ap, ◌∙◌, ℕ, pos, get_or, arith}
 use borrow.Author.Rules.{rules}
-use lib.IntN.{pos}
-use lib.ListN.{get_or}
 use mir.Syntax.{w64}
-use mir.Val.{SFits}
-use Rattle.whole.specs.declared.Whole.TheVariants.{Value}
+use mir.Val.{SFits, to_z, of_z}
+use mir.Facts.{to_z-of_z}
 use Rattle.calculus.proofs.LoopTable.{in_array}
 use Rattle.exact_formulas.specs.Entries.{surface_numbers}
-use Rattle.exact_formulas.proofs.Progress.{surface-begins, entry-inside, entry_place, surface-goes-on, surface-turns}
-use Rattle.exact.proofs.Answers.{surface-is}
+use Rattle.exact.proofs.Filled.{surface_none, surface_more, surface_row, surface_all}
 use Rattle.exact.proofs.surface.shifted.Goals as goal
 
 pub loop-i-init : goal.loop-i-init
-loop-i-init c =
+loop-i-init c = let b : c.args.n ≤ 20 = omega arith in (b, surface_none (λ x y. surface_numbers c.args.a.now (x + c.args.p) (y + c.args.q)) b)
+
+pub offset_bounds-a-index : goal.offset_bounds-a-index
+offset_bounds-a-index c = omega (arith, in_array (c.loop-i.i + c.args.p) (c.loop-j.j + c.args.q) c.index.ensures (omega arith))
+
+pub bounds-a-index : goal.bounds-a-index
+bounds-a-index c = in_array (c.loop-i.i + c.args.p) (c.loop-j.j + c.args.q) c.index.ensures (omega arith)
+
+pub offset_bounds-r-index : goal.offset_bounds-r-index
+offset_bounds-r-index c = omega (arith, in_array c.loop-i.i c.loop-j.j c.index-in-loop-j.ensures (omega arith))
+
+pub bounds-r-index : goal.bounds-r-index
+bounds-r-index c = in_array c.loop-i.i c.loop-j.j c.index-in-loop-j.ensures (omega arith)
+
+pub loop-j-preserved : goal.loop-j-preserved
+loop-j-preserved c =
     let a = c.args in
-    surface-begins (λ x y. Value (surface_numbers a.a.now (x + a.p) (y + a.q))) (omega arith)
-
-pub index-k-requires : goal.index-k-requires
-index-k-requires c = omega (arith, entry-inside c.loop-i.invariant c.loop-i-test.true)
-
-pub overflow_add-i : goal.overflow_add-i
-overflow_add-i c = omega (arith, entry-inside c.loop-i.invariant c.loop-i-test.true)
-
-pub overflow_add-j : goal.overflow_add-j
-overflow_add-j c = omega (arith, entry-inside c.loop-i.invariant c.loop-i-test.true)
-
-pub index-l-requires : goal.index-l-requires
-index-l-requires c = omega (arith, entry-inside c.loop-i.invariant c.loop-i-test.true)
-
-pub offset_bounds-a-l : goal.offset_bounds-a-l
-offset_bounds-a-l c =
-    -- the entry read stands in the array
-    let read-place : c.index-l.result < 231 = let a = c.args in
-    in_array (c.loop-i.i + a.p) (c.loop-i.j + a.q) c.index-l.ensures (omega (arith, entry-inside c.loop-i.invariant c.loop-i-test.true)) in
-    omega (arith, read-place)
-
-pub bounds-a-l : goal.bounds-a-l
-bounds-a-l c =
-    let read-place : c.index-l.result < 231 = let a = c.args in
-    in_array (c.loop-i.i + a.p) (c.loop-i.j + a.q) c.index-l.ensures (omega (arith, entry-inside c.loop-i.invariant c.loop-i-test.true)) in
-    omega (arith, read-place)
-
-pub offset_bounds-r-k : goal.offset_bounds-r-k
-offset_bounds-r-k c =
-    omega (arith, entry_place c.loop-i.invariant c.loop-i-test.true c.index-k.ensures)
-
-pub bounds-r-k : goal.bounds-r-k
-bounds-r-k c =
-    omega (arith, entry_place c.loop-i.invariant c.loop-i-test.true c.index-k.ensures)
-
-pub overflow_add-j-in-loop-i : goal.overflow_add-j-in-loop-i
-overflow_add-j-in-loop-i c = omega (arith, entry-inside c.loop-i.invariant c.loop-i-test.true)
-
-pub overflow_add-i-in-loop-i : goal.overflow_add-i-in-loop-i
-overflow_add-i-in-loop-i c = omega (arith, entry-inside c.loop-i.invariant c.loop-i-test.true)
-
-pub loop-i-smaller-then-n-i : goal.loop-i-smaller-then-n-i
-loop-i-smaller-then-n-i c = omega (arith, entry-inside c.loop-i.invariant c.loop-i-test.true)
-
-pub loop-i-preserved-then-n-i : goal.loop-i-preserved-then-n-i
-loop-i-preserved-then-n-i c =
-    let a = c.args in
-    let f : SFits w64 (get_or a.a.now c.index-l.result (pos 0)) = search rules in
-    surface-turns c.loop-i.invariant c.loop-i-test.true f (ap (λ (k : ℕ). Value (get_or a.a.now k (pos 0))) (sym c.index-l.ensures)) c.index-k.ensures c.if-n-i.true
-
-pub loop-i-smaller : goal.loop-i-smaller
-loop-i-smaller c = omega (arith, entry-inside c.loop-i.invariant c.loop-i-test.true)
+    let f : SFits w64 (get_or a.a.now c.index.result (pos 0)) = search rules in
+    let l = c.loop-j.invariant in (
+      l.0,
+      surface_more (λ x y. surface_numbers a.a.now (x + a.p) (y + a.q)) l.0 (to_z w64 (of_z w64 (get_or a.a.now c.index.result (pos 0)))) l.1 (omega arith)
+          (to_z-of_z f ∙ ap (λ (k : ℕ). get_or a.a.now k (pos 0)) c.index.ensures) c.index-in-loop-j.ensures,
+    )
 
 pub loop-i-preserved : goal.loop-i-preserved
-loop-i-preserved c =
-    let a = c.args in
-    let f : SFits w64 (get_or a.a.now c.index-l.result (pos 0)) = search rules in
-    surface-goes-on c.loop-i.invariant c.loop-i-test.true f (ap (λ (k : ℕ). Value (get_or a.a.now k (pos 0))) (sym c.index-l.ensures)) c.index-k.ensures c.if-n-i.false
+loop-i-preserved c = (c.loop-j.invariant.0, surface_row (λ x y. surface_numbers c.args.a.now (x + c.args.p) (y + c.args.q)) c.loop-j.invariant.0 c.loop-j.invariant.1 (omega arith))
 
 pub returns : goal.returns
-returns c =
-    let a = c.args in
-    surface-is (λ x y. surface_numbers a.a.now (x + a.p) (y + a.q)) c.loop-i.invariant c.loop-i-test.false
+returns c = surface_all (λ x y. surface_numbers c.args.a.now (x + c.args.p) (y + c.args.q)) c.loop-i.invariant.0 c.loop-i.invariant.1 (omega arith)

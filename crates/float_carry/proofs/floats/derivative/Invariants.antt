@@ -1,14 +1,10 @@
 -- `float_carry::floats::derivative` meets its contract. The invariant: the total is that of the lens passed. Assumes nothing.
-use mathlib.Core.Path.{◌≡◌}
+use Rattle.std.proofs.Common.{◌≡◌, ◌-◌}
 use Rattle.calculus.specs.Kind.{regular}
 use Rattle.formulas.specs.Real.{real}
 use Rattle.formulas.specs.Numbers.{surface_numbers}
 use Rattle.float_carry.proofs.Carries.{through}
-use Prim.Native.Nat.{◌-◌, ◌≤◌}
 use Rattle.float_carry.proofs.floats.derivative.Given as goal
 
 abbrev pub invariant-loop-len : goal.invariant-loop-len
-invariant-loop-len l = (l.total ≡ through (regular real) (surface_numbers l.entries) l.u l.v l.n l.len) × (l.len ≤ l.n)
-
-abbrev pub decreases-loop-len : goal.decreases-loop-len
-decreases-loop-len l = l.n - l.len
+invariant-loop-len l = l.total ≡ through (regular real) (surface_numbers l.entries) l.u l.v l.n (l.len - 1)

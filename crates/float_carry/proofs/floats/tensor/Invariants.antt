@@ -1,7 +1,5 @@
 -- `float_carry::floats::tensor` meets its contract. The invariant: the sum of the terms of the masks passed. Assumes nothing.
-use mathlib.Core.Path.{◌≡◌}
-use Prim.Native.Nat.{◌-◌, ◌^◌, ◌≤◌}
-use lib.ListN.{length}
+use Rattle.std.proofs.Common.{◌≡◌}
 use Rattle.calculus.specs.InTurn.{in_turn}
 use Rattle.calculus.specs.Kind.{regular}
 use Rattle.ieee_vectors.specs.Vectors.{positive_zero}
@@ -11,7 +9,4 @@ use Rattle.float_carry.proofs.Carries.{term_of}
 use Rattle.float_carry.proofs.floats.tensor.Given as goal
 
 abbrev pub invariant-loop-mask : goal.invariant-loop-mask
-invariant-loop-mask l = (l.sum ≡ in_turn real.plus positive_zero (term_of (regular real) (surface_numbers l.entries) l.u l.v l.list) l.mask) × (l.mask ≤ 2 ^ length l.list)
-
-abbrev pub decreases-loop-mask : goal.decreases-loop-mask
-decreases-loop-mask l = 2 ^ length l.list - l.mask
+invariant-loop-mask l = l.sum ≡ in_turn real.plus positive_zero (term_of (regular real) (surface_numbers l.entries) l.u l.v l.list) l.mask

@@ -1,77 +1,54 @@
-use mathlib.Core.Path.{◌≡◌, sym, ◌∙◌, ap, ap₂, subst}
-use mathlib.Core.Bool.{true, false}
-use lib.ListN.{take, length-take}
-use borrow.Author.Tests.{not-true, not-false}
-use Rattle.partitions.specs.Parts.{lists}
-use Rattle.partitions.specs.Walk.{stepped, remaining}
-use Rattle.partitions.proofs.Lists.{Is}
+use Rattle.std.proofs.Common.{◌≡◌, Some, Ok, sym, ap, ◌∙◌}
+use Rattle.partitions.specs.Walk.{stepped}
 use Rattle.calculus.specs.InTurn.{along_list}
-use Rattle.calculus.proofs.LoopWalking.{Steps, pending-some, pending-none, steps, first_step, is-list, shorter}
+use Rattle.calculus.proofs.LoopWalking.{start, over, not-refused}
 use Rattle.vector_formulas.specs.Vector.{vectors, vector_surface_numbers}
-use Rattle.float_carry.proofs.Carries.{terms}
-use native.Mathlib.Omega.{arith}
+use Rattle.float_carry.proofs.Carries.{terms, counts, fewer, walks-on, one-list-more}
 use Rattle.float_carry.proofs.vectors.along_lists.Goals as goal
 
-pub loop-step-init : goal.loop-step-init
-loop-step-init c =
+pub loop-parts-init : goal.loop-parts-init
+loop-parts-init c =
     let s = c.args in
-    let e = c.step-step.ensures ∙ ap (λ x. stepped x.walk) c.try_new-first.ensures in
-    let f = subst (Steps s.order s.len (lists s.order s.len)) (sym e) (first_step s.order s.len c.requires.0 c.requires.1 c.requires.2) in
-    (f.walks, f.list, ap (along_list vectors.plus s.start (terms vectors (vector_surface_numbers s.entries.now) s.u.now s.v.now)) f.holds)
+    let begun = start s.order s.len c.requires.0 c.requires.1 c.requires.2 c.in-Ok.walk (sym c.try_new.ensures ∙ c.in-Ok.is) in
+    (begun.0, ap (along_list vectors.plus s.start (terms vectors (vector_surface_numbers s.entries.now) s.u.now s.v.now)) begun.1)
 
-pub slice_bounds-parts-end : goal.slice_bounds-parts-end
-slice_bounds-parts-end c =
-    -- a list was handed out, or the walk has ended
-    let handed_out : c.loop-step.step.item.ended ≡ false = not-true c.loop-step.step.item.ended c.loop-step-test.true in
-    let listed : let s = c.args in
-    Is s.len s.order s.order (take s.len c.loop-step.step.item.parts) = c.loop-step.invariant.1 handed_out in
-    omega (arith, simp length-take at listed.long)
-
-pub slice_bounds-summand-end : goal.slice_bounds-summand-end
-slice_bounds-summand-end c =
-    let handed_out : c.loop-step.step.item.ended ≡ false = not-true c.loop-step.step.item.ended c.loop-step-test.true in
-    let listed : let s = c.args in
-    Is s.len s.order s.order (take s.len c.loop-step.step.item.parts) = c.loop-step.invariant.1 handed_out in
-    sym listed.long
-
-pub summand-term-requires : goal.summand-term-requires
-summand-term-requires c =
-    let handed_out : c.loop-step.step.item.ended ≡ false = not-true c.loop-step.step.item.ended c.loop-step-test.true in
-    let listed : let s = c.args in
-    Is s.len s.order s.order (take s.len c.loop-step.step.item.parts) = c.loop-step.invariant.1 handed_out in
-    is-list c.args.order c.args.len c.requires.0 c.requires.1 c.requires.2 _ listed
-
-pub loop-step-smaller : goal.loop-step-smaller
-loop-step-smaller c =
-    let handed_out : c.loop-step.step.item.ended ≡ false = not-true c.loop-step.step.item.ended c.loop-step-test.true in
-    -- the step that the turn ends with
-    let next : let s = c.args in
-    Steps s.order s.len (remaining c.loop-step.step.walk) c.step-step-in-loop-step.result = let s = c.args in
-    subst (Steps s.order s.len (remaining c.loop-step.step.walk)) (sym c.step-step-in-loop-step.ensures)
-    (steps s.order s.len c.requires.0 c.requires.1 c.requires.2 c.loop-step.step.walk c.loop-step.invariant.0) in
-    shorter next.holds (pending-some c.args.len c.loop-step.step handed_out)
-
-pub loop-step-preserved : goal.loop-step-preserved
-unfolding along_list
-loop-step-preserved c =
-    let handed_out : c.loop-step.step.item.ended ≡ false = not-true c.loop-step.step.item.ended c.loop-step-test.true in
-    let next : let s = c.args in
-    Steps s.order s.len (remaining c.loop-step.step.walk) c.step-step-in-loop-step.result = let s = c.args in
-    subst (Steps s.order s.len (remaining c.loop-step.step.walk)) (sym c.step-step-in-loop-step.ensures)
-    (steps s.order s.len c.requires.0 c.requires.1 c.requires.2 c.loop-step.step.walk c.loop-step.invariant.0) in
+pub summand-requires : goal.summand-requires
+summand-requires c =
     let s = c.args in
-    let t = terms vectors (vector_surface_numbers s.entries.now) s.u.now s.v.now in (
-      next.walks,
-      next.list,
-      ap₂ (λ x ls. along_list vectors.plus x t ls) (c.add-sum.ensures ∙ ap (vectors.plus c.loop-step.sum) c.summand-term.ensures) next.holds
-          ∙ ap (along_list vectors.plus c.loop-step.sum t) (sym (pending-some s.len c.loop-step.step handed_out))
-          ∙ c.loop-step.invariant.2,
+    let out : (stepped c.loop-parts.walk).item ≡ Ok (Some c.in-Ok-Some.parts) = cc in
+    counts s.order s.len c.requires.0 c.requires.1 c.requires.2 c.loop-parts.walk c.loop-parts.invariant.0 out
+
+pub loop-parts-smaller : goal.loop-parts-smaller
+loop-parts-smaller c =
+    let s = c.args in
+    let out : (stepped c.loop-parts.walk).item ≡ Ok (Some c.in-Ok-Some.parts) = cc in
+    rw c.next.ensures.1 (fewer s.order s.len c.requires.0 c.requires.1 c.requires.2 c.loop-parts.walk c.loop-parts.invariant.0 out)
+
+pub loop-parts-preserved : goal.loop-parts-preserved
+loop-parts-preserved c =
+    let s = c.args in
+    let l = c.loop-parts in
+    let out : (stepped c.loop-parts.walk).item ≡ Ok (Some c.in-Ok-Some.parts) = cc in
+    rw (c.next.ensures.1, c.add-sum.ensures) (
+      walks-on s.order s.len c.requires.0 c.requires.1 c.requires.2 l.walk l.invariant.0 out,
+      one-list-more s.order s.len c.requires.0 c.requires.1 c.requires.2 l.walk l.invariant.0 out vectors.plus (terms vectors (vector_surface_numbers s.entries.now) s.u.now s.v.now) l.sum l.invariant.1 c.summand.ensures,
     )
 
-pub returns : goal.returns
+pub returns-in_default-next : goal.returns-in_default-next
 unfolding along_list
-returns c =
-    let at-end : c.loop-step.step.item.ended ≡ true = not-false c.loop-step.step.item.ended c.loop-step-test.false in
+returns-in_default-next c =
     let s = c.args in
-    let t = terms vectors (vector_surface_numbers s.entries.now) s.u.now s.v.now in
-    sym (ap (along_list vectors.plus c.loop-step.sum t) (pending-none s.len c.loop-step.step at-end)) ∙ c.loop-step.invariant.2
+    let none-left = over s.order s.len c.requires.0 c.requires.1 c.requires.2 c.loop-parts.walk c.loop-parts.invariant.0 (λ p e. cc) in
+    sym (ap (along_list vectors.plus c.loop-parts.sum (terms vectors (vector_surface_numbers s.entries.now) s.u.now s.v.now)) none-left) ∙ c.loop-parts.invariant.1
+
+pub returns-in_default-next-2 : goal.returns-in_default-next-2
+unfolding along_list
+returns-in_default-next-2 c =
+    let s = c.args in
+    let none-left = over s.order s.len c.requires.0 c.requires.1 c.requires.2 c.loop-parts.walk c.loop-parts.invariant.0 (λ p e. cc) in
+    sym (ap (along_list vectors.plus c.loop-parts.sum (terms vectors (vector_surface_numbers s.entries.now) s.u.now s.v.now)) none-left) ∙ c.loop-parts.invariant.1
+
+pub returns-in_default : goal.returns-in_default
+returns-in_default c =
+    let s = c.args in
+    absurd (not-refused s.order s.len c.requires.0 c.requires.1 c.requires.2 c.in_default.field-0 (sym c.try_new.ensures ∙ c.in_default.is))

@@ -1,12 +1,8 @@
 -- `float_carry::vectors::derivative` meets its contract. The invariant: the total is that of the lens passed. Assumes nothing.
-use mathlib.Core.Path.{◌≡◌}
+use Rattle.std.proofs.Common.{◌≡◌, ◌-◌}
 use Rattle.vector_formulas.specs.Vector.{vectors, vector_surface_numbers}
 use Rattle.float_carry.proofs.Carries.{through}
-use Prim.Native.Nat.{◌-◌, ◌≤◌}
 use Rattle.float_carry.proofs.vectors.derivative.Given as goal
 
 abbrev pub invariant-loop-len : goal.invariant-loop-len
-invariant-loop-len l = (l.total ≡ through vectors (vector_surface_numbers l.entries) l.u l.v l.n l.len) × (l.len ≤ l.n)
-
-abbrev pub decreases-loop-len : goal.decreases-loop-len
-decreases-loop-len l = l.n - l.len
+invariant-loop-len l = l.total ≡ through vectors (vector_surface_numbers l.entries) l.u l.v l.n (l.len - 1)

@@ -1,11 +1,7 @@
 -- `float_carry::vectors::derivatives` meets its contract. The invariant: the entries passed stand in the array. Assumes nothing.
 use Rattle.vector_formulas.proofs.Vectors.{VectorsFilled}
 use Rattle.float_carry.proofs.Carries.{carried_vectors}
-use Prim.Native.Nat.{suc, ◌-◌, ◌≤◌}
 use Rattle.float_carry.proofs.vectors.derivatives.Given as goal
 
 abbrev pub invariant-loop-m : goal.invariant-loop-m
-invariant-loop-m l = VectorsFilled (carried_vectors l.entries l.u l.v) l.m l.r × (l.m ≤ suc l.n)
-
-abbrev pub decreases-loop-m : goal.decreases-loop-m
-decreases-loop-m l = suc l.n - l.m
+invariant-loop-m l = VectorsFilled (carried_vectors l.entries l.u l.v) l.m l.r

@@ -1,5 +1,5 @@
 -- `float_carry::vectors::entry` meets its contract. Assumes nothing.
-use mathlib.Core.Path.{◌∙◌}
+use Rattle.std.proofs.Common.{◌∙◌}
 use Rattle.calculus.specs.Graded.{index}
 use Rattle.calculus.specs.Carry.{composite_derivative}
 use Rattle.calculus.proofs.LoopCut.{uncut}

@@ -1,77 +1,25 @@
-use mathlib.Core.Path.{◌≡◌, sym, ap, ap₂, ◌∙◌, subst}
-use Prim.Native.Nat.{◌^◌, ◌≤◌, ◌<◌}
-use native.Mathlib.Nat.{le_antisymm}
-use native.Mathlib.Numerals.{add-one}
-use native.Mathlib.Omega.{arith}
+use Rattle.std.proofs.Common.{◌^◌, ◌≤◌, ◌<◌, length, sym, ap₂, ◌∙◌, add-one, arith, subst}
 use lib.Count.{ones, ones-le}
-use lib.ListN.{length}
-use Rattle.calculus.specs.InTurn.{in_turn}
-use Rattle.calculus.proofs.LoopTerms.{one_more, small-square}
-use Rattle.calculus.proofs.LoopBits.{entry_at, masks-le, masks-shift}
+use Rattle.calculus.proofs.LoopTerms.{one_more}
+use Rattle.calculus.proofs.LoopBits.{entry_at, masks-shift}
 use Rattle.ieee_vectors.specs.Vectors.{multiple}
 use Rattle.vector_formulas.specs.Vector.{origin, vectors, vector_numbers, vector_surface_numbers}
 use Rattle.float_carry.proofs.Carries.{term_of}
 use Rattle.float_carry.proofs.vectors.tensor.Goals as goal
 
-pub overflow_add-last : goal.overflow_add-last
-overflow_add-last c = omega arith
-
-pub overflow_mul-last : goal.overflow_mul-last
-overflow_mul-last c = omega (arith, small-square (length c.args.list.now) c.requires.0)
-
-pub overflow_add-last-2 : goal.overflow_add-last-2
-overflow_add-last-2 c = omega (arith, small-square (length c.args.list.now) c.requires.0)
-
-pub overflow_cast-end : goal.overflow_cast-end
-overflow_cast-end c = omega arith
-
-pub overflow_shl-end : goal.overflow_shl-end
-overflow_shl-end c = omega arith
-
-pub loop-mask-init : goal.loop-mask-init
-unfolding in_turn
-loop-mask-init c = (c.zero-sum.ensures, omega arith)
-
-pub overflow_cast-k : goal.overflow_cast-k
-overflow_cast-k c =
-    -- the mask is below 2 ^ len, so that it has at most len ones
-    let below : c.loop-mask.mask < 2 ^ length c.args.list.now = subst (λ x. c.loop-mask.mask < x) (masks-shift (length c.args.list.now) c.requires.0) c.loop-mask-test.true in
-    let few : ones c.loop-mask.mask ≤ length c.args.list.now = ones-le (length c.args.list.now) c.loop-mask.mask below in
-    omega (arith, few, c.requires.0)
-
 pub overflow_sub-k : goal.overflow_sub-k
 overflow_sub-k c =
+    -- the mask is below 2 ^ len, so that it has at most len ones
     let below : c.loop-mask.mask < 2 ^ length c.args.list.now = subst (λ x. c.loop-mask.mask < x) (masks-shift (length c.args.list.now) c.requires.0) c.loop-mask-test.true in
     let few : ones c.loop-mask.mask ≤ length c.args.list.now = ones-le (length c.args.list.now) c.loop-mask.mask below in
     omega (arith, few)
 
-pub factors-product-requires : goal.factors-product-requires
-factors-product-requires c = c.requires.1
-
-pub overflow_add-mask : goal.overflow_add-mask
-overflow_add-mask c =
-    let below : c.loop-mask.mask < 2 ^ length c.args.list.now = subst (λ x. c.loop-mask.mask < x) (masks-shift (length c.args.list.now) c.requires.0) c.loop-mask-test.true in
-    omega (arith, below, masks-le (length c.args.list.now) c.requires.0)
-
-pub loop-mask-smaller : goal.loop-mask-smaller
-loop-mask-smaller c =
-    let below : c.loop-mask.mask < 2 ^ length c.args.list.now = subst (λ x. c.loop-mask.mask < x) (masks-shift (length c.args.list.now) c.requires.0) c.loop-mask-test.true in
-    omega (arith, below)
-
 pub loop-mask-preserved : goal.loop-mask-preserved
 loop-mask-preserved c =
+    let s = c.args in
+    let mask = c.loop-mask.mask in
     let below : c.loop-mask.mask < 2 ^ length c.args.list.now = subst (λ x. c.loop-mask.mask < x) (masks-shift (length c.args.list.now) c.requires.0) c.loop-mask-test.true in
-    let s = c.args in
-    let mask = c.loop-mask.mask in (
-      c.add-sum.ensures
-          ∙ one_more vectors.plus origin (term_of vectors (vector_surface_numbers s.entries.now) s.u.now s.v.now s.list.now) c.loop-mask.invariant.0
-          (c.mul-term.ensures ∙ ap₂ multiple (c.vector_at-e.ensures ∙ sym (entry_at (vector_numbers s.entries.now) s.list.now mask below)) c.factors-product.ensures)
-          (add-one mask),
-      omega (arith, below),
-    )
-
-pub returns : goal.returns
-returns c =
-    let s = c.args in
-    let e : c.loop-mask.mask ≡ 2 ^ length s.list.now = le_antisymm c.loop-mask.invariant.1 (subst (λ x. x ≤ c.loop-mask.mask) (masks-shift (length s.list.now) c.requires.0) c.loop-mask-test.false) in
-    c.loop-mask.invariant.0 ∙ ap (in_turn vectors.plus origin (term_of vectors (vector_surface_numbers s.entries.now) s.u.now s.v.now s.list.now)) e
+    c.add-sum.ensures
+    ∙ one_more vectors.plus origin (term_of vectors (vector_surface_numbers s.entries.now) s.u.now s.v.now s.list.now) c.loop-mask.invariant
+    (c.mul.ensures ∙ ap₂ multiple (c.vector_at-e.ensures ∙ sym (entry_at (vector_numbers s.entries.now) s.list.now mask below)) c.factors-product.ensures)
+    (add-one mask)

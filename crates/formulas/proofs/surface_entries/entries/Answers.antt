@@ -1,42 +1,27 @@
-use Rattle.formulas.proofs.Surfaces.{surface-begins, surface-goes-on, surface-turns, surface-ends, surface_of, surface-formed}
+use Rattle.std.proofs.Common.{sym, ◌∙◌, arith}
 use Rattle.calculus.proofs.Graded.{index-231}
+use Rattle.formulas.proofs.Surfaces.{surface_none, surface_more, surface_row, surface_all, surface_of, surface-formed}
 use Rattle.formulas.specs.Numbers.{surface_numbers}
-use mathlib.Core.Path.{sym, ◌∙◌}
-use native.Mathlib.Omega.{arith}
 use Rattle.formulas.proofs.surface_entries.entries.Goals as goal
 
 pub loop-i-init : goal.loop-i-init
-loop-i-init c = (c.requires, surface-begins (surface_of c.args.f (surface_numbers c.args.a.now) (surface_numbers c.args.b.now)) c.requires)
+loop-i-init c = (c.requires, surface_none (surface_of c.args.f (surface_numbers c.args.a.now) (surface_numbers c.args.b.now)) c.requires)
 
-pub entry-e-requires : goal.entry-e-requires
-entry-e-requires c = (omega (arith, c.loop-i.invariant.1.inside.1 c.loop-i-test.true), c.binomials-c.ensures)
+pub offset_bounds-r-index : goal.offset_bounds-r-index
+offset_bounds-r-index c = omega (arith, c.index.ensures, index-231 c.loop-i.i c.loop-j.j (omega arith))
 
-pub index-k-requires : goal.index-k-requires
-index-k-requires c = omega (arith, c.loop-i.invariant.1.inside.1 c.loop-i-test.true)
+pub bounds-r-index : goal.bounds-r-index
+bounds-r-index c = omega (arith, c.index.ensures, index-231 c.loop-i.i c.loop-j.j (omega arith))
 
-pub offset_bounds-r-k : goal.offset_bounds-r-k
-offset_bounds-r-k c = omega (arith, c.index-k.ensures, index-231 c.loop-i.i c.loop-i.j (omega (arith, c.loop-i.invariant.1.inside.1 c.loop-i-test.true)))
-
-pub bounds-r-k : goal.bounds-r-k
-bounds-r-k c = omega (arith, c.index-k.ensures, index-231 c.loop-i.i c.loop-i.j (omega (arith, c.loop-i.invariant.1.inside.1 c.loop-i-test.true)))
-
-pub overflow_add-j : goal.overflow_add-j
-overflow_add-j c = omega (arith, c.loop-i.invariant.1.inside.1 c.loop-i-test.true)
-
-pub overflow_add-i : goal.overflow_add-i
-overflow_add-i c = omega (arith, c.loop-i.invariant.1.inside.1 c.loop-i-test.true)
-
-pub loop-i-smaller-then-n-i : goal.loop-i-smaller-then-n-i
-loop-i-smaller-then-n-i c = omega (arith, c.loop-i.invariant.1.inside.1 c.loop-i-test.true)
-
-pub loop-i-preserved-then-n-i : goal.loop-i-preserved-then-n-i
-loop-i-preserved-then-n-i c = (c.loop-i.invariant.0, rw c.index-k.ensures (surface-turns (surface_of c.args.f (surface_numbers c.args.a.now) (surface_numbers c.args.b.now)) c.loop-i.invariant.0 c.loop-i.invariant.1 c.loop-i-test.true (surface-formed c.args.f (surface_numbers c.args.a.now) (surface_numbers c.args.b.now) c.loop-i.invariant.0 c.loop-i.invariant.1.stored (c.loop-i.invariant.1.inside.1 c.loop-i-test.true) ∙ sym c.entry-e.ensures) c.if-n-i.true))
-
-pub loop-i-smaller : goal.loop-i-smaller
-loop-i-smaller c = omega (arith, c.loop-i.invariant.1.inside.1 c.loop-i-test.true)
+pub loop-j-preserved : goal.loop-j-preserved
+loop-j-preserved c =
+    let l = c.loop-j.invariant in
+    let x = surface_numbers c.args.a.now in
+    let y = surface_numbers c.args.b.now in
+    (l.0, surface_more (surface_of c.args.f x y) l.0 l.1 (omega arith) (surface-formed c.args.f x y l.0 l.1 (omega arith) ∙ sym c.entry.ensures) c.index.ensures)
 
 pub loop-i-preserved : goal.loop-i-preserved
-loop-i-preserved c = (c.loop-i.invariant.0, rw c.index-k.ensures (surface-goes-on (surface_of c.args.f (surface_numbers c.args.a.now) (surface_numbers c.args.b.now)) c.loop-i.invariant.0 c.loop-i.invariant.1 c.loop-i-test.true (surface-formed c.args.f (surface_numbers c.args.a.now) (surface_numbers c.args.b.now) c.loop-i.invariant.0 c.loop-i.invariant.1.stored (c.loop-i.invariant.1.inside.1 c.loop-i-test.true) ∙ sym c.entry-e.ensures) c.if-n-i.false))
+loop-i-preserved c = (c.loop-j.invariant.0, surface_row (surface_of c.args.f (surface_numbers c.args.a.now) (surface_numbers c.args.b.now)) c.loop-j.invariant.0 c.loop-j.invariant.1 (omega arith))
 
 pub returns : goal.returns
-returns c = surface-ends (surface_of c.args.f (surface_numbers c.args.a.now) (surface_numbers c.args.b.now)) c.loop-i.invariant.0 c.loop-i.invariant.1 c.loop-i-test.false
+returns c = surface_all (surface_of c.args.f (surface_numbers c.args.a.now) (surface_numbers c.args.b.now)) c.loop-i.invariant.0 c.loop-i.invariant.1 (omega arith)

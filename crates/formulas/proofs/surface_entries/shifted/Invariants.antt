@@ -1,12 +1,11 @@
--- `formulas::surface_entries::shifted` meets its contract. The invariant: the entries passed stand in the array. Assumes nothing.
+-- `formulas::surface_entries::shifted` meets its contract. The invariants: the entries passed stand in the array. Assumes nothing.
+use Rattle.std.proofs.Common.{◌+◌, ◌≤◌}
+use Rattle.formulas.proofs.Surfaces.{SurfaceFilled}
 use Rattle.formulas.specs.Numbers.{surface_numbers}
-use Prim.Native.Nat.{◌*◌}
-use Rattle.formulas.proofs.Surfaces.{SurfaceProgress}
-use Prim.Native.Nat.{suc, ◌+◌, ◌-◌, ◌≤◌}
 use Rattle.formulas.proofs.surface_entries.shifted.Given as goal
 
 abbrev pub invariant-loop-i : goal.invariant-loop-i
-invariant-loop-i at = (l : at.n ≤ 20) × SurfaceProgress (λ x y. surface_numbers at.a (x + at.p) (y + at.q)) l at.i at.j at.r
+invariant-loop-i at = (l : at.n ≤ 20) × SurfaceFilled (λ x y. surface_numbers at.a (x + at.p) (y + at.q)) l at.i 0 at.r
 
-abbrev pub decreases-loop-i : goal.decreases-loop-i
-decreases-loop-i at = (suc at.n - at.i) * 22 + (suc at.n - at.j)
+abbrev pub invariant-loop-j : goal.invariant-loop-j
+invariant-loop-j at = (l : at.n ≤ 20) × SurfaceFilled (λ x y. surface_numbers at.a (x + at.p) (y + at.q)) l at.i at.j at.r

@@ -1,5 +1,5 @@
 -- `root::of_units` meets its contract: the bits that it puts together are those of the defined root. Assumes nothing.
-use mathlib.Core.Path.{sym, ap, ◌∙◌, subst}
+use mathlib.Core.Path.{◌≡◌, sym, ap, ◌∙◌, subst}
 use Prim.Native.Nat.{ℕ, ◌+◌, ◌*◌, ◌%◌, ◌^◌, ◌≤◌, ◌<◌}
 use native.Mathlib.Omega.{arith}
 use lib.Count.{count_leading_zeros, leading_le}
@@ -11,6 +11,17 @@ use Rattle.ieee.proofs.root.of_units.Goals as goal
 
 few : (z j : ℕ) → j < 2046 → dropped z j ≤ 1600
 few z j h = omega arith
+
+-- what the two calls ensure: the digits, and that the rounded root has 53
+digits-of : {w r s : ℕ} → (r * r + s ≡ w * 2 ^ 42) × (s ≤ 2 * r) × (r < 2 ^ 53) → Digits w r s
+digits-of d = record { value = d.0; below = d.1; small = d.2 }
+
+ends : (m j : ℕ) {r s q : ℕ}
+    → Place m
+    → (r * r + s ≡ m * 2 ^ shift (count_leading_zeros 64 m) j % 2 ^ 64 * 2 ^ 42) × (s ≤ 2 * r) × (r < 2 ^ 53)
+    → q ≡ up-or-down r s
+    → (2 ^ 52 ≤ q) × (q ≤ 2 ^ 53)
+ends m j {r} {s} p d e = subst (λ (x : ℕ). (2 ^ 52 ≤ x) × (x ≤ 2 ^ 53)) (sym e) (in_between m j p r s (digits-of d))
 
 pub overflow_cast-z : goal.overflow_cast-z
 overflow_cast-z c = omega (arith, leading_le 64 c.args.m)
@@ -29,14 +40,12 @@ overflow_mul-k c = omega arith
 
 pub overflow_sub-j : goal.overflow_sub-j
 overflow_sub-j c =
-    let at : Place c.args.m = place c.args.m c.requires.0 c.requires.1 in
-    let p = at in
+    let p = place c.args.m c.requires.0 c.requires.1 in
     shift-room (count_leading_zeros 64 c.args.m) p.at c.args.j p.zeros p.narrow
 
 pub overflow_shl-m : goal.overflow_shl-m
 overflow_shl-m c =
-    let at : Place c.args.m = place c.args.m c.requires.0 c.requires.1 in
-    let p = at in
+    let p = place c.args.m c.requires.0 c.requires.1 in
     let h = shift-high (count_leading_zeros 64 c.args.m) p.at c.args.j p.zeros p.narrow in
     omega arith
 
@@ -48,29 +57,17 @@ overflow_mul-result c = omega arith
 
 pub overflow_add-result : goal.overflow_add-result
 overflow_add-result c =
-    let at : Place c.args.m = place c.args.m c.requires.0 c.requires.1 in
-    -- what the two calls ensure
-    let found : Digits (c.args.m * 2 ^ shift (count_leading_zeros 64 c.args.m) c.args.j % 2 ^ 64) c.digits-d.result.root c.digits-d.result.rest = let d = c.digits-d.ensures in
-    record { value = d.0; below = d.1; small = d.2 } in
-    let ends : (2 ^ 52 ≤ c.rounded-q.result) × (c.rounded-q.result ≤ 2 ^ 53) = let d = c.digits-d.result in
-    subst (λ (q : ℕ). (2 ^ 52 ≤ q) × (q ≤ 2 ^ 53)) (sym c.rounded-q.ensures) (in_between c.args.m c.args.j at d.root d.rest found) in
-    let e = ends in omega arith
+    let e = ends c.args.m c.args.j (place c.args.m c.requires.0 c.requires.1) c.digits-d.ensures c.rounded-q.ensures in omega arith
 
 pub float_from_bits-result : goal.float_from_bits-result
 float_from_bits-result c =
-    let at : Place c.args.m = place c.args.m c.requires.0 c.requires.1 in
-    let found : Digits (c.args.m * 2 ^ shift (count_leading_zeros 64 c.args.m) c.args.j % 2 ^ 64) c.digits-d.result.root c.digits-d.result.rest = let d = c.digits-d.ensures in
-    record { value = d.0; below = d.1; small = d.2 } in
-    let ends : (2 ^ 52 ≤ c.rounded-q.result) × (c.rounded-q.result ≤ 2 ^ 53) = let d = c.digits-d.result in
-    subst (λ (q : ℕ). (2 ^ 52 ≤ q) × (q ≤ 2 ^ 53)) (sym c.rounded-q.ensures) (in_between c.args.m c.args.j at d.root d.rest found) in
-    let e = ends in
+    let e = ends c.args.m c.args.j (place c.args.m c.requires.0 c.requires.1) c.digits-d.ensures c.rounded-q.ensures in
     no_nan c.rounded-q.result (dropped (count_leading_zeros 64 c.args.m) c.args.j) e.0 e.1 (few (count_leading_zeros 64 c.args.m) c.args.j c.requires.2)
 
 pub returns : goal.returns
 returns c =
-    let at : Place c.args.m = place c.args.m c.requires.0 c.requires.1 in
-    let found : Digits (c.args.m * 2 ^ shift (count_leading_zeros 64 c.args.m) c.args.j % 2 ^ 64) c.digits-d.result.root c.digits-d.result.rest = let d = c.digits-d.ensures in
-    record { value = d.0; below = d.1; small = d.2 } in
+    let at = place c.args.m c.requires.0 c.requires.1 in
+    let found = digits-of c.digits-d.ensures in
     let d = c.digits-d.result in
     let k = dropped (count_leading_zeros 64 c.args.m) c.args.j in
     let e = in_between c.args.m c.args.j at d.root d.rest found in

@@ -8,17 +8,17 @@ use mathlib.Core.Path.{sym, ◌∙◌}
 use Rattle.partials.proofs.angles.rates.Goals as goal
 
 pub loop-m-init : goal.loop-m-init
-loop-m-init c = (numbers-none (rates (curve_numbers c.args.r.now)), omega arith)
+loop-m-init c = numbers-none (rates (curve_numbers c.args.r.now))
 
 pub loop-m-preserved : goal.loop-m-preserved
 loop-m-preserved c =
     let s = c.args in
     let l = c.loop-m in
     let f = rates (curve_numbers s.r.now) in
-    (numbers_more f c.rate-e.result l.invariant.0 (omega arith) (rate-formed (curve_numbers s.r.now) l.invariant.0 (omega arith) ∙ sym c.rate-e.ensures), omega arith)
+    numbers_more f c.rate-e.result l.invariant (omega arith) (rate-formed (curve_numbers s.r.now) l.invariant (omega arith) ∙ sym c.rate-e.ensures)
 
 pub returns : goal.returns
 returns c =
     let s = c.args in
     let f = rates (curve_numbers s.r.now) in
-    numbers-all f (suc s.n) c.loop-m.invariant.0 (omega arith)
+    numbers-all f (suc s.n) c.loop-m.invariant (omega arith)

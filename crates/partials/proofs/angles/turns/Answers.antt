@@ -9,7 +9,7 @@ use Rattle.partials.proofs.angles.turns.Goals as goal
 pub loop-m-init : goal.loop-m-init
 loop-m-init c =
     let s = c.args in
-    (numbers-none (turns (curve_numbers s.rate.now) (curve_numbers s.dot.now) (curve_numbers s.length.now)), omega arith)
+    numbers-none (turns (curve_numbers s.rate.now) (curve_numbers s.dot.now) (curve_numbers s.length.now))
 
 pub loop-m-preserved : goal.loop-m-preserved
 loop-m-preserved c =
@@ -18,10 +18,10 @@ loop-m-preserved c =
     let rate = curve_numbers s.rate.now in
     let dot = curve_numbers s.dot.now in
     let length = curve_numbers s.length.now in
-    (numbers_more (turns rate dot length) c.turn-e.result l.invariant.0 (omega arith) (turn-formed rate dot length l.invariant.0 (omega arith) ∙ sym c.turn-e.ensures), omega arith)
+    numbers_more (turns rate dot length) c.turn-e.result l.invariant (omega arith) (turn-formed rate dot length l.invariant (omega arith) ∙ sym c.turn-e.ensures)
 
 pub returns : goal.returns
 returns c =
     let s = c.args in
     let f = turns (curve_numbers s.rate.now) (curve_numbers s.dot.now) (curve_numbers s.length.now) in
-    numbers-all f s.n c.loop-m.invariant.0 (omega arith)
+    numbers-all f s.n c.loop-m.invariant (omega arith)

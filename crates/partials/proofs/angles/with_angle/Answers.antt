@@ -11,17 +11,17 @@ pub loop-m-init : goal.loop-m-init
 loop-m-init c =
     let s = c.args in
     let f = angles s.angle (curve_numbers s.turn.now) in
-    (numbers_more f s.angle (numbers-none f) (omega arith) refl, omega arith)
+    numbers_more f s.angle (numbers-none f) (omega arith) refl
 
 pub loop-m-preserved : goal.loop-m-preserved
 loop-m-preserved c =
     let s = c.args in
     let l = c.loop-m in
     let f = angles s.angle (curve_numbers s.turn.now) in
-    (numbers_more f (curve_numbers s.turn.now l.m) l.invariant.0 (omega arith) (ap f (add-one l.m)), omega arith)
+    numbers_more f (curve_numbers s.turn.now l.m) l.invariant (omega arith) (ap f (add-one l.m))
 
 pub returns : goal.returns
 returns c =
     let s = c.args in
     let f = angles s.angle (curve_numbers s.turn.now) in
-    numbers-all f (suc s.n) c.loop-m.invariant.0 (omega arith)
+    numbers-all f (suc s.n) c.loop-m.invariant (omega arith)

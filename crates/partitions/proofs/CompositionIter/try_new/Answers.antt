@@ -1,43 +1,23 @@
 -- `partitions::CompositionIter::try_new` meets its contract: the refusals, or the first list. Assumes nothing.
-use mathlib.Core.Path.{◌≡◌, sym, ap, ◌∙◌}
-use Prim.Native.Nat.{ℕ, ◌≤◌}
-use native.Mathlib.Omega.{arith}
-use lib.Seq.{length-take-le}
-use Rattle.partitions.specs.Walk.{refusal as refusal_of}
-use Rattle.partitions.specs.declared.CompositionIter.{CompositionIter}
+use Rattle.std.proofs.Common.{◌≤◌, sym, ◌∙◌, arith, length-take-le}
+use Rattle.std.proofs.lemmas.Result.{err_from_is_err_and}
 use Rattle.partitions.proofs.Walked.{range-of}
-use Rattle.partitions.proofs.Stepping.{zeros, start-refused, start_first}
+use Rattle.partitions.proofs.Stepping.{zeros, in-20, start-refused, start_first}
 use Rattle.partitions.proofs.CompositionIter.try_new.Goals as goal
 
-small : (order len n : ℕ) → n ≡ refusal_of order len → n ≡ 0 → len ≤ 20
-small order len n e z =
-    let h = range-of order len (sym e ∙ z) in
-    let a : len ≤ order = h.1 in
-    let b : order ≤ 20 = h.2 in
-    omega arith
-
-pub returns-then-number-ne0 : goal.returns-then-number-ne0
-returns-then-number-ne0 c =
-    let a = c.args in
-    let r = c.refusal-number in
-    ap (λ (w : CompositionIter). record { refusal = r.result; walk = w }) c.blank.ensures ∙ start-refused a.order a.len r.result r.ensures c.if-number-ne0.true
+pub returns-in_err-test : goal.returns-in_err-test
+returns-in_err-test c =
+    let p = err_from_is_err_and c.from_residual.result c.from_residual.ensures.1 in
+    rw (p.1, p.2) (start-refused c.args.order c.args.len _ (sym c.test.ensures ∙ c.in_err-test.was))
 
 pub slice_bounds-current-end : goal.slice_bounds-current-end
-slice_bounds-current-end c =
-    small c.args.order c.args.len c.refusal-number.result c.refusal-number.ensures c.if-number-ne0.false
-
-pub slice_bounds-init-end : goal.slice_bounds-init-end
-slice_bounds-init-end c =
-    sym (length-take-le c.args.len zeros (small c.args.order c.args.len c.refusal-number.result c.refusal-number.ensures c.if-number-ne0.false))
+slice_bounds-current-end c = in-20 c.args.order c.args.len (sym c.test.ensures ∙ c.in_ok-test.was)
 
 pub init-requires : goal.init-requires
 init-requires c =
-    let h = range-of c.args.order c.args.len (sym c.refusal-number.ensures ∙ c.if-number-ne0.false) in
-    let l : c.args.len ≤ c.args.order = h.1 in
-    omega (arith, length-take-le c.args.len zeros (small c.args.order c.args.len c.refusal-number.result c.refusal-number.ensures c.if-number-ne0.false))
+    let none = sym c.test.ensures ∙ c.in_ok-test.was in
+    let l : c.args.len ≤ c.args.order = (range-of c.args.order c.args.len none).1 in
+    omega (arith, length-take-le c.args.len zeros (in-20 c.args.order c.args.len none))
 
 pub returns : goal.returns
-returns c =
-    let a = c.args in
-    let r = c.refusal-number in
-    start_first a.order a.len r.result c.init.new.array r.ensures c.if-number-ne0.false c.init.ensures
+returns c = start_first c.args.order c.args.len c.init.new.array (sym c.test.ensures ∙ c.in_ok-test.was) c.init.ensures

@@ -1,12 +1,7 @@
--- `partitions::inner::over_parts` meets its contract. The invariant: what is left, divided from i on, is the whole. Assumes nothing.
-use mathlib.Core.Path.{◌≡◌}
-use lib.ListN.{length, drop}
+-- `partitions::inner::over_parts` meets its contract. The invariant: what is left, divided from the place on, is the whole. Assumes nothing.
+use Rattle.std.proofs.Common.{◌≡◌, drop}
 use Rattle.partitions.specs.Parts.{divide}
-use Prim.Native.Nat.{◌-◌, ◌≤◌}
 use Rattle.partitions.proofs.inner.over_parts.Given as goal
 
-abbrev pub invariant-loop-i : goal.invariant-loop-i
-invariant-loop-i l = (l.i ≤ length l.list) × (divide l.rest (drop l.i l.list) ≡ divide l.x l.list)
-
-abbrev pub decreases-loop-i : goal.decreases-loop-i
-decreases-loop-i l = length l.list - l.i
+abbrev pub invariant-loop-a : goal.invariant-loop-a
+invariant-loop-a l = divide l.rest (drop l.a-index l.list) ≡ divide l.x l.list

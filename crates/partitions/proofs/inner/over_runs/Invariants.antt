@@ -1,13 +1,9 @@
 -- `partitions::inner::over_runs` meets its contract. The invariant: what is left, divided by the run before i and those after it, is the whole.
 -- Assumes nothing.
-use mathlib.Core.Path.{◌≡◌}
-use lib.ListN.{length, get_or, drop}
+use Rattle.std.proofs.Common.{◌≡◌, ◌-◌, ◌≤◌, get_or, drop}
 use Rattle.partitions.specs.Parts.{divide, runs_from, runs}
-use Prim.Native.Nat.{◌-◌, ◌≤◌}
 use Rattle.partitions.proofs.inner.over_runs.Given as goal
 
 abbrev pub invariant-loop-i : goal.invariant-loop-i
-invariant-loop-i l = (1 ≤ l.i) × ((l.i ≤ length l.list) × ((l.run ≤ l.i) × (divide l.rest (runs_from (get_or l.list (l.i - 1) 0) l.run (drop l.i l.list)) ≡ divide l.x (runs l.list))))
-
-abbrev pub decreases-loop-i : goal.decreases-loop-i
-decreases-loop-i l = length l.list - l.i
+invariant-loop-i l =
+    (l.run ≤ l.i) × (divide l.rest (runs_from (get_or l.list (l.i - 1) 0) l.run (drop l.i l.list)) ≡ divide l.x (runs l.list))

@@ -11,9 +11,8 @@ use Rattle.rolling_ball_fillet.proofs.centers.center_contacts.Goals as goal
 pub returns : goal.returns
 unfolding center_contacts
 returns c =
-    let n = c.args.n in
-    let h : n ≤ 19 = omega (arith, c.requires) in
-    let p = placed c.args.f c.args.cc in
+    let s = c.args in
+    let h : s.n ≤ 19 = omega (arith, c.requires) in
     c.answered.ensures
-    ∙ ap (answered_contacts n)
-    (c.center_contacts.ensures ∙ ap (λ (x : Place). contacts_at x (min n 19)) c.placed-p.ensures ∙ uncut (contacts_at p) h)
+    ∙ ap (answered_contacts s.n)
+    (c.center_contacts.ensures ∙ ap (λ (x : Place). contacts_at x (min s.n 19)) c.placed.ensures ∙ uncut (contacts_at (placed s.f.now s.cc.now)) h)

@@ -1,20 +1,14 @@
-use Rattle.formulas.proofs.Curves.{numbers-none, numbers_more, numbers-all}
+-- `cut_numbers` meets its contract: what is copied are the first entries. Assumes nothing.
+use Rattle.std.proofs.Common.{◌≡◌, suc, ◌+◌, length, take, add-one, arith}
+use Rattle.std.proofs.lemmas.List.{length-take, get_or-take}
+use Rattle.std.specs.Float.{nan}
 use Rattle.formulas.specs.Numbers.{curve_numbers}
-use native.Mathlib.Omega.{arith}
-use Prim.Native.Nat.{suc}
-use mathlib.Core.Path.{refl}
+use Rattle.formulas.proofs.Curves.{copied}
 use Rattle.rolling_ball_fillet.proofs.jets.cut_numbers.Goals as goal
-
-pub loop-m-init : goal.loop-m-init
-loop-m-init c = (numbers-none (curve_numbers c.args.a.now), omega arith)
-
-pub loop-m-preserved : goal.loop-m-preserved
-loop-m-preserved c =
-    let f = curve_numbers c.args.a.now in
-    let l = c.loop-m in
-    (numbers_more f (f l.m) l.invariant.0 (omega arith) refl, omega arith)
 
 pub returns : goal.returns
 returns c =
-    let f = curve_numbers c.args.a.now in
-    numbers-all f (suc c.args.n) c.loop-m.invariant.0 (omega arith)
+    let s = c.args in
+    let part : c.copy_from_slice.new.self ≡ take (s.n + 1) s.a.now = c.copy_from_slice.ensures.after in
+    let long : length (take (suc s.n) s.a.now) ≡ suc s.n = simp (length-take) (omega arith) in
+    rw part (rw (add-one s.n) (copied 21 (curve_numbers s.a.now) (take (suc s.n) s.a.now) (omega arith) long (λ k q. get_or-take (suc s.n) s.a.now k nan q)))

@@ -13,7 +13,7 @@ use Rattle.surface_info.proofs.arrays.derivative_dot.Goals as goal
 
 pub returns : goal.returns
 returns c =
-    let k = c.smaller-k in
+    let k = c.min-k in
     let a = c.args in
     let l : k.result ≤ 19 = omega (arith, k.ensures) in
     let h : k.result ≤ 20 = omega (arith, l) in

@@ -8,5 +8,5 @@ use Rattle.surface_info.proofs.products.along_v.Goals as goal
 pub returns : goal.returns
 returns c =
     let a = c.args in
-    along-derived a.m c.requires (curve_numbers a.u.now) (curve_numbers a.v.now) (derivative_v (vector_surface_numbers a.s.now))
+    along-derived a.m c.requires (curve_numbers a.uv.now.u) (curve_numbers a.uv.now.v) (derivative_v (vector_surface_numbers a.s.now))
     c.derivative_v-d.ensures c.derivative.ensures

@@ -1,35 +1,22 @@
 -- `vector_derivatives::VectorSurfaceDerivatives::combinatorial_derivatives_dot` meets its contract. Assumes nothing.
-use mathlib.Core.Bool.{not}
-use Rattle.calculus.proofs.Tested.{near, two-above-20, two-infinite, two-worked}
-use Rattle.derivatives.proofs.Answers.{surface-returned}
+use Rattle.std.proofs.Common.{ℕ, ◌∙◌, sym}
 use Rattle.ieee_vectors.specs.Vectors.{dot}
 use Rattle.calculus.specs.Kind.{regular}
 use Rattle.calculus.specs.Surface.{product_by}
+use Rattle.calculus.specs.JetKind.{finite_up_to, returned}
 use Rattle.formulas.specs.Real.{real}
-use Rattle.derivatives.specs.Names.{refused_surface, returned_surface}
 use Rattle.vector_formulas.specs.Vector.{vector_surface_numbers}
+use Rattle.derivatives.specs.Answer.{surfaces}
+use Rattle.derivatives.proofs.Passed.{both-low, both-worked}
+use Rattle.derivatives.proofs.Answers.{surface-returned}
 use Rattle.vector_derivatives.specs.Answer.{vector_surfaces}
-use mathlib.Core.Path.{◌∙◌, ap}
 use Rattle.vector_derivatives.proofs.VectorSurfaceDerivatives.combinatorial_derivatives_dot.Goals as goal
-
-pub returns-then-above_20 : goal.returns-then-above_20
-returns-then-above_20 c =
-    let s = c.args in
-    c.refused_surface.ensures ∙ two-above-20 vector_surfaces vector_surfaces refused_surface (λ x y n. returned_surface n (product_by (regular real) dot x y)) s.self s.other c.above_20.ensures c.if-above_20.true
-
-pub both_finite-requires : goal.both_finite-requires
-both_finite-requires c =
-    let s = c.args in
-    near s.self.order s.other.order c.above_20.ensures c.if-above_20.false c.smaller-k.ensures
-
-pub returns-then-not-both_finite : goal.returns-then-not-both_finite
-returns-then-not-both_finite c =
-    let s = c.args in
-    c.refused_surface-then-not-both_finite.ensures ∙ two-infinite vector_surfaces vector_surfaces refused_surface (λ x y n. returned_surface n (product_by (regular real) dot x y)) s.self s.other c.above_20.ensures c.if-above_20.false c.smaller-k.ensures c.both_finite.ensures (ap not c.if-not-both_finite.true)
 
 pub returns : goal.returns
 returns c =
     let s = c.args in
+    let r = product_by (regular real) dot (vector_surface_numbers s.self.entries) (vector_surface_numbers s.other.entries) in
+    let e = sym c.both.ensures ∙ c.in_ok-n.was in
     c.returned_surface.ensures
-    ∙ surface-returned c.smaller-k.result (near s.self.order s.other.order c.above_20.ensures c.if-above_20.false c.smaller-k.ensures) (product_by (regular real) dot (vector_surface_numbers s.self.entries) (vector_surface_numbers s.other.entries)) c.dots-r.ensures
-    ∙ two-worked vector_surfaces vector_surfaces refused_surface (λ x y n. returned_surface n (product_by (regular real) dot x y)) s.self s.other c.above_20.ensures c.if-above_20.false c.smaller-k.ensures c.both_finite.ensures (ap not c.if-not-both_finite.false)
+    ∙ surface-returned c.in_ok-n.n (both-low s.self.order s.other.order (finite_up_to vector_surfaces s.self) (finite_up_to vector_surfaces s.other) e) r c.dots.ensures
+    ∙ both-worked s.self.order s.other.order (finite_up_to vector_surfaces s.self) (finite_up_to vector_surfaces s.other) e (λ (n : ℕ). returned surfaces n r)

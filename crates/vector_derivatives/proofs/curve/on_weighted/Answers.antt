@@ -1,49 +1,23 @@
 -- `vector_derivatives::curve::on_weighted` meets its contract. Assumes nothing.
-use mathlib.Core.Bool.{not}
-use Rattle.booleans.proofs.Tests.{first, second}
-use Rattle.calculus.proofs.Tested.{near, two-above-20, two-infinite, two-worked}
-use Rattle.vector_derivatives.proofs.Answers.{vectors-returned}
-use Rattle.vector_formulas.specs.Formulas.{vectors_by}
+use Rattle.std.proofs.Common.{◌∙◌, sym}
 use Rattle.formulas.specs.Numbers.{curve_numbers}
-use Rattle.derivatives.specs.Answer.{curves}
+use Rattle.calculus.specs.JetKind.{finite_up_to}
 use Rattle.vector_formulas.specs.Vector.{vector_numbers}
+use Rattle.vector_formulas.specs.Formulas.{vectors_by}
+use Rattle.derivatives.specs.Answer.{curves}
+use Rattle.derivatives.proofs.Passed.{not-met, both-low, both-worked}
 use Rattle.vector_derivatives.specs.Answer.{vector_curves}
-use Rattle.vector_derivatives.specs.Names.{refused_vector_curve, returned_vector_curve}
 use Rattle.vector_derivatives.specs.Inner.{by_weighted_entries}
-use mathlib.Core.Path.{sym, ◌∙◌, ap}
+use Rattle.vector_derivatives.proofs.Answers.{vectors-returned}
 use Rattle.vector_derivatives.proofs.curve.on_weighted.Goals as goal
-
-pub returns-then-above_20 : goal.returns-then-above_20
-returns-then-above_20 c =
-    let s = c.args in
-    c.refused.ensures ∙ two-above-20 vector_curves curves refused_vector_curve (by_weighted_entries s.f) s.a s.b c.above_20.ensures c.if-above_20.true
-
-pub weighted_finite-requires : goal.weighted_finite-requires
-weighted_finite-requires c =
-    let s = c.args in
-    near s.a.order s.b.order c.above_20.ensures c.if-above_20.false c.smaller-k.ensures
-
-pub returns-then-not-weighted_finite : goal.returns-then-not-weighted_finite
-returns-then-not-weighted_finite c =
-    let s = c.args in
-    c.refused-then-not-weighted_finite.ensures ∙ two-infinite vector_curves curves refused_vector_curve (by_weighted_entries s.f) s.a s.b c.above_20.ensures c.if-above_20.false c.smaller-k.ensures c.weighted_finite.ensures (ap not c.if-not-weighted_finite.true)
-
-pub returns-then-division_by_zero : goal.returns-then-division_by_zero
-returns-then-division_by_zero c =
-    let s = c.args in
-    c.refused-then-division_by_zero.ensures
-    ∙ sym (first (refused_vector_curve 7) (returned_vector_curve c.smaller-k.result (vectors_by s.f (vector_numbers s.a.entries) (vector_numbers s.a.entries) (curve_numbers s.b.entries))) (sym c.division_by_zero.ensures ∙ c.if-division_by_zero.true))
-    ∙ two-worked vector_curves curves refused_vector_curve (by_weighted_entries s.f) s.a s.b c.above_20.ensures c.if-above_20.false c.smaller-k.ensures c.weighted_finite.ensures (ap not c.if-not-weighted_finite.false)
-
-pub returned-requires : goal.returned-requires
-returned-requires c =
-    let s = c.args in
-    near s.a.order s.b.order c.above_20.ensures c.if-above_20.false c.smaller-k.ensures
 
 pub returns : goal.returns
 returns c =
     let s = c.args in
+    let x = vector_numbers s.a.entries in
+    let w = curve_numbers s.b.entries in
+    let e = sym c.both.ensures ∙ c.in_ok-n.was in
     c.returned.ensures
-    ∙ vectors-returned c.smaller-k.result (near s.a.order s.b.order c.above_20.ensures c.if-above_20.false c.smaller-k.ensures) (vectors_by s.f (vector_numbers s.a.entries) (vector_numbers s.a.entries) (curve_numbers s.b.entries)) c.curve-r.ensures
-    ∙ sym (second (refused_vector_curve 7) (returned_vector_curve c.smaller-k.result (vectors_by s.f (vector_numbers s.a.entries) (vector_numbers s.a.entries) (curve_numbers s.b.entries))) (sym c.division_by_zero.ensures ∙ c.if-division_by_zero.false))
-    ∙ two-worked vector_curves curves refused_vector_curve (by_weighted_entries s.f) s.a s.b c.above_20.ensures c.if-above_20.false c.smaller-k.ensures c.weighted_finite.ensures (ap not c.if-not-weighted_finite.false)
+    ∙ vectors-returned c.in_ok-n.n (both-low s.a.order s.b.order (finite_up_to vector_curves s.a) (finite_up_to curves s.b) e) (vectors_by s.f x x w) c.curve.ensures
+    ∙ not-met _ _ c.division_by_zero.ensures c.if-division_by_zero.false
+    ∙ both-worked s.a.order s.b.order (finite_up_to vector_curves s.a) (finite_up_to curves s.b) e (by_weighted_entries s.f x w)

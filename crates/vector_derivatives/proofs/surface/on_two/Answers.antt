@@ -1,41 +1,22 @@
 -- `vector_derivatives::surface::on_two` meets its contract. Assumes nothing.
-use mathlib.Core.Bool.{not}
-use Rattle.calculus.proofs.Tested.{near, two-above-20, two-infinite, two-worked}
-use Rattle.vector_derivatives.proofs.SurfaceAnswers.{surface-returned}
-use Rattle.vector_surface_formulas.specs.Formulas.{vector_surface_by}
-use lib.ListN.{replicate}
+use Rattle.std.proofs.Common.{replicate, ◌∙◌, sym}
 use Rattle.ieee_vectors.specs.Vectors.{positive_zero}
 use Rattle.formulas.specs.Numbers.{surface_numbers}
+use Rattle.calculus.specs.JetKind.{finite_up_to}
 use Rattle.vector_formulas.specs.Vector.{vector_surface_numbers}
+use Rattle.vector_surface_formulas.specs.Formulas.{vector_surface_by}
+use Rattle.derivatives.proofs.Passed.{both-low, both-worked}
 use Rattle.vector_derivatives.specs.Answer.{vector_surfaces}
-use Rattle.vector_derivatives.specs.Names.{refused_vector_surface}
 use Rattle.vector_derivatives.specs.Inner.{by_vector_surface_entries}
-use mathlib.Core.Path.{◌∙◌, ap}
+use Rattle.vector_derivatives.proofs.Answers.{surface-returned}
 use Rattle.vector_derivatives.proofs.surface.on_two.Goals as goal
-
-pub returns-then-above_20 : goal.returns-then-above_20
-returns-then-above_20 c =
-    let s = c.args in
-    c.refused.ensures ∙ two-above-20 vector_surfaces vector_surfaces refused_vector_surface (by_vector_surface_entries s.f) s.a s.b c.above_20.ensures c.if-above_20.true
-
-pub both_finite-requires : goal.both_finite-requires
-both_finite-requires c =
-    let s = c.args in
-    near s.a.order s.b.order c.above_20.ensures c.if-above_20.false c.smaller-k.ensures
-
-pub returns-then-not-both_finite : goal.returns-then-not-both_finite
-returns-then-not-both_finite c =
-    let s = c.args in
-    c.refused-then-not-both_finite.ensures ∙ two-infinite vector_surfaces vector_surfaces refused_vector_surface (by_vector_surface_entries s.f) s.a s.b c.above_20.ensures c.if-above_20.false c.smaller-k.ensures c.both_finite.ensures (ap not c.if-not-both_finite.true)
-
-pub returned-requires : goal.returned-requires
-returned-requires c =
-    let s = c.args in
-    near s.a.order s.b.order c.above_20.ensures c.if-above_20.false c.smaller-k.ensures
 
 pub returns : goal.returns
 returns c =
     let s = c.args in
+    let x = vector_surface_numbers s.a.entries in
+    let y = vector_surface_numbers s.b.entries in
+    let e = sym c.both.ensures ∙ c.in_ok-n.was in
     c.returned.ensures
-    ∙ surface-returned c.smaller-k.result (near s.a.order s.b.order c.above_20.ensures c.if-above_20.false c.smaller-k.ensures) (vector_surface_by s.f (vector_surface_numbers s.a.entries) (vector_surface_numbers s.b.entries) (surface_numbers (replicate 231 positive_zero))) c.surface-r.ensures
-    ∙ two-worked vector_surfaces vector_surfaces refused_vector_surface (by_vector_surface_entries s.f) s.a s.b c.above_20.ensures c.if-above_20.false c.smaller-k.ensures c.both_finite.ensures (ap not c.if-not-both_finite.false)
+    ∙ surface-returned c.in_ok-n.n (both-low s.a.order s.b.order (finite_up_to vector_surfaces s.a) (finite_up_to vector_surfaces s.b) e) (vector_surface_by s.f x y (surface_numbers (replicate 231 positive_zero))) c.surface.ensures
+    ∙ both-worked s.a.order s.b.order (finite_up_to vector_surfaces s.a) (finite_up_to vector_surfaces s.b) e (by_vector_surface_entries s.f x y)

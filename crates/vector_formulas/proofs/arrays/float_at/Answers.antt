@@ -1,6 +1,5 @@
 -- `vector_formulas::arrays::float_at` meets its contract. Assumes nothing.
-use mathlib.Core.Path.{sym}
-use native.Mathlib.Omega.{arith}
+use Rattle.std.proofs.Common.{sym, arith}
 use lib.Ieee.{nan, of_bits, div}
 use lib.ListN.{get_or-eq_default}
 use Rattle.vector_formulas.proofs.arrays.float_at.Goals as goal

@@ -1,5 +1,5 @@
 -- `vector_formulas::arrays::vector_at_end` meets its contract. Assumes nothing.
-use native.Mathlib.Omega.{arith}
+use Rattle.std.proofs.Common.{arith}
 use lib.Ieee.{of_bits, div}
 use Rattle.vector_formulas.proofs.Vectors.{past-at, end-at}
 use Rattle.vector_formulas.proofs.arrays.vector_at_end.Goals as goal

@@ -1,54 +1,29 @@
-use Rattle.formulas.proofs.Surfaces.{surface-begins, surface-goes-on, surface-turns, surface-ends}
-use Rattle.calculus.specs.Surface.{product_by}
-use Rattle.calculus.proofs.Graded.{index-231}
-use Rattle.vector_formulas.specs.Vector.{vector_surface_numbers}
-use Rattle.formulas.specs.Real.{real}
+use Rattle.std.proofs.Common.{sym, arith}
 use Rattle.ieee_vectors.specs.Vectors.{dot}
 use Rattle.calculus.specs.Kind.{regular}
-use mathlib.Core.Path.{sym}
-use native.Mathlib.Omega.{arith}
+use Rattle.calculus.specs.Surface.{product_by}
+use Rattle.formulas.specs.Real.{real}
+use Rattle.formulas.proofs.Surfaces.{at_place, in_array, surface_none, surface_more, surface_row, surface_all}
+use Rattle.vector_formulas.specs.Vector.{vector_surface_numbers}
 use Rattle.vector_surface_formulas.proofs.entries.dots.Goals as goal
 
 pub loop-i-init : goal.loop-i-init
-loop-i-init c =
-    let s = c.args in
-    (c.requires, surface-begins (product_by (regular real) dot (vector_surface_numbers s.a.now) (vector_surface_numbers s.b.now)) c.requires)
+loop-i-init c = (c.requires, surface_none (product_by (regular real) dot (vector_surface_numbers c.args.a.now) (vector_surface_numbers c.args.b.now)) c.requires)
 
-pub dot_entry-e-requires : goal.dot_entry-e-requires
-dot_entry-e-requires c = (omega (arith, c.loop-i.invariant.1.inside.1 c.loop-i-test.true), c.binomials-c.ensures)
+pub offset_bounds-r-index : goal.offset_bounds-r-index
+offset_bounds-r-index c = omega (arith, in_array c.loop-i.i c.loop-j.j (omega arith) c.index.ensures)
 
-pub index-k-requires : goal.index-k-requires
-index-k-requires c = omega (arith, c.loop-i.invariant.1.inside.1 c.loop-i-test.true)
+pub bounds-r-index : goal.bounds-r-index
+bounds-r-index c = in_array c.loop-i.i c.loop-j.j (omega arith) c.index.ensures
 
-pub offset_bounds-r-k : goal.offset_bounds-r-k
-offset_bounds-r-k c = omega (arith, c.index-k.ensures, index-231 c.loop-i.i c.loop-i.j (omega (arith, c.loop-i.invariant.1.inside.1 c.loop-i-test.true)))
-
-pub bounds-r-k : goal.bounds-r-k
-bounds-r-k c = omega (arith, c.index-k.ensures, index-231 c.loop-i.i c.loop-i.j (omega (arith, c.loop-i.invariant.1.inside.1 c.loop-i-test.true)))
-
-pub overflow_add-j : goal.overflow_add-j
-overflow_add-j c = omega (arith, c.loop-i.invariant.1.inside.1 c.loop-i-test.true)
-
-pub overflow_add-i : goal.overflow_add-i
-overflow_add-i c = omega (arith, c.loop-i.invariant.1.inside.1 c.loop-i-test.true)
-
-pub loop-i-smaller-then-n-i : goal.loop-i-smaller-then-n-i
-loop-i-smaller-then-n-i c = omega (arith, c.loop-i.invariant.1.inside.1 c.loop-i-test.true)
-
-pub loop-i-preserved-then-n-i : goal.loop-i-preserved-then-n-i
-loop-i-preserved-then-n-i c =
-    let s = c.args in
-    (c.loop-i.invariant.0, rw c.index-k.ensures (surface-turns (product_by (regular real) dot (vector_surface_numbers s.a.now) (vector_surface_numbers s.b.now)) c.loop-i.invariant.0 c.loop-i.invariant.1 c.loop-i-test.true (sym c.dot_entry-e.ensures) c.if-n-i.true))
-
-pub loop-i-smaller : goal.loop-i-smaller
-loop-i-smaller c = omega (arith, c.loop-i.invariant.1.inside.1 c.loop-i-test.true)
+pub loop-j-preserved : goal.loop-j-preserved
+loop-j-preserved c =
+    let l = c.loop-j.invariant in
+    (l.0, surface_more (product_by (regular real) dot (vector_surface_numbers c.args.a.now) (vector_surface_numbers c.args.b.now)) l.0 l.1 (omega arith) (sym c.dot_entry.ensures) (at_place c.loop-i.i c.loop-j.j (omega arith) c.index.ensures))
 
 pub loop-i-preserved : goal.loop-i-preserved
 loop-i-preserved c =
-    let s = c.args in
-    (c.loop-i.invariant.0, rw c.index-k.ensures (surface-goes-on (product_by (regular real) dot (vector_surface_numbers s.a.now) (vector_surface_numbers s.b.now)) c.loop-i.invariant.0 c.loop-i.invariant.1 c.loop-i-test.true (sym c.dot_entry-e.ensures) c.if-n-i.false))
+    (c.loop-j.invariant.0, surface_row (product_by (regular real) dot (vector_surface_numbers c.args.a.now) (vector_surface_numbers c.args.b.now)) c.loop-j.invariant.0 c.loop-j.invariant.1 (omega arith))
 
 pub returns : goal.returns
-returns c =
-    let s = c.args in
-    surface-ends (product_by (regular real) dot (vector_surface_numbers s.a.now) (vector_surface_numbers s.b.now)) c.loop-i.invariant.0 c.loop-i.invariant.1 c.loop-i-test.false
+returns c = surface_all (product_by (regular real) dot (vector_surface_numbers c.args.a.now) (vector_surface_numbers c.args.b.now)) c.loop-i.invariant.0 c.loop-i.invariant.1 (omega arith)

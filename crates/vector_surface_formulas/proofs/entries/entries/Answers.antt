@@ -1,58 +1,27 @@
-use Rattle.vector_formulas.proofs.VectorSurfaces.{surface-begins, surface-long, surface-goes-on, surface-turns, surface-ends}
-use Rattle.vector_surface_formulas.proofs.SurfaceEntries.{surface_of, surface-formed}
-use Rattle.calculus.proofs.Graded.{index-231}
-use Rattle.vector_formulas.specs.Vector.{vector_surface_numbers}
+use Rattle.std.proofs.Common.{sym, ◌∙◌, arith}
 use Rattle.formulas.specs.Numbers.{surface_numbers}
-use mathlib.Core.Path.{sym, ◌∙◌}
-use native.Mathlib.Omega.{arith}
+use Rattle.formulas.proofs.Surfaces.{at_place, in_array}
+use Rattle.vector_formulas.specs.Vector.{vector_surface_numbers}
+use Rattle.vector_formulas.proofs.Vectors.{stored-put}
+use Rattle.vector_formulas.proofs.VectorSurfaces.{surface_none, surface_long, surface_more, surface_row, surface_all}
+use Rattle.vector_surface_formulas.proofs.SurfaceEntries.{surface_of, surface-formed}
 use Rattle.vector_surface_formulas.proofs.entries.entries.Goals as goal
 
 pub loop-i-init : goal.loop-i-init
-loop-i-init c =
-    let s = c.args in
-    (c.requires, surface-begins (surface_of s.f (vector_surface_numbers s.a.now) (vector_surface_numbers s.b.now) (surface_numbers s.w.now)) c.requires)
+loop-i-init c = (c.requires, surface_none (surface_of c.args.f (vector_surface_numbers c.args.a.now) (vector_surface_numbers c.args.b.now) (surface_numbers c.args.w.now)) c.requires)
 
-pub entry-e-requires : goal.entry-e-requires
-entry-e-requires c = (omega (arith, c.loop-i.invariant.1.inside.1 c.loop-i-test.true), c.binomials-c.ensures)
-
-pub index-k-requires : goal.index-k-requires
-index-k-requires c = omega (arith, c.loop-i.invariant.1.inside.1 c.loop-i-test.true)
-
-pub slice_bounds-store-end : goal.slice_bounds-store-end
-slice_bounds-store-end c =
-    let p = c.loop-i in let s = c.args in
-    surface-long (surface_of s.f (vector_surface_numbers s.a.now) (vector_surface_numbers s.b.now) (surface_numbers s.w.now)) p.invariant.0 p.invariant.1
-
-pub store-requires : goal.store-requires
-store-requires c =
-    let p = c.loop-i in let s = c.args in
-    omega (arith, surface-long (surface_of s.f (vector_surface_numbers s.a.now) (vector_surface_numbers s.b.now) (surface_numbers s.w.now)) p.invariant.0 p.invariant.1, c.index-k.ensures, index-231 p.i p.j (omega (arith, c.loop-i.invariant.1.inside.1 c.loop-i-test.true)))
-
-pub overflow_add-j : goal.overflow_add-j
-overflow_add-j c = omega (arith, c.loop-i.invariant.1.inside.1 c.loop-i-test.true)
-
-pub overflow_add-i : goal.overflow_add-i
-overflow_add-i c = omega (arith, c.loop-i.invariant.1.inside.1 c.loop-i-test.true)
-
-pub loop-i-smaller-then-n-i : goal.loop-i-smaller-then-n-i
-loop-i-smaller-then-n-i c = omega (arith, c.loop-i.invariant.1.inside.1 c.loop-i-test.true)
-
-pub loop-i-preserved-then-n-i : goal.loop-i-preserved-then-n-i
-loop-i-preserved-then-n-i c =
-    let p = c.loop-i in let s = c.args in
-    let t = c.loop-i-test.true in
-    (p.invariant.0, surface-turns (surface_of s.f (vector_surface_numbers s.a.now) (vector_surface_numbers s.b.now) (surface_numbers s.w.now)) p.invariant.0 p.invariant.1 t (surface-formed s.f (vector_surface_numbers s.a.now) (vector_surface_numbers s.b.now) (surface_numbers s.w.now) p.invariant.0 p.invariant.1.stored (p.invariant.1.inside.1 t) ∙ sym c.entry-e.ensures) c.index-k.ensures c.store.ensures c.if-n-i.true)
-
-pub loop-i-smaller : goal.loop-i-smaller
-loop-i-smaller c = omega (arith, c.loop-i.invariant.1.inside.1 c.loop-i-test.true)
+pub loop-j-preserved : goal.loop-j-preserved
+loop-j-preserved c =
+    let l = c.loop-j.invariant in
+    let k = at_place c.loop-i.i c.loop-j.j (omega arith) c.index.ensures in
+    let long = surface_long (surface_of c.args.f (vector_surface_numbers c.args.a.now) (vector_surface_numbers c.args.b.now) (surface_numbers c.args.w.now)) l.0 l.1 in
+    let inside = in_array c.loop-i.i c.loop-j.j (omega arith) c.index.ensures in
+    let kept = c.store.ensures ∙ stored-put c.loop-j.r c.index.result c.entry-e.result (omega arith) in
+    (l.0, surface_more (surface_of c.args.f (vector_surface_numbers c.args.a.now) (vector_surface_numbers c.args.b.now) (surface_numbers c.args.w.now)) l.0 l.1 (omega arith) (surface-formed c.args.f (vector_surface_numbers c.args.a.now) (vector_surface_numbers c.args.b.now) (surface_numbers c.args.w.now) l.0 l.1 (omega arith) ∙ sym c.entry-e.ensures) k kept)
 
 pub loop-i-preserved : goal.loop-i-preserved
 loop-i-preserved c =
-    let p = c.loop-i in let s = c.args in
-    let t = c.loop-i-test.true in
-    (p.invariant.0, surface-goes-on (surface_of s.f (vector_surface_numbers s.a.now) (vector_surface_numbers s.b.now) (surface_numbers s.w.now)) p.invariant.0 p.invariant.1 t (surface-formed s.f (vector_surface_numbers s.a.now) (vector_surface_numbers s.b.now) (surface_numbers s.w.now) p.invariant.0 p.invariant.1.stored (p.invariant.1.inside.1 t) ∙ sym c.entry-e.ensures) c.index-k.ensures c.store.ensures c.if-n-i.false)
+    (c.loop-j.invariant.0, surface_row (surface_of c.args.f (vector_surface_numbers c.args.a.now) (vector_surface_numbers c.args.b.now) (surface_numbers c.args.w.now)) c.loop-j.invariant.0 c.loop-j.invariant.1 (omega arith))
 
 pub returns : goal.returns
-returns c =
-    let p = c.loop-i in let s = c.args in
-    surface-ends (surface_of s.f (vector_surface_numbers s.a.now) (vector_surface_numbers s.b.now) (surface_numbers s.w.now)) p.invariant.0 p.invariant.1 c.loop-i-test.false
+returns c = surface_all (surface_of c.args.f (vector_surface_numbers c.args.a.now) (vector_surface_numbers c.args.b.now) (surface_numbers c.args.w.now)) c.loop-i.invariant.0 c.loop-i.invariant.1 (omega arith)

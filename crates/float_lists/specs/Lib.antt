@@ -1,4 +1,0 @@
-pub mod Delivery
-pub mod Lists
-pub mod Values
-pub mod Operations

@@ -1,7 +1,0 @@
--- `Matrix3::is_finite` meets its contract: each column is tested. Assumes nothing.
-use mathlib.Core.Path.{◌∙◌}
-use Rattle.booleans.proofs.Tests.{both}
-use Rattle.ieee_vectors.proofs.Matrix3.is_finite.Goals as goal
-
-pub returns : goal.returns
-returns c = c.both.ensures ∙ both (c.both-ab.ensures ∙ both c.is_finite.ensures c.is_finite-2.ensures) c.is_finite-3.ensures

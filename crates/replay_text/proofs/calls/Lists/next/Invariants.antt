@@ -1,0 +1,6 @@
+-- `Lists::next` is safe: the lists that are read end within the places. Assumes nothing.
+use Rattle.std.proofs.Common.{◌≤◌, length}
+use Rattle.replay_text.proofs.calls.Lists.next.Given as goal
+
+abbrev pub invariant-loop-i : goal.invariant-loop-i
+invariant-loop-i g l = l.at ≤ length l.places

@@ -1,5 +1,0 @@
--- `above_20_jets` meets its contract: each order is tested. Assumes nothing.
-use Rattle.rolling_ball_fillet.proofs.given.above_20_jets.Goals as goal
-
-pub returns : goal.returns
-returns c = cc

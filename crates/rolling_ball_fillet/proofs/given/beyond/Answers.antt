@@ -1,5 +1,0 @@
--- `beyond` meets its contract: each order is tested. Assumes nothing.
-use Rattle.rolling_ball_fillet.proofs.given.beyond.Goals as goal
-
-pub returns : goal.returns
-returns c = cc

@@ -1,5 +1,0 @@
--- `beyond_info` meets its contract. Assumes nothing.
-use Rattle.rolling_ball_fillet.proofs.info.beyond_info.Goals as goal
-
-pub returns : goal.returns
-returns c = cc

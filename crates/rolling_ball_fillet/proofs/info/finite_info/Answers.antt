@@ -1,5 +1,0 @@
--- `finite_info` meets its contract. Assumes nothing.
-use Rattle.rolling_ball_fillet.proofs.info.finite_info.Goals as goal
-
-pub returns : goal.returns
-returns c = cc

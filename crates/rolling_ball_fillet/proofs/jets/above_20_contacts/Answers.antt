@@ -1,5 +1,0 @@
--- `above_20_contacts` meets its contract. Assumes nothing.
-use Rattle.rolling_ball_fillet.proofs.jets.above_20_contacts.Goals as goal
-
-pub returns : goal.returns
-returns c = cc

@@ -1,6 +1,0 @@
--- `vector_formulas::norm` meets its contract. Assumes nothing.
-use mathlib.Core.Path.{◌∙◌}
-use Rattle.vector_formulas.proofs.norm.Goals as goal
-
-pub returns : goal.returns
-returns c = c.numbers.ensures ∙ rw c.smaller.ensures
