@@ -53,6 +53,23 @@ def twins():
     return [" = ".join(g) for g in groups.values() if len(g) > 1]
 
 
+def only_indexed():
+    """`for`s over a range whose index does nothing but index"""
+    found = []
+    for p in FILES:
+        lines = p.read_text().splitlines()
+        for k, line in enumerate(lines):
+            m = re.match(r"( *)for (\w+) in .*\.\..* \{$", line)
+            if not m:
+                continue
+            end = next(j for j in range(k + 1, len(lines)) if lines[j] == m.group(1) + "}")
+            body = "\n".join(lines[k + 1 : end])
+            rest = re.sub(rf"\[(?:\d+ \* )?{m.group(2)}(?: [+-] \w+)?\]", "", body)
+            if m.group(2) != "_" and rest != body and not re.search(rf"\b{m.group(2)}\b", rest):
+                found.append(f"{name(p)}:{k + 1}: {line.strip()}")
+    return found
+
+
 def said_often():
     """facts of `requires` that stand in three or more functions of a crate, up to the names of their variables; not the bounds of an order or index"""
     facts = defaultdict(set)
@@ -72,7 +89,8 @@ POINTS = [
     ("1 flags beside a value, own Option", lines_like(r"^\s*(pub )?(ended|more): bool|^\s*(pub )?enum (Settled|Count)\b")),
     ("2 twins: functions alike but for types and sizes, in groups", twins()),
     ("3 loops that count by hand", lines_like(r"^\s*(while|loop)\b", r"while let")),
-    ("4 operators and conversions by hand", lines_like(r"\b(both|either)\(|fn (flag|operation_of|given_flag|at_most_21|smaller)\b")),
+    ("3 fors over a range whose index only indexes", only_indexed()),
+    ("4 operators and conversions by hand", lines_like(r"\b(both|either)\(|fn (flag|operation_of|given_flag|at_most_21|smaller)\b", r"\bjets::both\(|fn both<")),
     ("5 a table handed on with its fact", lines_like(r"\w: &\[u32; 231\]")),
     ("5 other facts in three or more contracts", said_often()),
     ("6 a buffer with a place beside it", lines_like(r"(out|at): (&mut \[u8.*, at: )?usize", r"^\s*(asked|order)")),

@@ -41,6 +41,13 @@ NUMBERLESS = {
     "parts_text::feed": "a state; the report of the last one says what is refused",
     "parts_text::report": "a text, which says what is refused",
     "parts_text::print": "a text, which says what is refused",
+    "parts_text::Text::as_bytes": "a text's bytes",
+    "roads::Jet::order": "a jet's order, as it stands",
+    "roads::Jet::cut": "the same jet at another order",
+    "derivatives::jets::Jet::order": "a jet's order, as it stands",
+    "derivatives::jets::Jet::count": "a count, for `orders::fits`",
+    "derivatives::jets::Jet::read": "what a kind of jet says for itself; `jets::of_list` tests before it",
+    "derivatives::jets::Jet::write": "the same, for `jets::into_list`",
 }
 
 
@@ -53,7 +60,7 @@ def imported(text):
     """The names that a file's contracts take from definitions, each with the definitions' file and its name there."""
     names = {}
     for crate, module, items in re.findall(r"ghost use Rattle\.(\w+)\.specs\.([\w.]+)\.\{([^}]*)\};", text):
-        if crate in OF_THE_KIT:
+        if crate in OF_THE_KIT or module.startswith("declared."):
             continue
         for item in items.split(","):
             own, _, alias = item.strip().partition(" as ")
@@ -66,18 +73,18 @@ def imported(text):
 
 
 def functions(text):
-    """Each `pub fn` with its type, if it is a method, and the text of its head up to the body."""
-    found, owner = [], None
+    """Each `pub fn`, and each that a `pub trait` asks for, with its type or trait, and the text of its head up to the body."""
+    found, owner, asked = [], None, False
     lines = text.split("\n")
     for k, line in enumerate(lines):
-        if m := re.match(r"impl(?:<[^>]*>)? (\w+)(?:<[^>]*>)? \{", line):
-            owner = m.group(1)
+        if m := re.match(r"(impl|pub trait)(?:<[^>]*>)? (\w+)(?:<[^>]*>)?(?:: [^{]*)? \{", line):
+            owner, asked = m.group(2), m.group(1) != "impl"
         elif line == "}":
             owner = None
-        elif m := re.match(r'( *)pub (?:extern "C" )?fn (\w+)', line):
+        elif m := re.match(r'( *)pub (?:extern "C" )?fn (\w+)', line) or (owner and asked and re.match(r"( +)fn (\w+)", line)):
             indent, head = m.group(1), []
             for after in lines[k:]:
-                if after == indent + "{":
+                if after == indent + "{" or not after:
                     break
                 head.append(after)
             found.append((owner if indent else None, m.group(2), "\n".join(head)))
@@ -105,14 +112,15 @@ def public(crate):
     passed_on |= {f"{module}::{name.strip()}" for module, names in re.findall(r"^pub use (\w+)::\{([^}]*)\};", root, re.M) for name in names.split(",")}
     open_types = set()
     for module in ["lib", *sorted(open_modules)]:
-        open_types |= set(re.findall(r"^pub (?:struct|enum) (\w+)", (source / f"{module}.rt").read_text(), re.M))
+        open_types |= set(re.findall(r"^pub (?:struct|enum|trait) (\w+)", (source / f"{module}.rt").read_text(), re.M))
     for file in sorted(source.rglob("*.rt")):
         module = file.relative_to(source).with_suffix("").as_posix()
         text = file.read_text()
         names = imported(text)
         for owner, name, head in functions(text):
             exported = 'extern "C"' in head
-            if not (owner in open_types or exported or module == "lib" or module in open_modules or f"{module}::{name}" in passed_on):
+            passed = passed_on & {f"{module}::{name}", f"{module}::{owner}"}
+            if not (owner in open_types or exported or module == "lib" or module in open_modules or passed):
                 continue
             ensures = "".join(clauses(head, "ensures"))
             cited = []

@@ -1,8 +1,6 @@
 -- The formulas on jets keep a relation that the operations of two kinds keep: results are related as far as the jets are. Assumes nothing.
-use mathlib.Core.Path.{sym, subst₂}
-use Prim.Native.Nat.{ℕ, suc, ◌+◌, ◌-◌, ◌*◌, ◌<◌, ◌≤◌}
+use Rattle.std.proofs.Common.{sym, subst₂, ℕ, suc, ◌+◌, ◌-◌, ◌*◌, ◌<◌, ◌≤◌, arith}
 use native.Mathlib.Nat.{sub-zero}
-use native.Mathlib.Omega.{arith}
 use Rattle.calculus.specs.Kind.{Kind, Module, regular}
 use Rattle.calculus.specs.Rising.{before, before_entry}
 use Rattle.calculus.specs.Choose.{choose}

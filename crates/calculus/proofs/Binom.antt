@@ -1,10 +1,7 @@
 -- `leib X m`, the sum of (m choose i) X i (m − i), by Leibniz's recursion; and that it is that sum, by Pascal's rule.
 -- Assumes nothing.
-use mathlib.Core.Path.{◌≡◌, refl, sym, ◌∙◌, ap, ap₂}
-use Prim.Native.Nat.{ℕ, zero, suc, ◌+◌, ◌-◌, ◌<◌}
+use Rattle.std.proofs.Common.{◌≡◌, refl, sym, ◌∙◌, ap, ap₂, ℕ, zero, suc, ◌+◌, ◌-◌, ◌<◌, arith, ℤ, pos}
 use native.Mathlib.Nat.{suc-sub-suc}
-use native.Mathlib.Omega.{arith}
-use lib.IntN.{ℤ, pos}
 use Rattle.calculus.proofs.Ints.{◌⊕◌, ◌⊗◌, sum}
 use Rattle.calculus.specs.Choose.{choose as binom}
 use Rattle.calculus.proofs.Ring.{sums, zeros, mul-add, mul-one, add_comm, add_left_comm, pos-add}

@@ -1,12 +1,7 @@
 -- Carrying is linear and follows the chain rule: its derivative is the sum of each coordinate's times the partial derivative carried.
 -- Assumes nothing.
-use mathlib.Core.Path.{◌≡◌, refl, sym, ◌∙◌, ap, ap₂, fun_ext}
-use mathlib.Core.Bool.{cond}
-use mathlib.Core.List.{List, [], ◌∷◌}
-use Prim.Native.Nat.{ℕ, zero, suc}
-use native.Mathlib.Omega.{arith}
-use lib.Dec.{eqb}
-use lib.IntN.{ℤ, pos}
+use Rattle.std.proofs.Common.{◌≡◌, refl, sym, ◌∙◌, ap, ap₂, cond, List, [], ◌∷◌, ℕ, zero, suc, arith, eqb, ℤ, pos, ne_eqb}
+use mathlib.Core.Path.{fun_ext}
 use Rattle.calculus.proofs.Ints.{◌⊕◌, ◌⊗◌, sum}
 use Rattle.calculus.proofs.Jets.{Curve}
 use Rattle.partitions.specs.Parts.{total, fact, multiplicity}
@@ -15,7 +10,6 @@ use Rattle.calculus.proofs.Ring.{zero-add, mul-zero, mul-one, mul_assoc}
 use Rattle.calculus.proofs.Sums.{sum-cong, sum-front, sum-linear, through-sum, times-right, Linear}
 use Rattle.calculus.proofs.Binom.{leib, leib-linear, leib-cong}
 use Rattle.calculus.proofs.Curves.{◌·◌, D}
-use borrow.Author.Tests.{ne_eqb}
 use Rattle.partitions.proofs.Tests.{by_eqb}
 use Rattle.calculus.proofs.Desc.{desc, of-total, desc-linear, desc-cong, over-parts}
 use Rattle.partitions.proofs.Out.{weight}

@@ -1,13 +1,6 @@
 -- Carrying keeps a relation that the operations of two kinds of scalar and of entry keep: as far as the field and the curve are related.
 -- Assumes nothing.
-use mathlib.Core.Path.{◌≡◌, refl}
-use mathlib.Core.Bool.{Bool, true, false, cond}
-use mathlib.Core.List.{List, [], ◌∷◌}
-use Prim.Native.Nat.{ℕ, zero, suc, ◌-◌, ◌/◌, ◌%◌, ◌^◌, ◌≤◌}
-use native.Mathlib.Nat.{le_refl}
-use native.Mathlib.Omega.{arith}
-use lib.Dec.{eqb}
-use lib.ListN.{length}
+use Rattle.std.proofs.Common.{◌≡◌, refl, Bool, true, false, cond, List, [], ◌∷◌, ℕ, zero, suc, ◌-◌, ◌/◌, ◌%◌, ◌^◌, ◌≤◌, le_refl, arith, eqb, length}
 use Rattle.partitions.specs.Parts.{multiplicity}
 use Rattle.calculus.specs.Kind.{Module}
 use Rattle.calculus.specs.Carry.{digits, factors, tensor, summand, through_len, field_derivative, field_derivatives, ones, surface_entry, coordinates, composite_derivative, composite_derivatives}

@@ -1,8 +1,7 @@
 -- The products of jets of one, two and three variables, written out as sums with binomials, are those of Leibniz's recursion.
 -- Assumes nothing.
-use mathlib.Core.Path.{◌≡◌, refl, sym, ◌∙◌, ap, ap₂, fun_ext}
-use Prim.Native.Nat.{ℕ, zero, suc, ◌-◌}
-use lib.IntN.{ℤ, pos}
+use Rattle.std.proofs.Common.{◌≡◌, refl, sym, ◌∙◌, ap, ap₂, ℕ, zero, suc, ◌-◌, ℤ, pos}
+use mathlib.Core.Path.{fun_ext}
 use Rattle.calculus.proofs.Ints.{◌⊕◌, ◌⊗◌, sum}
 use Rattle.calculus.specs.Choose.{choose as binom}
 use Rattle.calculus.proofs.Jets.{Curve, Surface, Solid, curve_mul, surface_mul, solid_mul}

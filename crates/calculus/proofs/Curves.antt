@@ -1,8 +1,7 @@
 -- The curve product is a commutative, associative, bilinear product, of which the shift is a derivation.
 -- Assumes nothing.
-use mathlib.Core.Path.{◌≡◌, refl, sym, ◌∙◌, ap, ap₂, fun_ext}
-use Prim.Native.Nat.{ℕ, zero, suc, ◌≤◌}
-use native.Mathlib.Omega.{arith}
+use Rattle.std.proofs.Common.{◌≡◌, refl, sym, ◌∙◌, ap, ap₂, ℕ, zero, suc, ◌≤◌, arith}
+use mathlib.Core.Path.{fun_ext}
 use Rattle.calculus.proofs.Ints.{◌⊕◌, ◌⊗◌, sum}
 use Rattle.calculus.proofs.Jets.{Curve, curve_mul}
 use Rattle.calculus.proofs.Ring.{add-mul, mul-add, mul_comm, mul_assoc, add_assoc}

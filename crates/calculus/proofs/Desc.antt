@@ -1,19 +1,12 @@
 -- Sums over the nonincreasing lists of k parts from 1 to m; taking one part out of a list; and the two together.
 -- Assumes nothing.
-use mathlib.Core.Path.{◌≡◌, refl, sym, ◌∙◌, ap, ap₂, fun_ext}
-use mathlib.Core.Bool.{cond}
-use mathlib.Core.List.{List, [], ◌∷◌, ◌++◌, map}
-use Prim.Native.Nat.{ℕ, zero, suc, ◌+◌, ◌-◌, ◌≤◌, ◌<◌}
-use native.Mathlib.Omega.{arith}
-use lib.Dec.{leb, eqb}
-use lib.ListN.{length}
-use lib.IntN.{ℤ, pos}
+use Rattle.std.proofs.Common.{◌≡◌, refl, sym, ◌∙◌, ap, ap₂, cond, List, [], ◌∷◌, ◌++◌, map, ℕ, zero, suc, ◌+◌, ◌-◌, ◌≤◌, ◌<◌, arith, leb, eqb, length, ℤ, pos, eq-eqb, ne_eqb}
+use mathlib.Core.Path.{fun_ext}
 use Rattle.calculus.proofs.Ints.{◌⊕◌, ◌⊗◌, over}
 use Rattle.partitions.specs.Parts.{total, parts}
 use Rattle.partitions.proofs.Down.{Down, none, one, wider, long}
 use Rattle.calculus.proofs.Ring.{middle, zeros, mul-add, zero-add, add-zero, add_assoc}
 use Rattle.calculus.proofs.Sums.{Linear, at_zero}
-use borrow.Author.Tests.{eq-eqb, ne_eqb}
 use Rattle.partitions.proofs.Tests.{by-leb, by_eqb, eqb-iff}
 
 -- the sum of f over the nonincreasing lists of k parts from 1 to m

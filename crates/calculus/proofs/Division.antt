@@ -1,9 +1,6 @@
 -- Division of integers where it is exact. Assumes nothing.
-use mathlib.Core.Path.{◌≡◌, refl, sym, ◌∙◌, ap}
-use Prim.Native.Nat.{ℕ, zero, suc, ◌*◌, ◌/◌, ◌%◌}
-use native.Mathlib.Omega.{arith}
-use native.Mathlib.Nat.{mul-div_cancel, zero-div, mul-mod_left, div-add-mod', zero-mul}
-use lib.IntN.{ℤ, pos, negsuc, neg_ℤ, nat_abs}
+use Rattle.std.proofs.Common.{◌≡◌, refl, sym, ◌∙◌, ap, ℕ, zero, suc, ◌*◌, ◌/◌, ◌%◌, arith, mul-div_cancel, div-add-mod', zero-mul, ℤ, pos, negsuc, neg_ℤ, nat_abs}
+use native.Mathlib.Nat.{zero-div, mul-mod_left}
 use lib.Signed.{quot_z, rem_z}
 use Rattle.calculus.proofs.Ints.{◌⊗◌}
 

@@ -1,10 +1,6 @@
 -- Jets with the same entries up to order n have the same derivatives by any n variables. Assumes nothing.
-use mathlib.Core.Path.{◌≡◌, refl, subst}
-use mathlib.Core.List.{List, [], ◌∷◌}
-use Prim.Native.Nat.{ℕ, zero, suc, ◌-◌, ◌≤◌}
-use native.Mathlib.Omega.{arith}
+use Rattle.std.proofs.Common.{◌≡◌, refl, subst, List, [], ◌∷◌, ℕ, zero, suc, ◌-◌, ◌≤◌, arith, length}
 use native.Mathlib.Nat.{suc-sub-suc}
-use lib.ListN.{length}
 use Rattle.calculus.proofs.Jet.{Jet, derive, value, jets, Same}
 use Rattle.calculus.proofs.Plain.{along, entry_of}
 

@@ -1,19 +1,12 @@
 -- Faà di Bruno's sum over the lists of parts, and its recursion: taking out one part of each list.
 -- Assumes nothing.
-use mathlib.Core.Path.{◌≡◌, sym, ◌∙◌, ap, ap₂}
-use mathlib.Core.Bool.{cond}
-use mathlib.Core.List.{List, [], ◌∷◌}
-use Prim.Native.Nat.{ℕ, zero, suc, ◌-◌, ◌≤◌, ◌<◌}
-use native.Mathlib.Omega.{arith}
-use native.Mathlib.Nat.{le_antisymm}
-use lib.IntN.{ℤ, pos}
+use Rattle.std.proofs.Common.{◌≡◌, sym, ◌∙◌, ap, ap₂, cond, List, [], ◌∷◌, ℕ, zero, suc, ◌-◌, ◌≤◌, ◌<◌, arith, le_antisymm, ℤ, pos, eq-eqb, ne_eqb}
 use Rattle.calculus.proofs.Ints.{◌⊕◌, ◌⊗◌, sum}
 use Rattle.calculus.specs.Choose.{choose as binom}
 use Rattle.partitions.specs.Parts.{total}
 use Rattle.calculus.proofs.Ring.{zero-add, add-zero, zero-mul, mul_assoc}
 use Rattle.calculus.proofs.Sums.{sum-cong, sum-front, sum-linear, times-right, through-sum, at_zero}
 use Rattle.calculus.proofs.Binom.{leib, leib-is}
-use borrow.Author.Tests.{eq-eqb, ne_eqb}
 use Rattle.partitions.proofs.Tests.{by_eqb, by-leb}
 use Rattle.calculus.proofs.Desc.{desc, without, of-total, reindex, desc-linear, without-linear, desc-cong, narrow, too_long}
 use Rattle.partitions.proofs.Out.{Out, Pos, down_pos, out-total}

@@ -1,8 +1,7 @@
 -- The jets of d variables have sums, negatives and products by Leibniz's rule, for every d.
 -- Assumes nothing.
-use mathlib.Core.Path.{◌≡◌, refl, sym, ◌∙◌, ap, ap₂, fun_ext}
-use Prim.Native.Nat.{ℕ, zero, suc}
-use lib.IntN.{pos}
+use Rattle.std.proofs.Common.{◌≡◌, refl, sym, ◌∙◌, ap, ap₂, ℕ, zero, suc, pos}
+use mathlib.Core.Path.{fun_ext}
 use Rattle.calculus.proofs.Ints.{◌⊕◌, ◌⊗◌, neg}
 use Rattle.calculus.proofs.Jet.{Jet, derive, value, jets}
 use Rattle.calculus.proofs.Ring.{middle, zeros, neg-zero, zero-add, add_comm, mul_comm}

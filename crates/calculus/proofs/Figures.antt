@@ -1,9 +1,5 @@
 -- Small figures that the definitions alone give, at the integers. Document 01's own are in the crate `figures`. Assumes nothing.
-use mathlib.Core.Path.{◌≡◌, refl}
-use mathlib.Core.List.{List, [], ◌∷◌}
-use Prim.Native.Nat.{ℕ}
-use lib.IntN.{ℤ, pos}
-use lib.ListN.{get_or}
+use Rattle.std.proofs.Common.{◌≡◌, refl, List, [], ◌∷◌, ℕ, ℤ, pos, get_or}
 use Rattle.calculus.specs.Kind.{plain}
 use Rattle.calculus.specs.InTurn.{in_turn, in_rows}
 use Rattle.calculus.specs.Rising.{before}

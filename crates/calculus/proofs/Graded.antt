@@ -1,9 +1,6 @@
 -- The graded index of a surface's entries: which are below (N + 1)(N + 2)/2, no two share a place, and a total order's run is consecutive.
 -- Assumes nothing.
-use mathlib.Core.Path.{◌≡◌, refl, sym, ◌∙◌, ap, ap₂}
-use native.Mathlib.Nat.{mul-le-mul}
-use Prim.Native.Nat.{ℕ, zero, suc, ◌+◌, ◌*◌, ◌/◌, ◌≤◌, ◌<◌}
-use native.Mathlib.Omega.{arith}
+use Rattle.std.proofs.Common.{◌≡◌, refl, sym, ◌∙◌, ap, ap₂, mul-le-mul, ℕ, zero, suc, ◌+◌, ◌*◌, ◌/◌, ◌≤◌, ◌<◌, arith}
 use Rattle.calculus.specs.Graded.{triangle, index, after, place}
 use Rattle.calculus.proofs.Layers.{size_mono, layer_below, layer-only, layer-same, layer-place}
 
@@ -64,9 +61,6 @@ index-first-of n = omega arith
 pub index-next : (i j : ℕ) → index (suc i) j ≡ suc (index i (suc j))
 unfolding index
 index-next i j = omega arith
-
-pub index-run : (i j : ℕ) → index i j ≡ index 0 (i + j) + i
-index-run i j = index_is i j ∙ ap (λ x. x + i) (sym (index-first-of (i + j)))
 
 -- the entry at each place
 after-index : (i j : ℕ) → index (after i j).0 (after i j).1 ≡ suc (index i j)

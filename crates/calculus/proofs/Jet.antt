@@ -1,8 +1,6 @@
 -- Jets of fields of any number of variables: entry i₁ .. i_d is the derivative i₁ times by the first, .. i_d times by the
 -- last. A curve's are at 1, a surface's at 2. Assumes nothing.
-use mathlib.Core.Path.{◌≡◌}
-use Prim.Native.Nat.{ℕ, zero, suc, ◌-◌, ◌≤◌}
-use lib.IntN.{ℤ, pos}
+use Rattle.std.proofs.Common.{◌≡◌, ℕ, zero, suc, ◌-◌, ◌≤◌, ℤ, pos}
 use Rattle.calculus.proofs.Space.{Space}
 
 abbrev pub Jet : ℕ → Type 0

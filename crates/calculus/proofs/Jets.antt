@@ -1,7 +1,6 @@
 -- Jets over ℤ: derivatives by order. A curve's has one order, a surface's two. Their products are Leibniz's rule.
 -- Assumes nothing.
-use Prim.Native.Nat.{ℕ, suc, ◌-◌}
-use lib.IntN.{ℤ, pos}
+use Rattle.std.proofs.Common.{ℕ, suc, ◌-◌, ℤ, pos}
 use Rattle.calculus.specs.Choose.{choose as binom}
 use Rattle.calculus.proofs.Ints.{◌⊗◌, sum}
 

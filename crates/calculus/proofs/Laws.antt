@@ -1,8 +1,7 @@
 -- The laws of the formulas at the integers. Carrying along a curve keeps sums, differences, products and exact quotients: for fields of any
 -- number of variables, and for surfaces in the forms that contracts cite. Assumes nothing.
-use mathlib.Core.Path.{◌≡◌, refl, sym, ◌∙◌, ap, ap₂, subst, fun_ext}
-use Prim.Native.Nat.{ℕ, suc, ◌+◌, ◌≤◌}
-use lib.IntN.{ℤ, pos, ◌*ℤ◌}
+use Rattle.std.proofs.Common.{◌≡◌, refl, sym, ◌∙◌, ap, ap₂, subst, ℕ, suc, ◌+◌, ◌≤◌, ℤ, pos, ◌*ℤ◌}
+use mathlib.Core.Path.{fun_ext}
 use lib.Signed.{rem_z}
 use Rattle.calculus.specs.Kind.{regular, plain}
 use Rattle.calculus.specs.Curve

@@ -1,10 +1,7 @@
 -- Numbering by layers: layer n has count n places, after all places of the layers below it. One law for any number of variables: a layer
 -- holds the entries of one total order, numbered among themselves as the entries of one variable less. Assumes nothing.
-use mathlib.Core.Path.{◌≡◌, sym, ap}
-use Prim.Native.Nat.{ℕ, zero, suc, ◌+◌, ◌-◌, ◌≤◌, ◌<◌}
-use native.Mathlib.Nat.{le_refl, lt_irrefl, add-zero, add-suc}
+use Rattle.std.proofs.Common.{◌≡◌, sym, ap, ℕ, zero, suc, ◌+◌, ◌-◌, ◌≤◌, ◌<◌, le_refl, lt_irrefl, add-zero, add-suc, arith}
 use native.Mathlib.Decide.{dec_le}
-use native.Mathlib.Omega.{arith}
 
 module _ (size count : ℕ → ℕ) (step : (n : ℕ) → size (suc n) ≡ size n + count n) where
   size-rises : (k m : ℕ) → size m ≤ size (m + k)

@@ -44,15 +44,19 @@ pub mod Masks
 pub mod Quotient
 -- a kind of jet: the answer by the tests that led to it
 pub mod Tested
+pub mod Passed
 -- what loops need, by the name `Loop…`: arrays that are filled in turn, the table of binomial coefficients, the order of work, lists that are
 -- written, the bits of masks, walks over part lists
 pub mod LoopFilling
 pub mod LoopSurfaceFilling
+pub mod LoopSurfaceFilled
 pub mod LoopPascal
 pub mod LoopTable
 pub mod LoopPlaces
+pub mod LoopBlanks
 pub mod LoopLeft
 pub mod LoopWriting
+pub mod LoopWritten
 pub mod LoopPairs
 pub mod LoopBits
 pub mod LoopWalking

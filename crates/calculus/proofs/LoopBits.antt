@@ -1,15 +1,8 @@
 -- What a loop of the carry needs of lists of parts: the factors of the parts still to come, the bits of a mask, and where the entry that they name
 -- stands. Assumes nothing.
-use mathlib.Core.Path.{◌≡◌, refl, ◌∙◌, ap}
-use mathlib.Core.List.{List, [], ◌∷◌}
-use Prim.Native.Nat.{ℕ, zero, suc, ◌+◌, ◌-◌, ◌*◌, ◌/◌, ◌%◌, ◌^◌, ◌≤◌, ◌<◌}
-use native.Mathlib.Nat.{pow-suc, one-mul, mod-eq_of_lt}
-use lib.Pow.{pow_mono}
-use native.Mathlib.Omega.{arith}
+use Rattle.std.proofs.Common.{◌≡◌, refl, ◌∙◌, ap, subst, List, [], ◌∷◌, ℕ, zero, suc, ◌+◌, ◌-◌, ◌*◌, ◌/◌, ◌%◌, ◌^◌, ◌≤◌, ◌<◌, pow-suc, one-mul, mod-eq_of_lt, pow_mono, arith, eq-eqb, ne_eqb, length, drop, get_or, drop_of_length-le}
 use lib.Count as Count
-use lib.ListN.{length, drop, get_or, drop_of_length-le}
 use Rattle.partitions.proofs.Slices.{drop_at}
-use borrow.Author.Tests.{eq-eqb, ne_eqb}
 use Rattle.calculus.specs.Kind.{Kind}
 use Rattle.calculus.specs.Carry.{digits, factors, ones, coordinates, surface_entry}
 use Rattle.calculus.specs.Graded.{index}
@@ -66,3 +59,11 @@ masks-shift n h = ap (λ x. x % 4294967296) (one-mul (2 ^ n)) ∙ mod-eq_of_lt (
   where
     small : (x : ℕ) → x ≤ 1048576 → x < 4294967296
     small x k = omega arith
+
+-- a mask of the loop has a bit for each part, and at most as many ones
+module _ (l : List ℕ) (h : length l ≤ 20) {mask : ℕ} (b : mask < 1 * 2 ^ length l % 4294967296) where
+  pub mask-below : mask < 2 ^ length l
+  mask-below = subst (λ x. mask < x) (masks-shift (length l) h) b
+
+  pub few-ones : Count.ones mask ≤ length l
+  few-ones = Count.ones-le (length l) mask mask-below

@@ -1,7 +1,5 @@
 -- An order that is cut to the last that an array has room for: below it, it is the order itself. Assumes nothing.
-use mathlib.Core.Path.{◌≡◌, ap, ap₂}
-use Prim.Native.Nat.{ℕ, ◌+◌, ◌-◌, ◌≤◌, min}
-use native.Mathlib.Omega.{arith}
+use Rattle.std.proofs.Common.{◌≡◌, ap, ap₂, ℕ, ◌+◌, ◌-◌, ◌≤◌, min, arith}
 
 pub within : {n k : ℕ} → n ≤ k → min n k ≡ n
 within {n} {k} h = omega (arith, h)

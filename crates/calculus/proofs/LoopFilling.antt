@@ -1,16 +1,8 @@
 -- A loop that stores entries in an array of w, which is blank before it: one law for every kind of number and every order of storing.
 -- `has k v` says that v is the entry at the place k, and d is what the logic reads past a list's end. Assumes nothing.
-use mathlib.Core.Path.{◌≡◌, refl, sym, ap, ap₂, ◌∙◌, subst}
-use mathlib.Core.Bool.{Bool, true, false, cond}
-use mathlib.Core.List.{List, ◌∷◌}
-use Prim.Native.Nat.{ℕ, zero, suc, ◌+◌, ◌<◌}
-use native.Mathlib.Nat.{add-zero, add-suc, suc-add, zero-add, le_of_suc-le-suc, not-suc-le-zero}
+use Rattle.std.proofs.Common.{◌≡◌, refl, sym, ap, ap₂, ◌∙◌, subst, Bool, true, false, cond, List, ◌∷◌, ℕ, zero, suc, ◌+◌, ◌<◌, add-zero, add-suc, suc-add, zero-add, le_of_suc-le-suc, not-suc-le-zero, arith, ltb, length, get_or, set, replicate, length-set, get_or-set_same, get_or-set_other, ext_get_or, ltb-true, ltb-false}
 use native.Mathlib.Decide.{ℕ_discrete}
-use native.Mathlib.Omega.{arith}
-use lib.Dec.{ltb}
-use lib.ListN.{length, get_or, set, replicate, length-set, length-replicate, get_or-replicate}
-use lib.Seq.{get_or-set_same, get_or-set_other, ext_get_or}
-use borrow.Author.Tests.{ltb-true, ltb-false}
+use lib.ListN.{length-replicate, get_or-replicate}
 use Rattle.calculus.specs.Rising.{before, rising}
 use Rattle.calculus.specs.Array.{listed, filled}
 use Rattle.calculus.proofs.Rising.{before-below, before_above}

@@ -1,10 +1,5 @@
 -- The list of a parameter curve: how long it is, and the numbers that are left to write. Assumes nothing.
-use mathlib.Core.Path.{◌≡◌, refl, sym, ap, ◌∙◌}
-use mathlib.Core.List.{List, [], ◌∷◌}
-use Prim.Native.Nat.{ℕ, zero, suc, ◌+◌, ◌-◌, ◌*◌, ◌≤◌, ◌<◌}
-use native.Mathlib.Numerals.{add-one}
-use native.Mathlib.Omega.{arith}
-use lib.ListN.{length}
+use Rattle.std.proofs.Common.{◌≡◌, refl, sym, ap, ◌∙◌, List, [], ◌∷◌, ℕ, zero, suc, ◌+◌, ◌-◌, ◌*◌, ◌≤◌, ◌<◌, add-one, arith, length}
 use Rattle.calculus.specs.Order.{pairs}
 
 pub pairs-length : {X : Type 0} (u v : ℕ → X) (i k : ℕ) → length (pairs u v i k) ≡ 2 * k

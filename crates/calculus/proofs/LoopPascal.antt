@@ -1,12 +1,6 @@
 -- The table of binomial coefficients is Pascal's triangle, each row the sums of the row before it; what it holds where, and how large that is.
 -- Assumes nothing.
-use mathlib.Core.Path.{◌≡◌, refl, sym, ap, ap₂, ◌∙◌, subst}
-use mathlib.Core.List.{List, [], ◌∷◌, ◌++◌}
-use Prim.Native.Nat.{ℕ, zero, suc, ◌+◌, ◌-◌, ◌*◌, ◌^◌, ◌≤◌, ◌<◌}
-use native.Mathlib.Nat.{add-zero, add-suc, suc-add, zero-add, le_trans, mul-le-mul, pow-suc}
-use native.Mathlib.Omega.{arith}
-use lib.ListN.{get_or}
-use lib.Pow.{pow_mono, pow-add, pow_pos}
+use Rattle.std.proofs.Common.{◌≡◌, refl, sym, ap, ap₂, ◌∙◌, subst, List, [], ◌∷◌, ◌++◌, ℕ, zero, suc, ◌+◌, ◌-◌, ◌*◌, ◌^◌, ◌≤◌, ◌<◌, add-zero, add-suc, suc-add, zero-add, le_trans, mul-le-mul, pow-suc, arith, get_or, pow_mono, pow-add, pow_pos}
 use Rattle.calculus.specs.Array.{listed}
 use Rattle.calculus.specs.Graded.{triangle, index, graded}
 use Rattle.calculus.specs.Choose.{choose, binomial_table}

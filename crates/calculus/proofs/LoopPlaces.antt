@@ -1,11 +1,15 @@
 -- Where the entries of a surface's list stand: row after row, and all within it. Assumes nothing.
-use mathlib.Core.Path.{◌≡◌, ap}
-use Prim.Native.Nat.{ℕ, zero, suc, ◌+◌, ◌-◌, ◌≤◌, ◌<◌}
-use native.Mathlib.Numerals.{add-one}
-use native.Mathlib.Omega.{arith}
-use Rattle.calculus.specs.Graded.{triangle}
+use Rattle.std.proofs.Common.{◌≡◌, ap, List, ℕ, zero, suc, ◌+◌, ◌-◌, ◌≤◌, ◌<◌, add-one, arith, get_or}
+use Rattle.calculus.specs.Graded.{triangle, index}
 use Rattle.calculus.proofs.Graded.{triangle-suc}
 use Rattle.calculus.specs.Order.{row_start, list_place}
+
+-- the entries of an array, and of a surface's; a blank past its end
+abbrev pub numbers_in : {X : Type 0} → X → List X → ℕ → X
+numbers_in blank l k = get_or l k blank
+
+abbrev pub surface_in : {X : Type 0} → X → List X → ℕ → ℕ → X
+surface_in blank l i j = get_or l (index i j) blank
 
 pub row-turn : (n i : ℕ) → row_start n (i + 1) ≡ row_start n i + (suc n - i)
 unfolding row_start

@@ -1,8 +1,6 @@
 -- The entries of a surface, one place on by u or by v, are those of its derivative. Assumes nothing.
-use mathlib.Core.Path.{◌≡◌, ap₂, fun_ext}
-use Prim.Native.Nat.{ℕ, ◌+◌}
-use native.Mathlib.Nat.{add-zero}
-use native.Mathlib.Numerals.{add-one}
+use Rattle.std.proofs.Common.{◌≡◌, ap₂, ℕ, ◌+◌, add-zero, add-one}
+use mathlib.Core.Path.{fun_ext}
 use Rattle.calculus.specs.Surface.{derivative_u, derivative_v}
 
 module _ {A : Type 0} (s : ℕ → ℕ → A) where

@@ -1,16 +1,8 @@
 -- A walk over the part lists that is stepped to its end: what each step hands out, and what is left. Assumes nothing.
-use mathlib.Core.Path.{◌≡◌, refl, sym, ◌∙◌, ap, ap₂, subst}
-use mathlib.Core.Bool.{true}
-use mathlib.Core.List.{List, [], ◌∷◌, nil≢cons}
-use Prim.Native.Nat.{ℕ, ◌-◌, ◌^◌, ◌≤◌, ◌<◌}
-use native.Mathlib.Nat.{le_trans, lt_of_le_of_lt}
-use native.Mathlib.Omega.{arith}
-use lib.Dec.{lit<}
-use lib.ListN.{length, take, replicate}
-use lib.Seq.{take_at}
+use Rattle.std.proofs.Common.{◌≡◌, refl, sym, ◌∙◌, ap, ap₂, subst, true, List, [], ◌∷◌, ℕ, ◌-◌, ◌^◌, ◌≤◌, ◌<◌, le_trans, lt_of_le_of_lt, lit<, arith, le-ltb, length, take, take_at, replicate, Option, Some, None, Result, Ok, Err}
+use mathlib.Core.List.{nil≢cons}
 use Rattle.partitions.specs.Parts.{total, fact, lists, multiplicity}
 use Rattle.partitions.specs.Count.{is_list, counted}
-use Rattle.std.specs.Prelude.{Option, Some, None, Result, Ok, Err}
 use Rattle.refusals.specs.declared.Refusal.{Refusal}
 use Rattle.partitions.specs.Walk.{padded, tested, started, stepped, remaining, moved}
 use Rattle.partitions.specs.declared.CompositionIter.{CompositionIter}
@@ -20,7 +12,7 @@ use Rattle.partitions.proofs.Member.{list-down, down-list}
 use Rattle.partitions.proofs.Successor.{first}
 use Rattle.partitions.proofs.Exact.{fact-most, divide-most}
 use Rattle.partitions.proofs.Walked.{in-range, least-times, first_walk, started-is, started-remains, stepped-first, stepped-end, moved-remains, moved-end}
-use borrow.Author.Tests.{le-ltb}
+use Rattle.calculus.specs.InTurn.{along_list}
 
 -- ---- how often a list counts
 pub multiplicity-fits : (l : List ℕ) → total l ≤ 20 → multiplicity l < 2 ^ 63
@@ -140,6 +132,38 @@ module _ (order len : ℕ) (h : 0 < len) (g : len ≤ order) (f : order ≤ 20) 
   pub is-list : (l : List ℕ) → Is len order order l → (is_list l ≡ true) × (total l ≤ 20)
   is-list l i = (nonempty l i, omega (arith, i.sums))
 
--- what is left is shorter by the list that is taken
-pub shorter : {x : List ℕ} {xs ys zs : List (List ℕ)} → ys ≡ xs → zs ≡ x ∷ xs → length ys < length zs
-shorter p q = omega (arith, ap length p, ap length q)
+-- ---- a step of a walk: what it hands out is a part list, which the running total takes in
+pub record Handed (order len : ℕ) (w next : CompositionIter) (list : List ℕ) : Type 0 where
+  pub falling : is_list list ≡ true
+  pub small : total list ≤ 20
+  pub short : length list ≤ 20
+  pub first : remaining w ≡ list ∷ remaining next
+  pub walks : Walks order len next
+
+module _ {order len : ℕ} (r : (0 < len) × (len ≤ order) × (order ≤ 20)) {w : CompositionIter} (k : Walks order len w) where
+  -- where it hands out nothing, the total is reached
+  pub all-taken : {A B : Type 0} (op : A → B → A) (t : List ℕ → B) (sum : A) {all : A} → ((p : List ℕ) → (stepped w).item ≡ Ok (Some p) → ⊥) → along_list op sum t (remaining w) ≡ all → sum ≡ all
+  unfolding along_list
+  all-taken op t sum n a = sym (ap (along_list op sum t) (over order len r.0 r.1 r.2 w k n)) ∙ a
+
+  pub hands-out : {p : List ℕ} {next : CompositionIter} → (stepped w).item ≡ Ok (Some p) → next ≡ (stepped w).walk → Handed order len w next (take len p)
+  hands-out {p} e n =
+      let s = (goes order len r.0 r.1 r.2 w k p e).2 in
+      let i = is-list order len r.0 r.1 r.2 _ s.is in
+      let f : is_list (take len p) ≡ true = ap is_list s.parts ∙ i.0 in
+      let g : total (take len p) ≤ 20 = subst (λ l. total l ≤ 20) (sym s.parts) i.1 in
+      record {
+        falling = f;
+        small = g;
+        short = list-short (take len p) f g;
+        first = s.first ∙ ap₂ (λ l ls. l ∷ ls) (sym s.parts) (sym s.left ∙ ap remaining (sym n));
+        walks = subst (Walks order len) (sym n) s.walks;
+      }
+
+module _ {order len : ℕ} {w next : CompositionIter} {list : List ℕ} (h : Handed order len w next list) where
+  pub fewer : length (remaining next) < length (remaining w)
+  fewer = omega (arith, ap length h.first)
+
+  pub takes-in : {A B : Type 0} (op : A → B → A) (t : List ℕ → B) (sum : A) {all : A} {x : B} → along_list op sum t (remaining w) ≡ all → x ≡ t list → along_list op (op sum x) t (remaining next) ≡ all
+  unfolding along_list
+  takes-in op t sum a i = ap (λ y. along_list op (op sum y) t (remaining next)) i ∙ sym (ap (along_list op sum t) h.first) ∙ a

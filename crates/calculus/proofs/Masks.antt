@@ -1,11 +1,6 @@
 -- A surface's entry by bits is the derivative by the variables that the bits name, so its carry is the general one at two variables.
 -- Assumes nothing.
-use mathlib.Core.Path.{◌≡◌, refl, sym, ◌∙◌, ap₂}
-use mathlib.Core.List.{List, [], ◌∷◌}
-use Prim.Native.Nat.{ℕ, zero, suc, ◌+◌, ◌-◌, ◌/◌, ◌%◌, ◌≤◌, ◌<◌}
-use native.Mathlib.Omega.{arith}
-use native.Mathlib.Nat.{le_refl}
-use lib.ListN.{length}
+use Rattle.std.proofs.Common.{◌≡◌, refl, sym, ◌∙◌, ap₂, List, [], ◌∷◌, ℕ, zero, suc, ◌+◌, ◌-◌, ◌/◌, ◌%◌, ◌≤◌, ◌<◌, arith, le_refl, length}
 use Rattle.calculus.specs.Kind.{regular, plain}
 use Rattle.calculus.specs.Carry.{digits, ones, surface_entry, coordinates, composite_derivatives}
 use Rattle.calculus.proofs.Jets.{Curve, Surface}

@@ -1,11 +1,7 @@
 -- The multiplicity of a list of parts: the division is exact, and it splits by the part that is taken out.
 -- Assumes nothing.
-use mathlib.Core.Path.{◌≡◌, refl, sym, ◌∙◌, ap, ap₂}
-use mathlib.Core.List.{List}
-use Prim.Native.Nat.{ℕ, zero, suc, ◌+◌, ◌*◌, ◌/◌, ◌<◌}
-use native.Mathlib.Omega.{arith}
-use native.Mathlib.Nat.{mul-div_cancel, mul_comm as nat-mul-comm}
-use lib.IntN.{ℤ, pos, negsuc, neg_ℤ, nat_abs, pos-ne-negsuc}
+use Rattle.std.proofs.Common.{◌≡◌, refl, sym, ◌∙◌, ap, ap₂, List, ℕ, zero, suc, ◌+◌, ◌*◌, ◌/◌, ◌<◌, arith, mul-div_cancel, mul_comm as nat-mul-comm, ℤ, pos, negsuc, neg_ℤ, nat_abs}
+use lib.IntN.{pos-ne-negsuc}
 use Rattle.calculus.proofs.Ints.{◌⊗◌, sum}
 use Rattle.calculus.specs.Choose.{choose}
 use Rattle.partitions.specs.Parts.{total, fact, multiplicity}

@@ -1,10 +1,6 @@
 -- Norms keep a relation that the operations of two kinds of scalar keep, with roots and scalar products that keep it: as far as the jets are related.
 -- Assumes nothing.
-use mathlib.Core.Path.{◌≡◌, refl, subst}
-use mathlib.Core.Bool.{Bool, true, false, cond, ◌&&◌}
-use Prim.Native.Nat.{ℕ, zero, suc, ◌+◌, ◌-◌, ◌*◌, ◌≤◌, zero-le}
-use native.Mathlib.Omega.{arith}
-use lib.Dec.{eqb}
+use Rattle.std.proofs.Common.{◌≡◌, refl, subst, Bool, true, false, cond, ◌&&◌, ℕ, zero, suc, ◌+◌, ◌-◌, ◌*◌, ◌≤◌, zero-le, arith, eqb}
 use Rattle.calculus.specs.Kind.{Kind, regular}
 use Rattle.calculus.specs.Choose.{choose}
 use Rattle.calculus.specs.Surface.{leibniz}

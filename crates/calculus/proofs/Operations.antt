@@ -1,5 +1,5 @@
 -- What the operations of two kinds of number keep, each of the four operations on jets keeps. Assumes nothing.
-use Prim.Native.Nat.{ℕ}
+use Rattle.std.proofs.Common.{ℕ}
 use Rattle.calculus.specs.Kind.{Kind, regular}
 use Rattle.calculus.specs.declared.Operation.{Operation}
 use Rattle.calculus.specs.declared.Operation.TheVariants.{Sum, Difference, Product, Quotient}

@@ -1,19 +1,11 @@
 -- A sum that goes through a list without one of its parts, and the parts of a list added by their values, over the integers.
 -- Assumes nothing.
-use mathlib.Core.Path.{◌≡◌, refl, sym, ◌∙◌, ap, subst}
-use mathlib.Core.Bool.{cond}
-use mathlib.Core.List.{List, [], ◌∷◌}
-use Prim.Native.Nat.{ℕ, zero, suc, ◌+◌, ◌*◌, ◌≤◌}
-use native.Mathlib.Omega.{arith}
-use native.Mathlib.Nat.{zero-add as nat-zero-add}
-use lib.Dec.{eqb}
-use lib.IntN.{ℤ, pos}
+use Rattle.std.proofs.Common.{◌≡◌, refl, sym, ◌∙◌, ap, subst, cond, List, [], ◌∷◌, ℕ, zero, suc, ◌+◌, ◌*◌, ◌≤◌, arith, zero-add as nat-zero-add, eqb, ℤ, pos, ne_eqb}
 use Rattle.calculus.proofs.Ints.{◌⊕◌, ◌⊗◌, sum}
 use Rattle.partitions.specs.Parts.{total}
 use Rattle.partitions.proofs.Out.{Out, here, there, Pos, count, sum as natural, by_value as by_values}
 use Rattle.calculus.proofs.Ring.{mul-zero, pos-add, pos-mul}
 use Rattle.calculus.proofs.Sums.{sum-cong}
-use borrow.Author.Tests.{ne_eqb}
 use Rattle.partitions.proofs.Tests.{by_eqb}
 use Rattle.calculus.proofs.Desc.{without}
 

@@ -1,9 +1,6 @@
 -- At the integers the folds are finite sums, and the formulas are the sums that the laws are proved of. Assumes nothing.
-use mathlib.Core.Path.{◌≡◌, refl, sym, ◌∙◌, ap, ap₂, fun_ext}
-use mathlib.Core.List.{List, [], ◌∷◌}
-use Prim.Native.Nat.{ℕ, zero, suc, ◌/◌, ◌%◌, ◌^◌}
-use lib.IntN.{ℤ, pos, ◌+ℤ◌, ◌-ℤ◌, ◌*ℤ◌}
-use lib.ListN.{length}
+use Rattle.std.proofs.Common.{◌≡◌, refl, sym, ◌∙◌, ap, ap₂, List, [], ◌∷◌, ℕ, zero, suc, ◌/◌, ◌%◌, ◌^◌, ℤ, pos, ◌+ℤ◌, ◌-ℤ◌, ◌*ℤ◌, length}
+use mathlib.Core.Path.{fun_ext}
 use Rattle.partitions.specs.Parts.{lists, multiplicity}
 use Rattle.calculus.specs.Kind.{regular, plain}
 use Rattle.calculus.specs.InTurn.{in_turn, in_rows, along_list}

@@ -1,10 +1,7 @@
 -- Quotients of jets of integers. Where every division along the way is exact, the divisor times the quotient is what was divided; and where
 -- that is a product with the divisor, every division is exact and the quotient is the other factor. Assumes nothing.
-use mathlib.Core.Path.{◌≡◌, refl, sym, ◌∙◌, ap, ap₂}
-use Prim.Native.Nat.{ℕ, suc, ◌+◌, ◌*◌, ◌≤◌, ◌<◌}
-use native.Mathlib.Omega.{arith}
+use Rattle.std.proofs.Common.{◌≡◌, refl, sym, ◌∙◌, ap, ap₂, ℕ, suc, ◌+◌, ◌*◌, ◌≤◌, ◌<◌, arith, ℤ, pos, ◌*ℤ◌}
 use native.Mathlib.Nat.{sub-zero}
-use lib.IntN.{ℤ, pos, ◌*ℤ◌}
 use lib.Signed.{quot_z, rem_z}
 use Rattle.calculus.specs.Kind.{regular, plain}
 use Rattle.calculus.specs.Rising.{before, before_entry}

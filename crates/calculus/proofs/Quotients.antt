@@ -1,8 +1,5 @@
 -- Quotients keep a relation that the operations of two kinds of scalar and of entry keep: as far as the jets are related. Assumes nothing.
-use mathlib.Core.Path.{subst}
-use mathlib.Core.Bool.{Bool, true, false, cond}
-use Prim.Native.Nat.{ℕ, zero, suc, ◌+◌, ◌-◌, ◌≤◌, zero-le}
-use native.Mathlib.Omega.{arith}
+use Rattle.std.proofs.Common.{subst, Bool, true, false, cond, ℕ, zero, suc, ◌+◌, ◌-◌, ◌≤◌, zero-le, arith}
 use Rattle.calculus.specs.Kind.{Module}
 use Rattle.calculus.specs.Choose.{choose}
 use Rattle.calculus.specs.Rising.{before, rising, with_row, rising_row, before_entry, rising_rows}

@@ -1,9 +1,5 @@
 -- Two kinds of number whose operations keep a relation, and two kinds of entry. What is folded in turn keeps it. Assumes nothing.
-use mathlib.Core.Path.{◌≡◌, refl, ap₂}
-use mathlib.Core.List.{List}
-use Prim.Native.Nat.{ℕ, zero, suc, ◌+◌, ◌≤◌, ◌<◌}
-use native.Mathlib.Nat.{le_refl}
-use native.Mathlib.Omega.{arith}
+use Rattle.std.proofs.Common.{◌≡◌, refl, ap₂, List, ℕ, zero, suc, ◌+◌, ◌≤◌, ◌<◌, le_refl, arith}
 use Rattle.calculus.specs.Kind.{Kind, Module, regular}
 use Rattle.calculus.specs.InTurn.{in_turn, in_rows, along_list}
 use Rattle.partitions.proofs.Lists.{Every, nil, and}

@@ -1,12 +1,6 @@
 -- Jets that agree up to an order have the same entries and the same array. Assumes nothing.
-use mathlib.Core.Path.{◌≡◌, refl, sym, ap, ap₂, ◌∙◌, fun_ext}
-use mathlib.Core.Bool.{Bool, true, false, cond}
-use mathlib.Core.List.{◌++◌}
-use Prim.Native.Nat.{ℕ, zero, suc, ◌+◌, ◌≤◌, ◌<◌}
-use native.Mathlib.Nat.{zero-add}
-use native.Mathlib.Omega.{arith}
-use lib.Dec.{ltb}
-use borrow.Author.Tests.{ltb-true}
+use Rattle.std.proofs.Common.{◌≡◌, refl, sym, ap, ap₂, ◌∙◌, Bool, true, false, cond, ◌++◌, ℕ, zero, suc, ◌+◌, ◌≤◌, ◌<◌, zero-add, arith, ltb, ltb-true}
+use mathlib.Core.Path.{fun_ext}
 use Rattle.calculus.specs.Array.{listed, filled}
 use Rattle.calculus.specs.Order.{rows, curve_entries, surface_entries}
 use Rattle.calculus.proofs.LoopFilling.{listed_same}

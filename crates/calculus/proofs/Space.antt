@@ -1,9 +1,6 @@
 -- Carrying a field of any number of variables along a curve: Faà di Bruno's formula, over masks with a digit for each part.
 -- Assumes nothing.
-use mathlib.Core.List.{List, [], ◌∷◌}
-use Prim.Native.Nat.{ℕ, zero, suc, ◌/◌, ◌%◌, ◌^◌}
-use lib.ListN.{length}
-use lib.IntN.{ℤ, pos}
+use Rattle.std.proofs.Common.{List, [], ◌∷◌, ℕ, zero, suc, ◌/◌, ◌%◌, ◌^◌, length, ℤ, pos}
 use Rattle.calculus.proofs.Ints.{◌⊗◌, sum, over}
 use Rattle.calculus.proofs.Jets.{Curve}
 use Rattle.partitions.specs.Parts.{lists, multiplicity}

@@ -1,9 +1,7 @@
 -- Finite sums, and linear functionals: what takes sums to sums and multiples to multiples.
 -- Assumes nothing.
-use mathlib.Core.Path.{◌≡◌, refl, sym, ◌∙◌, ap, ap₂, fun_ext}
-use Prim.Native.Nat.{ℕ, zero, suc, ◌<◌}
-use native.Mathlib.Omega.{arith}
-use lib.IntN.{ℤ, pos}
+use Rattle.std.proofs.Common.{◌≡◌, refl, sym, ◌∙◌, ap, ap₂, ℕ, zero, suc, ◌<◌, arith, ℤ, pos}
+use mathlib.Core.Path.{fun_ext}
 use Rattle.calculus.proofs.Ints.{◌⊕◌, ◌⊗◌, neg, sum}
 use Rattle.calculus.proofs.Ring.{ring, sums, zeros, zero-mul, mul-add, neg-mul, mul_comm, one-mul}
 

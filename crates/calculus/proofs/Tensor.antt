@@ -1,12 +1,8 @@
 -- The sum over masks, by recursion on the parts; it does not mind their order.
 -- Assumes nothing.
-use mathlib.Core.Path.{◌≡◌, refl, sym, ◌∙◌, ap, ap₂}
-use mathlib.Core.List.{List, [], ◌∷◌}
-use Prim.Native.Nat.{ℕ, zero, suc, ◌+◌, ◌*◌, ◌^◌}
-use native.Mathlib.Nat.{pow-zero, pow-suc, zero-mul, suc-mul, add-suc, add-zero as nat-add-zero}
+use Rattle.std.proofs.Common.{◌≡◌, refl, sym, ◌∙◌, ap, ap₂, List, [], ◌∷◌, ℕ, zero, suc, ◌+◌, ◌*◌, ◌^◌, pow-suc, zero-mul, suc-mul, add-suc, add-zero as nat-add-zero, length, ℤ}
+use native.Mathlib.Nat.{pow-zero}
 use lib.Arith.{digits_div, digits_mod}
-use lib.ListN.{length}
-use lib.IntN.{ℤ}
 use Rattle.calculus.proofs.Ints.{◌⊕◌, ◌⊗◌, sum}
 use Rattle.calculus.proofs.Jets.{Curve}
 use Rattle.calculus.proofs.Space.{Space, term, tensor}

@@ -1,8 +1,5 @@
 -- Jets that agree up to an order give results that agree up to it: the relational laws at equality. Assumes nothing.
-use mathlib.Core.Path.{◌≡◌, ap₂}
-use mathlib.Core.List.{List}
-use Prim.Native.Nat.{ℕ, suc, ◌+◌, ◌≤◌}
-use lib.ListN.{length}
+use Rattle.std.proofs.Common.{◌≡◌, ap₂, List, ℕ, suc, ◌+◌, ◌≤◌, length}
 use Rattle.calculus.specs.Kind.{Kind, Module}
 use Rattle.calculus.specs.Curve
 use Rattle.calculus.specs.Surface

@@ -1,6 +1,5 @@
 -- Jets that agree up to an order give quotients and norms that agree up to it: the relational laws at equality. Assumes nothing.
-use mathlib.Core.Path.{◌≡◌, ap, ap₂}
-use Prim.Native.Nat.{ℕ}
+use Rattle.std.proofs.Common.{◌≡◌, ap, ap₂, ℕ}
 use Rattle.calculus.specs.Kind.{Kind, Module}
 use Rattle.calculus.proofs.Related.{same, same_module}
 use Rattle.calculus.proofs.UpTo.{CurvesAgree, SurfacesAgree}

@@ -28,3 +28,9 @@ row_start n (suc i) = row_start n i + (suc n - i)
 
 abbrev pub list_place : ℕ → ℕ → ℕ → ℕ
 list_place n i j = row_start n i + j
+
+-- the list out, of which the first are overwritten by vs, as far as it reaches
+unfoldable pub overwritten : {X : Type 0} → List X → List X → List X
+overwritten [] out = out
+overwritten (v ∷ vs) [] = []
+overwritten (v ∷ vs) (x ∷ out) = v ∷ overwritten vs out

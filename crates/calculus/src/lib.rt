@@ -4,7 +4,12 @@
 ghost use Rattle.std.specs.Prelude.{◌≡◌, cond, suc, min, ltb};
 ghost use Rattle.calculus.specs.Choose.{choose};
 ghost use Rattle.calculus.specs.Graded.{triangle};
+ghost use Rattle.calculus.specs.Operation.{operation_of};
 ghost use Rattle.calculus.specs.Orders.{some_above20, smallest as Smallest};
+
+use refusals::Refusal;
+
+pub mod places;
 
 // A derivative by which of a surface's parameters.
 #[derive(Clone, Copy)]
@@ -20,6 +25,23 @@ pub enum Operation {
     Difference,
     Product,
     Quotient,
+}
+
+// The operation of a number, as a recipe's lists name it.
+impl TryFrom<usize> for Operation {
+    type Error = Refusal;
+
+    ghost try_from_gives = { λ n answer. answer ≡ operation_of n };
+
+    fn try_from(n: usize) -> Result<Operation, Refusal> {
+        match n {
+            0 => Ok(Operation::Sum),
+            1 => Ok(Operation::Difference),
+            2 => Ok(Operation::Product),
+            3 => Ok(Operation::Quotient),
+            _ => Err(Refusal::NoRecipe),
+        }
+    }
 }
 
 // The smaller of two orders, at which two jets meet.

@@ -13,10 +13,11 @@ use derivatives::CurveDerivatives;
 use fillet_lists::records;
 use fillet_lists::records::{Ders, Fillet, Jet};
 use given::values::vector_at;
-use given::{Lent, Listed, Shape, count, first, order};
+use given::{Lent, count, first, order};
 use ieee_vectors::{Matrix3, Vector2, Vector3};
 use refusals::{Refusal, number_of};
 use rolling_ball_fillet::VderInfo;
+use vector_derivatives::VectorCurveDerivatives;
 
 // The test of four orders.
 fn orders(x: usize, y: usize, z: usize, n: usize) -> Result<(), Refusal>
@@ -38,8 +39,7 @@ fn rotation(
     ensures { ◌≡◌ {A = ℕ × List Float} (number_of result, out.new) (rotation_into x y z n axis.now s c out.old) }
 {
     let lists = first(count(3, axis.len()), count(9, out.len()));
-    let tested = first(orders(x, y, z, n), lists);
-    tested?;
+    first(orders(x, y, z, n), lists)?;
     let answer = rolling_ball_fillet::rot_der_n(x, y, z, n, vector_at(axis, 0), s, c);
     Matrix3::write(answer, out)
 }
@@ -78,8 +78,7 @@ fn circle_derivative(
     ensures { ◌≡◌ {A = ℕ × List Float} (number_of result, out.new) (circle_into n circle.now s c out.old) }
 {
     let lists = first(count(13, circle.len()), count(3, out.len()));
-    let tested = first(order(n), lists);
-    tested?;
+    first(order(n), lists)?;
     let foot = Vector2 { x: 0.0, y: 0.0 };
     let answer = records::circle(circle, foot, foot).derivative_n(n, s, c);
     Vector3::write(answer, out)
@@ -118,8 +117,7 @@ fn contacts(
         uv0.len(),
         uv1.len(),
     );
-    let tested = first(fillet.test(), lent);
-    tested?;
+    first(fillet.test(), lent)?;
     let answer = fillet
         .surface()
         .sub_center_contacts_ders(fillet.contact_circle(), n);
@@ -153,22 +151,10 @@ pub extern "C" fn sugamdely_sub_center_contacts_ders(
         circle,
         feet,
         normals,
-        edge: Jet {
-            order: edge_order,
-            list: edge,
-        },
-        radius: Jet {
-            order: radius_order,
-            list: radius,
-        },
-        surface0: Jet {
-            order: surface0_order,
-            list: surface0,
-        },
-        surface1: Jet {
-            order: surface1_order,
-            list: surface1,
-        },
+        edge: Jet::new(edge_order, edge),
+        radius: Jet::new(radius_order, radius),
+        surface0: Jet::new(surface0_order, surface0),
+        surface1: Jet::new(surface1_order, surface1),
     };
     number_of(contacts(n, &fillet, center, contact0, contact1, uv0, uv1))
 }
@@ -185,18 +171,15 @@ fn info(
 {
     let n = ders.center.order;
     let lent = first(
-        given::list(Shape::VectorCurve, n, axis_out.len()),
+        VectorCurveDerivatives::due(n, axis_out.len()),
         first(
-            given::list(Shape::Curve, n, angle_out.len()),
+            CurveDerivatives::due(n, angle_out.len()),
             count(1, cosine_out.len()),
         ),
     );
-    let read = given::list(Shape::Curve, radius.order, radius.list.len());
-    let tested = first(ders.test(), first(read, lent));
-    tested?;
-    let answer = ders
-        .read()
-        .vder_info(CurveDerivatives::read(radius.order, radius.list), angle);
+    let radii = radius.test::<CurveDerivatives>();
+    first(ders.test(), first(radii, lent))?;
+    let answer = ders.read().vder_info(radius.read(), angle);
     fillet_lists::deliver_info(answer, axis_out, angle_out, cosine_out)
 }
 
@@ -224,32 +207,20 @@ pub extern "C" fn sugamdely_vder_info(
     ensures { ◌≡◌ {A = ℕ × Three} (result, (axis_out.new, (angle_out.new, cosine_out.new))) (vder_info_into (center_order, center.now) (contact0_order, contact0.now) (contact1_order, contact1.now) (uv0_order, uv0.now) (uv1_order, uv1.now) (radius_order, radius.now) angle (axis_out.old, (angle_out.old, cosine_out.old))) }
 {
     let ders = Ders {
-        center: Jet {
-            order: center_order,
-            list: center,
-        },
-        contact0: Jet {
-            order: contact0_order,
-            list: contact0,
-        },
-        contact1: Jet {
-            order: contact1_order,
-            list: contact1,
-        },
-        uv0: Jet {
-            order: uv0_order,
-            list: uv0,
-        },
-        uv1: Jet {
-            order: uv1_order,
-            list: uv1,
-        },
+        center: Jet::new(center_order, center),
+        contact0: Jet::new(contact0_order, contact0),
+        contact1: Jet::new(contact1_order, contact1),
+        uv0: Jet::new(uv0_order, uv0),
+        uv1: Jet::new(uv1_order, uv1),
     };
-    let radius = Jet {
-        order: radius_order,
-        list: radius,
-    };
-    number_of(info(&ders, radius, angle, axis_out, angle_out, cosine_out))
+    number_of(info(
+        &ders,
+        Jet::new(radius_order, radius),
+        angle,
+        axis_out,
+        angle_out,
+        cosine_out,
+    ))
 }
 
 // A partial derivative from these jets, the axis' and the angle's.
@@ -263,10 +234,9 @@ fn partial<F: FnOnce(VderInfo) -> Result<Vector3, Refusal>>(
     requires { F.IsAlwaysCallable work }
     ensures { (op : VderInfo → Result Vector3 Refusal) → ((i : VderInfo) (r : Result Vector3 Refusal) → F.post work i r → r ≡ op i) → ◌≡◌ {A = ℕ × List Float} (number_of result, out.new) (partial_into op (ders.now.center.order, ders.now.center.list.now) (ders.now.contact0.order, ders.now.contact0.list.now) (ders.now.contact1.order, ders.now.contact1.list.now) (ders.now.uv0.order, ders.now.uv0.list.now) (ders.now.uv1.order, ders.now.uv1.list.now) (axis.entry.order, axis.entry.list.now) (angle.entry.order, angle.entry.list.now) out.old) }
 {
-    let axes = given::list(Shape::VectorCurve, axis.order, axis.list.len());
-    let angles = given::list(Shape::Curve, angle.order, angle.list.len());
-    let tested = first(ders.test(), first(axes, first(angles, count(3, out.len()))));
-    tested?;
+    let axes = axis.test::<VectorCurveDerivatives>();
+    let angles = angle.test::<CurveDerivatives>();
+    first(ders.test(), first(axes, first(angles, count(3, out.len()))))?;
     Vector3::write(work(records::info(ders.read(), axis, angle)), out)
 }
 
@@ -295,39 +265,16 @@ pub extern "C" fn sugamdely_derivative_v(
     ensures { ◌≡◌ {A = ℕ × List Float} (result, out.new) (partial_into (λ i. partial_answer derivative_v 1 i u s c) (center_order, center.now) (contact0_order, contact0.now) (contact1_order, contact1.now) (uv0_order, uv0.now) (uv1_order, uv1.now) (axis_order, axis.now) (angle_order, angle.now) out.old) }
 {
     let ders = Ders {
-        center: Jet {
-            order: center_order,
-            list: center,
-        },
-        contact0: Jet {
-            order: contact0_order,
-            list: contact0,
-        },
-        contact1: Jet {
-            order: contact1_order,
-            list: contact1,
-        },
-        uv0: Jet {
-            order: uv0_order,
-            list: uv0,
-        },
-        uv1: Jet {
-            order: uv1_order,
-            list: uv1,
-        },
-    };
-    let axis = Jet {
-        order: axis_order,
-        list: axis,
-    };
-    let angle = Jet {
-        order: angle_order,
-        list: angle,
+        center: Jet::new(center_order, center),
+        contact0: Jet::new(contact0_order, contact0),
+        contact1: Jet::new(contact1_order, contact1),
+        uv0: Jet::new(uv0_order, uv0),
+        uv1: Jet::new(uv1_order, uv1),
     };
     number_of(partial(
         &ders,
-        axis,
-        angle,
+        Jet::new(axis_order, axis),
+        Jet::new(angle_order, angle),
         out,
         |i: VderInfo| i.derivative_v(u, s, c),
     ))
@@ -357,39 +304,16 @@ pub extern "C" fn sugamdely_derivative_uv(
     ensures { ◌≡◌ {A = ℕ × List Float} (result, out.new) (partial_into (λ i. partial_answer derivative_u_v 1 i u s c) (center_order, center.now) (contact0_order, contact0.now) (contact1_order, contact1.now) (uv0_order, uv0.now) (uv1_order, uv1.now) (axis_order, axis.now) (angle_order, angle.now) out.old) }
 {
     let ders = Ders {
-        center: Jet {
-            order: center_order,
-            list: center,
-        },
-        contact0: Jet {
-            order: contact0_order,
-            list: contact0,
-        },
-        contact1: Jet {
-            order: contact1_order,
-            list: contact1,
-        },
-        uv0: Jet {
-            order: uv0_order,
-            list: uv0,
-        },
-        uv1: Jet {
-            order: uv1_order,
-            list: uv1,
-        },
-    };
-    let axis = Jet {
-        order: axis_order,
-        list: axis,
-    };
-    let angle = Jet {
-        order: angle_order,
-        list: angle,
+        center: Jet::new(center_order, center),
+        contact0: Jet::new(contact0_order, contact0),
+        contact1: Jet::new(contact1_order, contact1),
+        uv0: Jet::new(uv0_order, uv0),
+        uv1: Jet::new(uv1_order, uv1),
     };
     number_of(partial(
         &ders,
-        axis,
-        angle,
+        Jet::new(axis_order, axis),
+        Jet::new(angle_order, angle),
         out,
         |i: VderInfo| i.derivative_uv(u, s, c),
     ))
@@ -419,39 +343,16 @@ pub extern "C" fn sugamdely_derivative_vv(
     ensures { ◌≡◌ {A = ℕ × List Float} (result, out.new) (partial_into (λ i. partial_answer derivative_v_v 2 i u s c) (center_order, center.now) (contact0_order, contact0.now) (contact1_order, contact1.now) (uv0_order, uv0.now) (uv1_order, uv1.now) (axis_order, axis.now) (angle_order, angle.now) out.old) }
 {
     let ders = Ders {
-        center: Jet {
-            order: center_order,
-            list: center,
-        },
-        contact0: Jet {
-            order: contact0_order,
-            list: contact0,
-        },
-        contact1: Jet {
-            order: contact1_order,
-            list: contact1,
-        },
-        uv0: Jet {
-            order: uv0_order,
-            list: uv0,
-        },
-        uv1: Jet {
-            order: uv1_order,
-            list: uv1,
-        },
-    };
-    let axis = Jet {
-        order: axis_order,
-        list: axis,
-    };
-    let angle = Jet {
-        order: angle_order,
-        list: angle,
+        center: Jet::new(center_order, center),
+        contact0: Jet::new(contact0_order, contact0),
+        contact1: Jet::new(contact1_order, contact1),
+        uv0: Jet::new(uv0_order, uv0),
+        uv1: Jet::new(uv1_order, uv1),
     };
     number_of(partial(
         &ders,
-        axis,
-        angle,
+        Jet::new(axis_order, axis),
+        Jet::new(angle_order, angle),
         out,
         |i: VderInfo| i.derivative_vv(u, s, c),
     ))
@@ -470,8 +371,7 @@ fn sub_der(
     ensures { ◌≡◌ {A = ℕ × List Float} (number_of result, out.new) (sub_der_into m n fillet.now.circle.now fillet.now.feet.now fillet.now.normals.now (fillet.now.edge.order, fillet.now.edge.list.now) (fillet.now.radius.order, fillet.now.radius.list.now) (fillet.now.surface0.order, fillet.now.surface0.list.now) (fillet.now.surface1.order, fillet.now.surface1.list.now) angle u s c out.old) }
 {
     let pair = first(order(m), first(order(n), count(3, out.len())));
-    let tested = first(fillet.test(), pair);
-    tested?;
+    first(fillet.test(), pair)?;
     let answer = fillet
         .surface()
         .sub_der_mn(m, n, u, fillet.contact_circle(), angle, s, c);
@@ -506,22 +406,10 @@ pub extern "C" fn sugamdely_sub_der_mn(
         circle,
         feet,
         normals,
-        edge: Jet {
-            order: edge_order,
-            list: edge,
-        },
-        radius: Jet {
-            order: radius_order,
-            list: radius,
-        },
-        surface0: Jet {
-            order: surface0_order,
-            list: surface0,
-        },
-        surface1: Jet {
-            order: surface1_order,
-            list: surface1,
-        },
+        edge: Jet::new(edge_order, edge),
+        radius: Jet::new(radius_order, radius),
+        surface0: Jet::new(surface0_order, surface0),
+        surface1: Jet::new(surface1_order, surface1),
     };
     number_of(sub_der(m, n, &fillet, angle, u, s, c, out))
 }

@@ -2,14 +2,10 @@
 -- curve and the order that they describe: the number is that of the road's refusal, or 0, and the list lent holds all entries of the jet that the road
 -- answers, or stays as it was. The same holds of recipes. `ListsOfRoad` and `ListsOfRecipe` say what it takes that the lists are jets; the tests before
 -- the road pass just there. Assumes nothing.
-use Rattle.std.specs.Prelude.{Bool, true, false, cond, List, [], ◌∷◌, map, ◌≡◌, ℕ, zero, suc, ◌+◌, ◌*◌, ◌/◌, ◌%◌, ◌≤◌, ◌<◌, ltb, eqb, ℤ, length, get_or, take, drop, Result, Ok, Err}
-use mathlib.Core.Path.{refl, sym, ap, ◌∙◌}
-use native.Mathlib.Nat.{not-suc-le-zero, le_of_suc-le-suc}
+use Rattle.std.proofs.Common.{Bool, true, false, cond, List, [], ◌∷◌, map, ◌≡◌, ℕ, zero, suc, ◌+◌, ◌*◌, ◌/◌, ◌%◌, ◌≤◌, ◌<◌, ltb, eqb, ℤ, length, get_or, take, drop, Result, Ok, Err, refl, sym, ap, ◌∙◌, not-suc-le-zero, le_of_suc-le-suc, arith, length-drop, length-take-le, get_or-take, ext_get_or, lt-ltb, le-ltb, ltb-false, eq-eqb, ne_eqb}
 use native.Mathlib.Decide.{ℕ_discrete, dec_lt}
-use native.Mathlib.Omega.{arith}
-use lib.ListN.{length-drop, length-map}
-use lib.Seq.{length-take-le, get_or-take, ext_get_or}
-use borrow.Author.Tests.{lt-ltb, le-ltb, ltb-false, eq-eqb, ne_eqb}
+use lib.ListN.{length-map}
+use Rattle.std.specs.Result.{result_unwrap_or}
 use Rattle.refusals.specs.declared.Refusal.{Refusal}
 use Rattle.calculus.specs.Array.{filled}
 use Rattle.calculus.specs.Graded.{triangle}
@@ -31,7 +27,7 @@ use Rattle.given.specs.Given.{first, list_given}
 use Rattle.given.specs.Lists.{deliver, admitted}
 use Rattle.given.proofs.Delivered.{whole, delivered}
 use Rattle.given.proofs.Admission.{one-fits, rest-fits, count_fits}
-use Rattle.capi_roads.specs.Recipes.{surface_size, total, jet_at, step_of, step_at, blank_step, recipe_of, surface_recipe, curve_recipe, result_given, lent_given, recipe_given, road_given, recipe_into, surface_recipe_into, curve_recipe_into, road_into}
+use Rattle.capi_roads.specs.Recipes.{surface_size, total, jet_at, step_of, step_at, blank_step, no_step, recipe_of, surface_recipe, curve_recipe, result_given, lent_given, recipe_given, road_given, recipe_into, surface_recipe_into, curve_recipe_into, road_into}
 use Rattle.capi_roads.proofs.RecipeChecks.{untaken, fit}
 use Rattle.capi_roads.proofs.RecipeLists.{below-20, within-entries}
 
@@ -260,7 +256,7 @@ module _ (orders steps : List ℕ) (i : ℕ) (h : i < length steps / 3) (unknown
       ∙ ap (λ (t : Bool). cond t (step_at steps i) blank_step) (lt-ltb i count h))
       ∙ none (get_or steps (3 * i) 0) (get_or steps (3 * i + 1) 0) (get_or steps (3 * i + 2) 0) unknown
     where
-      none : (op l r : ℕ) → 3 < op → (step_of op l r).left ≡ 16
+      none : (op l r : ℕ) → 3 < op → (result_unwrap_or (step_of op l r) no_step).left ≡ 16
       none op l r u = rw (ne_eqb op 0 (λ e. omega arith), ne_eqb op 1 (λ e. omega arith), ne_eqb op 2 (λ e. omega arith), ne_eqb op 3 (λ e. omega arith))
 
   pub unknown-operation : well_formed (length orders) count (take count program) ≡ false

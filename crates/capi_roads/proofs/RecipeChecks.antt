@@ -1,8 +1,5 @@
 -- What the tests of a recipe and of a road leave. Assumes nothing.
-use Rattle.std.specs.Prelude.{Bool, true, false, cond, List, ◌≡◌, ℕ, suc, ◌+◌, ◌*◌, ◌^◌, ◌<◌, max}
-use mathlib.Core.Path.{refl, sym, ◌∙◌}
-use native.Mathlib.Nat.{suc-ne-zero}
-use native.Mathlib.Omega.{arith}
+use Rattle.std.proofs.Common.{Bool, true, false, cond, List, ◌≡◌, ℕ, suc, ◌+◌, ◌*◌, ◌^◌, ◌<◌, max, refl, sym, ◌∙◌, suc-ne-zero, arith}
 use prog.Memory.{up}
 use Rattle.calculus.specs.Orders.{some_above20}
 use Rattle.given.proofs.Admission.{one-fits, count_fits}

@@ -1,10 +1,7 @@
 -- The two roads meet, as lists go in and out (document 01's demand 3): where the first road answers, the second writes the same list if every number that it
 -- forms lies within signed 64 bits, and is refused 9, with nothing written, if one does not. Assumes nothing.
-use Rattle.std.specs.Prelude.{Bool, true, false, cond, List, ◌≡◌, ℕ, ℤ, length, Result, Ok, Err}
-use mathlib.Core.Path.{refl, sym, ap, ◌∙◌}
+use Rattle.std.proofs.Common.{Bool, true, false, cond, List, ◌≡◌, ℕ, ℤ, length, Result, Ok, Err, refl, sym, ap, ◌∙◌, arith, eq-eqb, ne_eqb}
 use native.Mathlib.Decide.{ℕ_discrete}
-use native.Mathlib.Omega.{arith}
-use borrow.Author.Tests.{eq-eqb, ne_eqb}
 use Rattle.refusals.specs.declared.Refusal.{Refusal}
 use Rattle.refusals.specs.declared.Refusal.TheVariants.{OutOfRange}
 use Rattle.refusals.proofs.Numbers.{number-pos}

@@ -1,12 +1,14 @@
 -- Recipes as lists (document 01's term), and the two roads: the orders of the jets, all their lists one after the other, and three numbers a step. What the
 -- lists need to be jets is tested first, for 1 and 2; every other refusal is the recipe's or the road's own, where it comes to it. Assumes nothing.
-use Rattle.std.specs.Prelude.{cond, List, [], ◌∷◌, ℕ, suc, ◌+◌, ◌*◌, ◌/◌, ◌%◌, ltb, eqb, ℤ, length, get_or, take, drop, Option, Some, None, Result}
+use Rattle.std.specs.Prelude.{cond, List, [], ◌∷◌, ℕ, suc, ◌+◌, ◌*◌, ◌/◌, ◌%◌, ltb, eqb, ℤ, length, get_or, take, drop, Result}
+use Rattle.std.specs.Result.{result_map_both, result_unwrap_or}
 use Rattle.refusals.specs.declared.Refusal.{Refusal}
 use Rattle.calculus.specs.Graded.{triangle}
 use Rattle.calculus.specs.Array.{filled}
 use Rattle.calculus.specs.JetKind.{jet_of_list}
 use Rattle.calculus.specs.declared.Operation.{Operation}
-use Rattle.calculus.specs.declared.Operation.TheVariants.{Sum, Difference, Product, Quotient}
+use Rattle.calculus.specs.declared.Operation.TheVariants.{Sum}
+use Rattle.calculus.specs.Operation.{operation_of}
 use Rattle.calculus.specs.Orders.{some_above20, smallest}
 use Rattle.exact.specs.declared.CurveDerivatives.{CurveDerivatives}
 use Rattle.exact.specs.declared.SurfaceDerivatives.{SurfaceDerivatives}
@@ -32,20 +34,19 @@ unfoldable pub jet_at : {J : Type 0} → (ℕ → ℕ) → (ℕ → List ℤ →
 jet_at size read orders entries i = let n = get_or orders i 0 in read n (take (size n) (drop (total size (take i orders)) entries))
 
 -- ---- steps
-abbrev pub operation_of : ℕ → Option Operation
-operation_of n = cond (eqb n 0) (Some Sum) (cond (eqb n 1) (Some Difference) (cond (eqb n 2) (Some Product) (cond (eqb n 3) (Some Quotient) None)))
+abbrev pub step_with : ℕ → ℕ → Operation → Step
+step_with left right op = record { operation = op; left = left; right = right }
 
--- an operation number above 3 is no operation. Such a step names 16, which no jet has, for 4 jets and 12 steps end at 15: the recipe refuses it, as any
--- step that names a later number
-abbrev pub step_with : Option Operation → ℕ → ℕ → Step
-step_with (Some op) left right = record { operation = op; left = left; right = right }
-step_with None left right = record { operation = Sum; left = 16; right = 16 }
+-- an operation number above 3 is no operation, and its step is no step
+abbrev pub step_of : ℕ → ℕ → ℕ → Result Step Refusal
+step_of op left right = result_map_both (step_with left right) (λ r. r) (operation_of op)
 
-abbrev pub step_of : ℕ → ℕ → ℕ → Step
-step_of op = step_with (operation_of op)
+-- what stands for no step names 16, which no jet has, for 4 jets and 12 steps end at 15: the recipe refuses it, as any step that names a later number
+abbrev pub no_step : Step
+no_step = record { operation = Sum; left = 16; right = 16 }
 
 unfoldable pub step_at : List ℕ → ℕ → Step
-step_at l i = step_of (get_or l (3 * i) 0) (get_or l (3 * i + 1) 0) (get_or l (3 * i + 2) 0)
+step_at l i = result_unwrap_or (step_of (get_or l (3 * i) 0) (get_or l (3 * i + 1) 0) (get_or l (3 * i + 2) 0)) no_step
 
 abbrev pub blank_step : Step
 blank_step = record { operation = Sum; left = 0; right = 0 }

@@ -6,5 +6,6 @@
 mod checks;
 pub mod curve_recipes;
 mod jets;
+mod lists;
 mod recipe_steps;
 pub mod recipes;

@@ -1,41 +1,31 @@
 // The steps of a recipe, three numbers each.
 ghost use Rattle.std.specs.Prelude.{◌≡◌, ◌/◌, length};
 ghost use Rattle.calculus.specs.Array.{filled};
-ghost use Rattle.capi_roads.specs.Recipes.{operation_of, step_of, step_at, blank_step};
+ghost use Rattle.capi_roads.specs.Recipes.{step_of, step_at, blank_step};
 
+use refusals::Refusal;
 use roads::{Operation, Step};
 
-fn operation_of(n: usize) -> Option<Operation>
-    ensures { result ≡ operation_of n }
-{
-    match n {
-        0 => Some(Operation::Sum),
-        1 => Some(Operation::Difference),
-        2 => Some(Operation::Product),
-        3 => Some(Operation::Quotient),
-        _ => None,
-    }
-}
+// What stands for a step of no operation, which is the recipe's to refuse where it comes to it: 4 jets and 12 steps end at the number 15.
+const NO_STEP: Step = Step {
+    operation: Operation::Sum,
+    left: 16,
+    right: 16,
+};
 
-// A step of no operation names the number 16, which no jet has.
-fn step_of(operation: usize, left: usize, right: usize) -> Step
+fn step_of(operation: usize, left: usize, right: usize) -> Result<Step, Refusal>
     ensures { result ≡ step_of operation left right }
 {
-    match operation_of(operation) {
-        Some(operation) => Step {
-            operation,
-            left,
-            right,
-        },
-        None => Step {
-            operation: Operation::Sum,
-            left: 16,
-            right: 16,
-        },
-    }
+    let operation = Operation::try_from(operation)?;
+    Ok(Step {
+        operation,
+        left,
+        right,
+    })
 }
 
 // The first twelve steps, or all where there are fewer.
+#[tactic(auto, unfolding(crate::specs::Recipes::step_at))]
 pub fn read_steps(steps: &[usize]) -> [Step; 12]
     ensures { result ≡ filled 12 blank_step (step_at steps.now) (length steps.now / 3) }
 {
@@ -45,10 +35,8 @@ pub fn read_steps(steps: &[usize]) -> [Step; 12]
         right: 0,
     };
     let mut program = [blank; 12];
-    let count = (steps.len() / 3).min(12);
-    for i in 0..count {
-        let k = 3 * i;
-        program[i] = step_of(steps[k], steps[k + 1], steps[k + 2]);
+    for (i, step) in steps.chunks_exact(3).take(12).enumerate() {
+        program[i] = step_of(step[0], step[1], step[2]).unwrap_or(NO_STEP);
     }
     program
 }

@@ -11,32 +11,25 @@ ghost use Rattle.roads.specs.Roads.{build_then_carry, carry_then_build};
 ghost use Rattle.capi_roads.specs.Recipes.{recipe_into, surface_recipe_into, road_into};
 
 use crate::jets::Jets;
-use crate::{checks, jets};
+use crate::lists::Lists;
 use exact::{CurveDerivatives, ParameterCurve, SurfaceDerivatives};
 use given::{Lent, Listed};
-use refusals::Refusal;
+use refusals::{Refusal, number_of};
 use roads::SurfaceRecipe;
 
 // A recipe of jets of one kind.
-pub(crate) fn over_recipe<J: Jets>(
-    orders: &[usize],
-    entries: &[i64],
-    steps: &[usize],
-    out: &mut [i64],
-) -> Result<(), Refusal>
-    ensures { ◌≡◌ {A = ℕ × List ℤ} (number_of result, out.new) (recipe_into J.size J.input J.output J.kind orders.now entries.now steps.now out.old) }
+#[tactic(auto, unfolding(crate::specs::Recipes::recipe_into))]
+pub(crate) fn over_recipe<J: Jets>(lists: Lists, out: &mut [i64]) -> Result<(), Refusal>
+    ensures { ◌≡◌ {A = ℕ × List ℤ} (number_of result, out.new) (recipe_into J.size J.input J.output J.kind lists.entry.orders.now lists.entry.entries.now lists.entry.steps.now out.old) }
 {
-    let tested = checks::recipe::<J>(orders, entries.len(), steps, out.len());
-    tested?;
-    let recipe = jets::read_recipe::<J>(orders, entries, steps);
-    J::write(recipe.build(), out)
+    lists.test::<J>(out.len())?;
+    J::write(lists.read::<J>().build(), out)
 }
 
 // One of the roads.
+#[tactic(auto, unfolding(crate::specs::Recipes::road_into))]
 fn over_road<F: FnOnce(SurfaceRecipe, ParameterCurve) -> Result<CurveDerivatives, Refusal>>(
-    orders: &[usize],
-    entries: &[i64],
-    steps: &[usize],
+    lists: Lists,
     c_order: usize,
     c: &[i64],
     n: usize,
@@ -44,13 +37,11 @@ fn over_road<F: FnOnce(SurfaceRecipe, ParameterCurve) -> Result<CurveDerivatives
     road: F,
 ) -> Result<(), Refusal>
     requires { F.IsAlwaysCallable road }
-    ensures { (op : Recipe SurfaceDerivatives → ParameterCurve → ℕ → Result CurveDerivatives Refusal) → ((r : Recipe SurfaceDerivatives) (y : ParameterCurve) (a : Result CurveDerivatives Refusal) → F.post road r y a → a ≡ op r y n) → ◌≡◌ {A = ℕ × List ℤ} (number_of result, out.new) (road_into op orders.now entries.now steps.now c_order c.now n out.old) }
+    ensures { (op : Recipe SurfaceDerivatives → ParameterCurve → ℕ → Result CurveDerivatives Refusal) → ((r : Recipe SurfaceDerivatives) (y : ParameterCurve) (a : Result CurveDerivatives Refusal) → F.post road r y a → a ≡ op r y n) → ◌≡◌ {A = ℕ × List ℤ} (number_of result, out.new) (road_into op lists.entry.orders.now lists.entry.entries.now lists.entry.steps.now c_order c.now n out.old) }
 {
-    let tested = checks::road(orders, entries.len(), steps, c_order, c.len(), n, out.len());
-    tested?;
-    let recipe = jets::read_recipe::<SurfaceDerivatives>(orders, entries, steps);
+    lists.test_road(c_order, c.len(), n, out.len())?;
     let curve = ParameterCurve::read(c_order, c);
-    CurveDerivatives::write(road(recipe, curve), out)
+    CurveDerivatives::write(road(lists.read::<SurfaceDerivatives>(), curve), out)
 }
 
 #[unsafe(no_mangle)]
@@ -62,7 +53,12 @@ pub extern "C" fn sugamdely_recipe_surfaces(
 ) -> u8
     ensures { ◌≡◌ {A = ℕ × List ℤ} (result, out.new) (surface_recipe_into orders.now entries.now steps.now out.old) }
 {
-    refusals::number_of(over_recipe::<SurfaceDerivatives>(orders, entries, steps, out))
+    let lists = Lists {
+        orders,
+        entries,
+        steps,
+    };
+    number_of(over_recipe::<SurfaceDerivatives>(lists, out))
 }
 
 #[unsafe(no_mangle)]
@@ -77,8 +73,13 @@ pub extern "C" fn sugamdely_build_then_carry(
 ) -> u8
     ensures { ◌≡◌ {A = ℕ × List ℤ} (result, out.new) (road_into build_then_carry orders.now entries.now steps.now c_order c.now n out.old) }
 {
+    let lists = Lists {
+        orders,
+        entries,
+        steps,
+    };
     let road = |r: SurfaceRecipe, y: ParameterCurve| r.build_then_carry(y, n);
-    refusals::number_of(over_road(orders, entries, steps, c_order, c, n, out, road))
+    number_of(over_road(lists, c_order, c, n, out, road))
 }
 
 #[unsafe(no_mangle)]
@@ -93,6 +94,11 @@ pub extern "C" fn sugamdely_carry_then_build(
 ) -> u8
     ensures { ◌≡◌ {A = ℕ × List ℤ} (result, out.new) (road_into carry_then_build orders.now entries.now steps.now c_order c.now n out.old) }
 {
+    let lists = Lists {
+        orders,
+        entries,
+        steps,
+    };
     let road = |r: SurfaceRecipe, y: ParameterCurve| r.carry_then_build(y, n);
-    refusals::number_of(over_road(orders, entries, steps, c_order, c, n, out, road))
+    number_of(over_road(lists, c_order, c, n, out, road))
 }

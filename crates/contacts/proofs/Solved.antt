@@ -1,9 +1,5 @@
 -- The centre and the contacts, by the tests for a zero that led to them. Assumes nothing.
-use mathlib.Core.Path.{◌≡◌, sym}
-use mathlib.Core.Bool.{Bool, cond}
-use Prim.Native.Nat.{ℕ}
-use lib.Dec.{eqb}
-use Rattle.std.specs.Prelude.{Ok, Err}
+use Rattle.std.proofs.Common.{◌≡◌, sym, Bool, cond, ℕ, eqb, Ok, Err}
 use Rattle.refusals.specs.declared.Refusal.TheVariants.{ZeroDeterminant, DivisionByZero}
 use Rattle.ieee_vectors.specs.Matrices.{determinant2, determinant3}
 use Rattle.formulas.specs.Real.{is_zero}

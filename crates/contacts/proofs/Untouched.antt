@@ -1,15 +1,8 @@
 -- A step forms the entries of one order and leaves the others as they are. So every order meets the determinants and divisors of the entries of
 -- order 0, and what is stored past the order is zero. Assumes nothing.
-use mathlib.Core.Path.{◌≡◌, refl, ap₂, ◌∙◌}
-use mathlib.Core.Bool.{Bool, true, false, cond}
-use mathlib.Core.Logic.{◌⊎◌, inl, inr, ⊎_elim}
-use mathlib.Core.List.{List}
-use Prim.Native.Nat.{ℕ, zero, suc, ◌+◌, ◌*◌, ◌-◌, ◌≤◌, ◌<◌}
-use native.Mathlib.Omega.{arith}
-use lib.Dec.{ltb}
-use lib.ListN.{length, get_or, set, replicate, get_or-replicate}
-use lib.Seq.{get_or-set_other}
-use lib.Ieee.{Float, nan}
+use Rattle.std.proofs.Common.{◌≡◌, refl, ap₂, ◌∙◌, Bool, true, false, cond, ◌⊎◌, inl, inr, ⊎_elim, List, ℕ, zero, suc, ◌+◌, ◌*◌, ◌-◌, ◌≤◌, ◌<◌, arith, ltb, length, get_or, set, replicate, get_or-set_other, Float}
+use lib.ListN.{get_or-replicate}
+use Rattle.std.specs.Float.{nan}
 use Rattle.ieee_vectors.specs.Vectors.{minus, over, vector, quotient, dot, positive_zero}
 use Rattle.ieee_vectors.specs.Matrices.{inverse3, image3}
 use Rattle.ieee_vectors.specs.declared.Vector3.{Vector3}

@@ -1,8 +1,7 @@
 -- Arrays of floats that have been computed, as the jets that are answered. Assumes nothing.
-use Rattle.std.proofs.Common.{◌≡◌, Bool, cond, List, Float, ℕ, suc, ◌≤◌, min, Result, Ok, Err, sym, ap, ◌∙◌, arith}
+use Rattle.std.proofs.Common.{◌≡◌, Bool, cond, List, Float, ℕ, suc, ◌≤◌, min, Result, Ok, Err, sym, ap, ◌∙◌, arith, lt-ltb, le-ltb}
 use Rattle.std.specs.Float.{nan}
 use Rattle.std.specs.Float.Ieee.Scale.{finite}
-use borrow.Author.Tests.{lt-ltb, le-ltb}
 use Rattle.refusals.specs.declared.Refusal.{Refusal}
 use Rattle.refusals.specs.declared.Refusal.TheVariants.{OrderAbove20, AnswerNotFinite}
 use Rattle.calculus.specs.Graded.{triangle, graded}

@@ -1,37 +1,10 @@
 -- What is known once the tests before the work have answered an order: the order, and what a function on jets answers. Assumes nothing.
-use Rattle.std.proofs.Common.{◌≡◌, Bool, true, false, cond, ◌&&◌, ◌||◌, ℕ, ◌≤◌, min, ltb, Result, Ok, Err, refl, sym, ap, ◌∙◌}
-use mathlib.Core.Path.{subst}
-use Rattle.std.specs.Prelude.{⊤}
-use borrow.Author.Tests.{ltb-false}
+use Rattle.std.proofs.Common.{◌≡◌, Bool, true, false, cond, ◌&&◌, ◌||◌, ℕ, ◌≤◌, min, ltb, Result, Ok, Err, refl, sym, ◌∙◌, subst, ltb-false}
 use Rattle.refusals.specs.declared.Refusal.{Refusal}
 use Rattle.calculus.specs.JetKind.{tested, above20}
-use Rattle.calculus.proofs.Tested.{near, near-at}
+use Rattle.calculus.proofs.Tested.{near-at}
+use Rattle.calculus.proofs.Passed.{Passed, passed, common-low, common-worked}
 use Rattle.derivatives.specs.Jets.{one_at, both_at, asked_at}
-
--- ---- tests that are passed
-module _ {A : Type 0} where
-  abbrev answer : Result A Refusal → Type 0
-  answer (Ok y) = ⊤
-  answer (Err r) = ⊥
-
-  abbrev got : A → Result A Refusal → A
-  got x (Ok y) = y
-  got x (Err r) = x
-
-  refused : {r : Refusal} {y : A} → Err r ≡ Ok y → ⊥
-  refused e = subst answer (sym e) tt
-
-  pub record Passed (p q t : Bool) (x y : A) : Type 0 where
-    pub low : p ≡ false
-    pub fits : q ≡ false
-    pub finite : t ≡ true
-    pub same : x ≡ y
-
-  pub passed : (p q t : Bool) {x y : A} → tested Err p q t (Ok x) ≡ Ok y → Passed p q t x y
-  passed true q t e = absurd (refused e)
-  passed false true t e = absurd (refused e)
-  passed false false false e = absurd (refused e)
-  passed false false true {x} e = record { low = refl; fits = refl; finite = refl; same = ap (got x) e }
 
 -- ---- a test of the work: what is answered where it is met, and where it is not
 module _ {B : Type 0} {t b : Bool} (r s : B) where
@@ -55,14 +28,11 @@ module _ (n : ℕ) (f : ℕ → Bool) {k : ℕ} (e : one_at n f ≡ Ok k) where
 -- ---- two jets, at the smaller order and at one that is asked: the order, and the work's answer
 module _ (m n : ℕ) (f g : ℕ → Bool) where
   module _ {k : ℕ} (e : both_at m n f g ≡ Ok k) where
-    both-passed : Passed (above20 m n) false (f (min m n) && g (min m n)) (min m n) k
-    both-passed = passed (above20 m n) false (f (min m n) && g (min m n)) e
-
     pub both-low : k ≤ 20
-    both-low = let h = both-passed in near m n refl h.low (sym h.same)
+    both-low = common-low m n (f (min m n) && g (min m n)) e
 
     pub both-worked : {C : Type 0} (op : ℕ → Result C Refusal) → op k ≡ tested Err (above20 m n) false (f (min m n) && g (min m n)) (op (min m n))
-    both-worked op = let h = both-passed in rw (h.low, h.finite, h.same)
+    both-worked = common-worked m n (f (min m n) && g (min m n)) e
 
   module _ (k : ℕ) {l : ℕ} (e : asked_at m n k f g ≡ Ok l) where
     asked-passed : Passed (above20 m n || ltb 20 k) (ltb (min m n) k) (f k && g k) k l

@@ -1,7 +1,6 @@
 -- What the tests before the work answer: the order at which it is done, or a refusal. Assumes nothing.
-use Rattle.std.specs.Prelude.{Bool, false, cond, not, ◌&&◌, ◌||◌, ℕ, ◌-◌, min, ltb, eqb, Result, Ok, Err, ⊤}
+use Rattle.std.specs.Prelude.{Bool, false, ◌&&◌, ◌||◌, ℕ, ◌-◌, min, ltb, eqb, Result, Ok, Err}
 use Rattle.refusals.specs.declared.Refusal.{Refusal}
-use Rattle.refusals.specs.declared.Refusal.TheVariants.{OrderAbove20, Shape, AnswerNotFinite}
 use Rattle.calculus.specs.JetKind.{tested, above20}
 
 -- on one jet, of the order n, and its derivative's order; f tells whether the entries up to an order are finite
@@ -19,11 +18,3 @@ both_at m n f g =
 
 abbrev pub asked_at : ℕ → ℕ → ℕ → (ℕ → Bool) → (ℕ → Bool) → Result ℕ Refusal
 asked_at m n k f g = tested Err (above20 m n || ltb 20 k) (ltb (min m n) k) (f k && g k) (Ok k)
-
--- a jet that has been computed
-abbrev pub returned_at : {J : Type 0} → J → ℕ → (ℕ → Bool) → Result J Refusal
-returned_at a n f = cond (ltb 20 n) (Err OrderAbove20) (cond (f n) (Ok a) (Err AnswerNotFinite))
-
--- a list of l floats, of which k are due at the order n
-abbrev pub fits_at : ℕ → ℕ → ℕ → Result ⊤ Refusal
-fits_at n l k = cond (ltb 20 n) (Err OrderAbove20) (cond (not (eqb l k)) (Err Shape) (Ok tt))

@@ -3,6 +3,7 @@ ghost use Rattle.std.specs.Prelude.{◌≡◌};
 ghost use Rattle.derivatives.specs.Composite.{along_curve_at, along_curve};
 
 use crate::{CurveDerivatives, ParameterCurve, SurfaceDerivatives, jets};
+use float_carry::floats::Carried;
 use refusals::Refusal;
 
 impl SurfaceDerivatives {
@@ -11,7 +12,12 @@ impl SurfaceDerivatives {
         ensures { result ≡ along_curve_at self curve order }
     {
         let n = jets::asked(&self, &curve, order)?;
-        vectors::returned(float_carry::floats::derivative(&self.entries, &curve.u, &curve.v, n))
+        let carried = Carried {
+            entries: &self.entries,
+            u: &curve.u,
+            v: &curve.v,
+        };
+        vectors::returned(carried.derivative(n))
     }
 
     // The derivatives of all orders up to `order`, with the entry [0][0] at order 0.
@@ -23,9 +29,11 @@ impl SurfaceDerivatives {
         ensures { result ≡ along_curve self curve order }
     {
         let n = jets::asked(&self, &curve, order)?;
-        crate::returned_curve(
-            float_carry::floats::derivatives(&self.entries, &curve.u, &curve.v, n),
-            n,
-        )
+        let carried = Carried {
+            entries: &self.entries,
+            u: &curve.u,
+            v: &curve.v,
+        };
+        crate::returned_curve(carried.derivatives(n), n)
     }
 }

@@ -1,23 +1,25 @@
 // Jets of curves.
-ghost use Rattle.std.specs.Prelude.{◌≡◌, ◌≤◌, List, length, Float, Result, ⊤};
+ghost use Rattle.std.specs.Prelude.{◌≡◌, ◌≤◌, refl, ℕ, List, length, Float, Result, ⊤};
 ghost use Rattle.refusals.specs.declared.Refusal.{Refusal};
 ghost use Rattle.calculus.specs.Kind.{regular};
 ghost use Rattle.calculus.specs.Curve.{derivative, sum as sums, difference as differences, product};
 ghost use Rattle.calculus.specs.Rational.{rational};
 ghost use Rattle.formulas.specs.Real.{real};
 ghost use Rattle.derivatives.specs.Answer.{entry_at, curves, by_division};
-ghost use Rattle.calculus.specs.JetKind.{by_formula, differentiated, finite_up_to, from_list, into_list, on_two};
+ghost use Rattle.calculus.specs.JetKind.{by_formula, differentiated, from_list, into_list, on_two};
 ghost use Rattle.derivatives.specs.Inner.{by_curve_entries};
 
 use crate::jets::Jet;
-use crate::{CurveDerivatives, formula, jets, lists};
+use crate::{CurveDerivatives, formula, jets};
 use calculus::Operation;
 use refusals::Refusal;
 
 impl Jet for CurveDerivatives {
-    ghost order = { curves.order };
+    ghost entries = { ℕ → Float };
 
-    ghost finite = { finite_up_to curves };
+    ghost kind = { curves };
+
+    ghost list_law = { λ l. refl };
 
     fn order(&self) -> usize {
         self.order
@@ -26,26 +28,28 @@ impl Jet for CurveDerivatives {
     fn is_finite(&self, n: usize) -> bool {
         formulas::finite_curve(&self.entries, n)
     }
+
+    fn count(n: usize) -> usize {
+        n.min(20) + 1
+    }
+
+    // A list has one entry for each order.
+    fn read(n: usize, list: &[f64]) -> CurveDerivatives {
+        let mut entries = [0.0f64; 21];
+        let k = list.len().min(21);
+        entries[..k].copy_from_slice(&list[..k]);
+        CurveDerivatives { order: n, entries }
+    }
+
+    fn write(&self, out: &mut [f64])
+        ensures { (self.now.order ≤ 20) × (length out.old ≡ curves.count self.now.order) → out.new ≡ curves.list (curves.numbers self.now) self.now.order }
+    {
+        let k = out.len().min(21);
+        out[..k].copy_from_slice(&self.entries[..k]);
+    }
 }
 
-// A list has one entry for each order.
-pub fn read(n: usize, list: &[f64]) -> CurveDerivatives
-    requires { (n ≤ 20) × (length list.now ≡ curves.count n) }
-    ensures { result ≡ curves.made n (curves.in_list n list.now) }
-{
-    let mut entries = [0.0f64; 21];
-    entries[..n + 1].copy_from_slice(list);
-    CurveDerivatives { order: n, entries }
-}
-
-fn write(a: &CurveDerivatives, out: &mut [f64])
-    requires { (a.now.order ≤ 20) × (length out.old ≡ curves.count a.now.order) }
-    ensures { out.new ≡ curves.list (curves.numbers a.now) a.now.order }
-{
-    out.copy_from_slice(&a.entries[..a.order + 1]);
-}
-
-// A formula on two jets, at the smaller order. Curves and surfaces, numbers and vectors have each their own: document 01 keeps their formulas apart.
+// A formula on two jets, at the smaller order. Numbers and vectors have each their own by document 01; [i] and [i][j], since their formulas differ by a sum more.
 fn on_two(
     f: Operation,
     a: CurveDerivatives,
@@ -64,18 +68,13 @@ impl CurveDerivatives {
     pub fn from_list(order: usize, list: &[f64]) -> Result<CurveDerivatives, Refusal>
         ensures { result ≡ from_list curves order list.now }
     {
-        let a = lists::curve(order, list)?;
-        jets::finite_list(list)?;
-        Ok(a)
+        jets::from_list(order, list)
     }
 
     pub fn into_list(self, out: &mut [f64]) -> Result<(), Refusal>
         ensures { ◌≡◌ {A = Result ⊤ Refusal × List Float} (result, out.new) (into_list curves self out.old) }
     {
-        jets::fits(self.order, out.len(), self.order.min(20) + 1)?;
-        jets::one(&self)?;
-        write(&self, out);
-        Ok(())
+        jets::into_list(&self, out)
     }
 
     pub fn sum(self, other: CurveDerivatives) -> Result<CurveDerivatives, Refusal>

@@ -8,8 +8,5 @@ use calculus::Operation;
 pub fn division_by_zero(f: Operation, y: f64) -> bool
     ensures { result ≡ division_by_zero f y }
 {
-    match f {
-        Operation::Quotient => y == 0.0,
-        _ => false,
-    }
+    matches!(f, Operation::Quotient) && y == 0.0
 }

@@ -1,29 +1,45 @@
 // What the kinds of jet share: the tests before the work, each answering the order at which it is done, and lists.
-ghost use Rattle.std.specs.Prelude.{◌≡◌, ℕ, Bool, cond, min, Ok, Err};
+ghost use Rattle.std.specs.Prelude.{◌≡◌, ◌≤◌, List, length, Float, cond, min, Result, Ok, Err, ⊤};
+ghost use Rattle.refusals.specs.declared.Refusal.{Refusal};
 ghost use Rattle.refusals.specs.declared.Refusal.TheVariants.{InputNotFinite};
+ghost use Rattle.calculus.specs.JetKind.{JetKind, finite_up_to, from_list, into_list, of_list, returned_jet};
 ghost use Rattle.formulas.specs.Numbers.{finite_list};
-ghost use Rattle.derivatives.specs.Jets.{one_at, less_at, both_at, asked_at, returned_at, fits_at};
+ghost use Rattle.derivatives.specs.Jets.{one_at, less_at, both_at, asked_at};
 
 use refusals::Refusal;
 
 // A kind of jet.
 pub trait Jet: Copy {
-    ghost order: { Self → ℕ };
+    // Its entries by their orders.
+    ghost entries: { Type 0 };
 
-    // Whether the entries up to an order are finite.
-    ghost finite: { Self → ℕ → Bool };
+    ghost kind: { JetKind Float entries Self };
+
+    // A list of it is finite where its floats are.
+    ghost list_law: { (l : List Float) → kind.finite_list l ≡ finite_list l };
 
     fn order(&self) -> usize
-        ensures { result ≡ order self.now };
+        ensures { result ≡ kind.order self.now };
 
     // An order above 20, for which a jet has no entries, is cut to 20.
     fn is_finite(&self, n: usize) -> bool
-        ensures { result ≡ finite self.now (min n 20) };
+        ensures { result ≡ finite_up_to kind self.now (min n 20) };
+
+    // How many floats a list of the order n has.
+    fn count(n: usize) -> usize
+        ensures { n ≤ 20 → result ≡ kind.count n };
+
+    // The jet of such a list, and into one. With a list of another length nothing traps, and nothing is said.
+    fn read(n: usize, list: &[f64]) -> Self
+        ensures { (n ≤ 20) × (length list.now ≡ kind.count n) → result ≡ kind.made n (kind.in_list n list.now) };
+
+    fn write(&self, out: &mut [f64])
+        ensures { (kind.order self.now ≤ 20) × (length out.old ≡ kind.count (kind.order self.now)) → out.new ≡ kind.list (kind.numbers self.now) (kind.order self.now) };
 }
 
 // One jet, at its order: 1 where that is above 20, and 5 where the jet is not finite.
 pub fn one<A: Jet>(a: &A) -> Result<usize, Refusal>
-    ensures { result ≡ one_at (A.order a.now) (A.finite a.now) }
+    ensures { result ≡ one_at (A.kind.order a.now) (finite_up_to A.kind a.now) }
 {
     let n = a.order();
     if 20 < n {
@@ -37,18 +53,16 @@ pub fn one<A: Jet>(a: &A) -> Result<usize, Refusal>
 
 // The order of a jet's derivative: 2 where there is none.
 pub fn less<A: Jet>(a: &A) -> Result<usize, Refusal>
-    ensures { result ≡ less_at (A.order a.now) (A.finite a.now) }
+    ensures { result ≡ less_at (A.kind.order a.now) (finite_up_to A.kind a.now) }
 {
-    let n = a.order();
-    if n == 0 {
-        return Err(Refusal::Shape);
-    }
-    Ok(one(a)? - 1)
+    let n = orders::less(a.order())?;
+    one(a)?;
+    Ok(n)
 }
 
 // Two jets, at the smaller order.
 pub fn both<A: Jet, B: Jet>(a: &A, b: &B) -> Result<usize, Refusal>
-    ensures { result ≡ both_at (A.order a.now) (B.order b.now) (A.finite a.now) (B.finite b.now) }
+    ensures { result ≡ both_at (A.kind.order a.now) (B.kind.order b.now) (finite_up_to A.kind a.now) (finite_up_to B.kind b.now) }
 {
     let n = orders::common(a.order(), b.order())?;
     if !a.is_finite(n) || !b.is_finite(n) {
@@ -59,7 +73,7 @@ pub fn both<A: Jet, B: Jet>(a: &A, b: &B) -> Result<usize, Refusal>
 
 // Two jets, at the order k that is asked: 2 where it exceeds one of theirs.
 pub fn asked<A: Jet, B: Jet>(a: &A, b: &B, k: usize) -> Result<usize, Refusal>
-    ensures { result ≡ asked_at (A.order a.now) (B.order b.now) k (A.finite a.now) (B.finite b.now) }
+    ensures { result ≡ asked_at (A.kind.order a.now) (B.kind.order b.now) k (finite_up_to A.kind a.now) (finite_up_to B.kind b.now) }
 {
     orders::asked(a.order(), b.order(), k)?;
     if !a.is_finite(k) || !b.is_finite(k) {
@@ -70,7 +84,7 @@ pub fn asked<A: Jet, B: Jet>(a: &A, b: &B, k: usize) -> Result<usize, Refusal>
 
 // A jet that has been computed: 1 where its order is above 20, and 10 where it is not finite.
 pub fn returned<A: Jet>(a: A) -> Result<A, Refusal>
-    ensures { result ≡ returned_at a (A.order a) (A.finite a) }
+    ensures { result ≡ returned_jet A.kind a }
 {
     let n = a.order();
     if 20 < n {
@@ -82,19 +96,6 @@ pub fn returned<A: Jet>(a: A) -> Result<A, Refusal>
     Ok(a)
 }
 
-// A list of so many floats, of which `count` are due at the order n: 1 where that is above 20, and 2 where they are not as many.
-pub fn fits(n: usize, length: usize, count: usize) -> Result<(), Refusal>
-    ensures { result ≡ fits_at n length count }
-{
-    if 20 < n {
-        return Err(Refusal::OrderAbove20);
-    }
-    if length != count {
-        return Err(Refusal::Shape);
-    }
-    Ok(())
-}
-
 // 5 where a float of a list is not finite.
 pub fn finite_list(list: &[f64]) -> Result<(), Refusal>
     ensures { result ≡ cond (finite_list list.now) (Ok tt) (Err InputNotFinite) }
@@ -102,5 +103,33 @@ pub fn finite_list(list: &[f64]) -> Result<(), Refusal>
     if !formulas::finite_list(list) {
         return Err(Refusal::InputNotFinite);
     }
+    Ok(())
+}
+
+// The jet of a list whose floats are not tested: each function on jets tests those that it reads. 1 where the order is above 20, and 2 where the count
+// of floats is not that of the order.
+pub fn of_list<J: Jet>(order: usize, list: &[f64]) -> Result<J, Refusal>
+    ensures { result ≡ of_list J.kind order list.now }
+{
+    orders::fits(order, list.len(), J::count(order))?;
+    Ok(J::read(order, list))
+}
+
+// The same, and 5 where a float is not finite.
+pub fn from_list<J: Jet>(order: usize, list: &[f64]) -> Result<J, Refusal>
+    ensures { result ≡ from_list J.kind order list.now }
+{
+    let a = of_list(order, list)?;
+    finite_list(list)?;
+    Ok(a)
+}
+
+pub fn into_list<J: Jet>(a: &J, out: &mut [f64]) -> Result<(), Refusal>
+    ensures { ◌≡◌ {A = Result ⊤ Refusal × List Float} (result, out.new) (into_list J.kind a.now out.old) }
+{
+    let n = a.order();
+    orders::fits(n, out.len(), J::count(n))?;
+    one(a)?;
+    a.write(out);
     Ok(())
 }

@@ -12,7 +12,6 @@ mod composite;
 mod curve;
 mod formula;
 pub mod jets;
-pub mod lists;
 mod over_lists;
 mod parameter;
 mod surface;

@@ -4,19 +4,20 @@ ghost use Rattle.refusals.specs.Number.{number_of};
 ghost use Rattle.given.specs.Lists.{input, output};
 ghost use Rattle.derivatives.specs.Answer.{curves, surfaces, parameters};
 
-use crate::{CurveDerivatives, ParameterCurve, SurfaceDerivatives, lists};
-use given::{Lent, Listed, Shape};
+use crate::jets::Jet;
+use crate::{CurveDerivatives, ParameterCurve, SurfaceDerivatives, jets};
+use given::{Lent, Listed};
 use refusals::Refusal;
 
 impl Listed<f64> for CurveDerivatives {
     ghost input = { input curves };
 
     fn test(order: usize, length: usize) -> Result<(), Refusal> {
-        given::list(Shape::Curve, order, length)
+        orders::fits(order, length, CurveDerivatives::count(order))
     }
 
     fn read(order: usize, list: &[f64]) -> CurveDerivatives {
-        lists::curve(order, list).unwrap_or(CurveDerivatives {
+        jets::of_list(order, list).unwrap_or(CurveDerivatives {
             order: 0,
             entries: [0.0; 21],
         })
@@ -27,11 +28,11 @@ impl Listed<f64> for SurfaceDerivatives {
     ghost input = { input surfaces };
 
     fn test(order: usize, length: usize) -> Result<(), Refusal> {
-        given::list(Shape::Surface, order, length)
+        orders::fits(order, length, SurfaceDerivatives::count(order))
     }
 
     fn read(order: usize, list: &[f64]) -> SurfaceDerivatives {
-        lists::surface(order, list).unwrap_or(SurfaceDerivatives {
+        jets::of_list(order, list).unwrap_or(SurfaceDerivatives {
             order: 0,
             entries: [0.0; 231],
         })
@@ -42,11 +43,11 @@ impl Listed<f64> for ParameterCurve {
     ghost input = { input parameters };
 
     fn test(order: usize, length: usize) -> Result<(), Refusal> {
-        given::list(Shape::Parameter, order, length)
+        orders::fits(order, length, ParameterCurve::count(order))
     }
 
     fn read(order: usize, list: &[f64]) -> ParameterCurve {
-        lists::parameter(order, list).unwrap_or(ParameterCurve {
+        jets::of_list(order, list).unwrap_or(ParameterCurve {
             order: 0,
             u: [0.0; 21],
             v: [0.0; 21],
@@ -58,7 +59,7 @@ impl Lent<f64> for CurveDerivatives {
     ghost output = { output curves };
 
     fn due(order: usize, length: usize) -> Result<(), Refusal> {
-        given::list(Shape::Curve, order, length)
+        orders::fits(order, length, CurveDerivatives::count(order))
     }
 
     #[tactic(auto, unfolding(given::specs::Lists::deliver))]
@@ -74,7 +75,7 @@ impl Lent<f64> for SurfaceDerivatives {
     ghost output = { output surfaces };
 
     fn due(order: usize, length: usize) -> Result<(), Refusal> {
-        given::list(Shape::Surface, order, length)
+        orders::fits(order, length, SurfaceDerivatives::count(order))
     }
 
     #[tactic(auto, unfolding(given::specs::Lists::deliver))]

@@ -1,5 +1,5 @@
 -- The answer that entries make: a refusal of them is handed on, and the jet is made of them else. Assumes nothing.
-use Rattle.std.proofs.Common.{◌≡◌, List, [], ◌∷◌, ℕ, ℤ, pos, ◌+◌, ◌≤◌, min, Ok, Err, refl, sym, ap, ◌∙◌}
+use Rattle.std.proofs.Common.{◌≡◌, List, [], ◌∷◌, ℕ, ℤ, pos, ◌≤◌, min, Ok, Err, refl, sym, ap, ◌∙◌}
 use Rattle.std.specs.Prelude.{Result}
 use Rattle.refusals.specs.declared.Refusal.{Refusal}
 use Rattle.whole.specs.Checked.{Whole}

@@ -1,10 +1,6 @@
 -- The carry by histories: its answer is the verdict on all the numbers that it forms, in the order of work, beside the integers' own values; and as
 -- it divides nothing, it is refused exactly where a number that it forms is out of range, and then as out of range. Assumes nothing.
-use mathlib.Core.Path.{◌≡◌, refl, sym, ap, ◌∙◌}
-use mathlib.Core.Bool.{cond}
-use Prim.Native.Nat.{ℕ, ◌≤◌}
-use native.Mathlib.Nat.{le_refl}
-use lib.IntN.{ℤ}
+use Rattle.std.proofs.Common.{◌≡◌, refl, sym, ap, ◌∙◌, cond, ℕ, ◌≤◌, le_refl, ℤ}
 use Rattle.std.specs.Prelude.{Ok, Err}
 use Rattle.std.specs.Result.{result_and}
 use Rattle.refusals.specs.declared.Refusal.TheVariants.{OutOfRange}
@@ -23,9 +19,8 @@ use Rattle.exact_formulas.specs.Entries.{curve_numbers, surface_numbers, curve_v
 use Rattle.exact.specs.Names.{answered_curve}
 use Rattle.exact.specs.Answer.{curve_answer}
 use Rattle.exact.specs.Judged.{histories, judged_curve}
-use Rattle.exact.specs.Inner.{within_orders}
 use Rattle.exact.specs.Composite.{along_curve_at, along_curve}
-use Rattle.exact.proofs.Orders.{ordered}
+use Rattle.exact.proofs.Orders.{within_orders, ordered}
 use Rattle.exact.proofs.Judged.{Settled, settled, Valued, valued, Sound, exact_none, sound_module, curve-judged, curve-exact}
 
 -- ---- the carry of a jet of given numbers

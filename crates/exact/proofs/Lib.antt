@@ -3,7 +3,7 @@ pub mod Judged
 pub mod CarryJudged
 -- jets that agree up to the order have the same answer
 pub mod Same
--- an array that a loop or a copy fills; the answer that entries make
+-- an array that a copy fills; the answer that entries make
 pub mod Filled
 pub mod Answers
 -- the tests of the orders of a carry

@@ -1,9 +1,5 @@
 -- Jets that agree up to the order have the same answer. Assumes nothing.
-use mathlib.Core.Path.{◌≡◌, ap, ap₂}
-use mathlib.Core.List.{List}
-use Prim.Native.Nat.{ℕ, suc, ◌+◌, ◌≤◌}
-use native.Mathlib.Omega.{arith}
-use lib.IntN.{ℤ, pos}
+use Rattle.std.proofs.Common.{◌≡◌, ap, ap₂, List, ℕ, suc, ◌+◌, ◌≤◌, arith, ℤ, pos}
 use Rattle.std.specs.Prelude.{Ok}
 use Rattle.whole.specs.Checked.{Whole}
 use Rattle.calculus.specs.Graded.{triangle, place, graded}

@@ -10,7 +10,7 @@ use Rattle.exact_formulas.specs.Kinds.{checked}
 use Rattle.exact.specs.declared.SurfaceDerivatives.{SurfaceDerivatives}
 use Rattle.exact.specs.declared.ParameterCurve.{ParameterCurve}
 use Rattle.exact.specs.declared.CurveDerivatives.{CurveDerivatives}
-use Rattle.exact.specs.Answer.{curves, surfaces, parameters, curve_answer}
+use Rattle.exact.specs.Answer.{surfaces, parameters, curve_answer}
 
 -- one order, which is zero at order 0
 abbrev pub along_curve_at : SurfaceDerivatives → ParameterCurve → ℕ → Whole

@@ -2,4 +2,3 @@ pub mod Answer
 pub mod Names
 pub mod Judged
 pub mod Composite
-pub mod Inner

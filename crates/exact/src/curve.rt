@@ -20,10 +20,7 @@ fn on_two(
 ) -> Result<CurveDerivatives, Refusal>
     ensures { result ≡ on_curves (curve_operation checked op) a b }
 {
-    if 20 < a.order || 20 < b.order {
-        return Err(Refusal::OrderAbove20);
-    }
-    let order = a.order.min(b.order);
+    let order = orders::common(a.order, b.order)?;
     let entries = exact_formulas::curve(op, &a.entries, &b.entries, order)?;
     Ok(CurveDerivatives { order, entries })
 }
@@ -33,12 +30,7 @@ impl CurveDerivatives {
     pub fn from_list(order: usize, list: &[i64]) -> Result<CurveDerivatives, Refusal>
         ensures { result ≡ from_list curves order list.now }
     {
-        if 20 < order {
-            return Err(Refusal::OrderAbove20);
-        }
-        if list.len() != order + 1 {
-            return Err(Refusal::Shape);
-        }
+        orders::fits(order, list.len(), order.min(20) + 1)?;
         let mut entries = [0i64; 21];
         entries[..order + 1].copy_from_slice(list);
         Ok(CurveDerivatives { order, entries })
@@ -49,12 +41,7 @@ impl CurveDerivatives {
         ensures { ◌≡◌ {A = Result ⊤ Refusal × List ℤ} (result, out.new) (into_list curves self out.old) }
     {
         let n = self.order;
-        if 20 < n {
-            return Err(Refusal::OrderAbove20);
-        }
-        if out.len() != n + 1 {
-            return Err(Refusal::Shape);
-        }
+        orders::fits(n, out.len(), n.min(20) + 1)?;
         out.copy_from_slice(&self.entries[..n + 1]);
         Ok(())
     }
@@ -74,19 +61,10 @@ impl CurveDerivatives {
     pub fn derivative(self) -> Result<CurveDerivatives, Refusal>
         ensures { result ≡ differentiated curves derivative self }
     {
-        let n = self.order;
-        if 20 < n {
-            return Err(Refusal::OrderAbove20);
-        }
-        if n == 0 {
-            return Err(Refusal::Shape);
-        }
+        let n = orders::less(self.order)?;
         let mut entries = [0i64; 21];
-        entries[..n].copy_from_slice(&self.entries[1..n + 1]);
-        Ok(CurveDerivatives {
-            order: n - 1,
-            entries,
-        })
+        entries[..n + 1].copy_from_slice(&self.entries[1..n + 2]);
+        Ok(CurveDerivatives { order: n, entries })
     }
 
     // One entry of the product.
@@ -97,13 +75,8 @@ impl CurveDerivatives {
     ) -> Result<i64, Refusal>
         ensures { result ≡ on_curves_at (product checked) self other order }
     {
-        if 20 < self.order || 20 < other.order || 20 < order {
-            return Err(Refusal::OrderAbove20);
-        }
-        if self.order.min(other.order) < order {
-            return Err(Refusal::Shape);
-        }
-        exact_formulas::curve_product(&self.entries, &other.entries, order)
+        let n = orders::asked(self.order, other.order, order)?;
+        exact_formulas::curve_product(&self.entries, &other.entries, n)
     }
 
     // The product, by Leibniz's rule.

@@ -2,9 +2,6 @@
 // refuses by document 01's table. Anybody may write the fields: every function tests the orders.
 #![tactic(auto)]
 
-ghost use Rattle.std.specs.Prelude.{◌≡◌, ◌+◌, ◌≤◌};
-ghost use Rattle.calculus.specs.Graded.{index as index_of};
-
 mod composite;
 mod curve;
 mod lists;
@@ -31,14 +28,4 @@ pub struct ParameterCurve {
     pub order: usize,
     pub u: [i64; 21],
     pub v: [i64; 21],
-}
-
-// Where [i][j] stands in a surface's array. `exact_formulas` has the same line for itself: shared, it would have to test i and j in inner loops.
-#[tactic(auto, unfolding(calculus::specs::Graded::index))]
-fn index(i: usize, j: usize) -> usize
-    requires { i + j ≤ 20 }
-    ensures { result ≡ index_of i j }
-{
-    let n = i + j;
-    n * (n + 1) / 2 + i
 }

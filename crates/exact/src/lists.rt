@@ -6,14 +6,14 @@ ghost use Rattle.given.specs.Lists.{input, output};
 ghost use Rattle.exact.specs.Answer.{curves, surfaces, parameters};
 
 use crate::{CurveDerivatives, ParameterCurve, SurfaceDerivatives};
-use given::{Lent, Listed, Shape};
+use given::{Lent, Listed};
 use refusals::Refusal;
 
 impl Listed<i64> for CurveDerivatives {
     ghost input = { input curves };
 
-    fn test(order: usize, count: usize) -> Result<(), Refusal> {
-        given::list(Shape::Curve, order, count)
+    fn test(order: usize, length: usize) -> Result<(), Refusal> {
+        orders::fits(order, length, order.min(20) + 1)
     }
 
     fn read(order: usize, list: &[i64]) -> CurveDerivatives {
@@ -27,8 +27,8 @@ impl Listed<i64> for CurveDerivatives {
 impl Listed<i64> for SurfaceDerivatives {
     ghost input = { input surfaces };
 
-    fn test(order: usize, count: usize) -> Result<(), Refusal> {
-        given::list(Shape::Surface, order, count)
+    fn test(order: usize, length: usize) -> Result<(), Refusal> {
+        orders::fits(order, length, calculus::surface_count(order))
     }
 
     fn read(order: usize, list: &[i64]) -> SurfaceDerivatives {
@@ -42,8 +42,8 @@ impl Listed<i64> for SurfaceDerivatives {
 impl Listed<i64> for ParameterCurve {
     ghost input = { input parameters };
 
-    fn test(order: usize, count: usize) -> Result<(), Refusal> {
-        given::list(Shape::Parameter, order, count)
+    fn test(order: usize, length: usize) -> Result<(), Refusal> {
+        orders::fits(order, length, 2 * (order.min(20) + 1))
     }
 
     fn read(order: usize, list: &[i64]) -> ParameterCurve {
@@ -58,8 +58,8 @@ impl Listed<i64> for ParameterCurve {
 impl Lent<i64> for CurveDerivatives {
     ghost output = { output curves };
 
-    fn due(order: usize, count: usize) -> Result<(), Refusal> {
-        given::list(Shape::Curve, order, count)
+    fn due(order: usize, length: usize) -> Result<(), Refusal> {
+        orders::fits(order, length, order.min(20) + 1)
     }
 
     #[tactic(auto, unfolding(given::specs::Lists::deliver))]
@@ -74,8 +74,8 @@ impl Lent<i64> for CurveDerivatives {
 impl Lent<i64> for SurfaceDerivatives {
     ghost output = { output surfaces };
 
-    fn due(order: usize, count: usize) -> Result<(), Refusal> {
-        given::list(Shape::Surface, order, count)
+    fn due(order: usize, length: usize) -> Result<(), Refusal> {
+        orders::fits(order, length, calculus::surface_count(order))
     }
 
     #[tactic(auto, unfolding(given::specs::Lists::deliver))]

@@ -1,18 +1,17 @@
 -- The terms of the carry's tensor, its running totals and its entries, at the checked kind: the first refusal stays. Assumes nothing.
-use Rattle.std.proofs.Common.{◌≡◌, true, refl, sym, ap, ap₂, ◌∙◌, List, [], ◌∷◌, ℕ, zero, suc, ◌+◌, ◌≤◌, ◌<◌, ℤ, pos, ◌+ℤ◌, arith, length, take, get_or, Some, Result, Ok, Err}
-use native.Mathlib.Nat.{suc-ne-zero, add-zero}
+use Rattle.std.proofs.Common.{◌≡◌, refl, sym, ap, ap₂, ◌∙◌, List, [], ◌∷◌, ℕ, zero, suc, ◌+◌, ◌-◌, ◌*◌, ◌/◌, ◌^◌, ◌≤◌, ◌<◌, ℤ, pos, ◌+ℤ◌, ◌*ℤ◌, arith, length, get_or, Ok, Err, FitsSigned, w64, suc-ne-zero}
+use Rattle.std.proofs.Math.Nat.{add-zero}
+use lib.Count as Count
 use Rattle.refusals.specs.declared.Refusal.{Refusal}
 use Rattle.partitions.specs.Parts.{total, lists, multiplicity}
-use Rattle.partitions.specs.Count.{is_list}
-use Rattle.partitions.specs.Walk.{stepped, remaining}
-use Rattle.partitions.specs.declared.CompositionIter.{CompositionIter}
 use Rattle.calculus.specs.Kind.{regular}
 use Rattle.calculus.specs.Carry.{digits, factors, summand, through_len, ones, coordinates, surface_entry, composite_derivative, composite_derivatives}
 use Rattle.calculus.specs.InTurn.{along_list}
 use Rattle.calculus.specs.Graded.{index}
-use Rattle.calculus.proofs.LoopWalking.{Walks, goes, is-list, shorter, multiplicity-fits}
+use Rattle.calculus.proofs.LoopWalking.{multiplicity-fits}
 use Rattle.whole.specs.Checked.{Whole, both, formed}
-use Rattle.whole.proofs.Range.{formed-in}
+use Rattle.calculus.proofs.LoopBits.{entry_at}
+use Rattle.whole.proofs.Range.{formed-in, raw-is, tz}
 use Rattle.exact_formulas.specs.Kinds.{checked}
 use Rattle.exact_formulas.specs.Entries.{curve_values, surface_values}
 
@@ -41,6 +40,21 @@ module _ (entries u v : List ℤ) where
   carried-derivative zero f = absurd (f refl)
   carried-derivative (suc m) f = refl
 
+-- the term of a mask, as the loop forms it: from the entry that the mask names, and the mask's factors
+module _ (entries u v : List ℤ) (l : List ℕ) (mask : ℕ) (below : mask < 2 ^ length l) where
+  abbrev named : ℤ
+  named = get_or entries (length l * (length l + 1) / 2 + length l - Count.ones mask) (pos 0)
+
+  entry-is : Ok named ≡ surface_entry (surface_values entries) (digits 2 l mask)
+  entry-is = sym (entry_at (λ k. Ok (get_or entries k (pos 0))) l mask below)
+
+  pub term-refused : {c : Refusal} → Err c ≡ factors checked 2 (coordinates (curve_values u) (curve_values v)) checked.one l mask → Err c ≡ term_of entries u v l mask
+  term-refused e = ap₂ checked.times entry-is e
+
+  pub term-formed : {p : ℤ} → FitsSigned w64 named → FitsSigned w64 p → Ok p ≡ factors checked 2 (coordinates (curve_values u) (curve_values v)) checked.one l mask →
+      formed (tz named *ℤ tz p) ≡ term_of entries u v l mask
+  term-formed fx fp e = raw-is fx fp (λ y z. formed (y *ℤ z)) ∙ ap₂ checked.times entry-is e
+
 -- a multiplicity is a number of 64 bits
 pub coefficient-formed : (l : List ℕ) → total l ≤ 20 → formed (pos (multiplicity l)) ≡ Ok (pos (multiplicity l))
 coefficient-formed l h = formed-in (pos (multiplicity l)) (multiplicity-fits l h)
@@ -66,29 +80,3 @@ module _ (entries u v : List ℤ) (n : ℕ) {c : Refusal} where
   through-stays k zero m e h = h ∙ ap (through entries u v n) (sym (e ∙ add-zero k))
   through-stays k (suc d) zero e h = absurd (omega (arith, e))
   through-stays k (suc d) (suc m) e h = through-refused (λ x y. formed (x +ℤ y)) (terms entries u v) (lists n (suc m)) (through-stays k d m (omega (arith, e)) h)
-
--- ---- a walk that is stepped hands out the parts p
-module _ (order len : ℕ) (h : 0 < len) (g : len ≤ order) (f : order ≤ 20) (w : CompositionIter) (k : Walks order len w) {p : List ℕ} (e : (stepped w).item ≡ Ok (Some p)) where
-  pub counts : (is_list (take len p) ≡ true) × (total (take len p) ≤ 20)
-  counts = let s = (goes order len h g f w k p e).2 in rw s.parts (is-list order len h g f _ s.is)
-
-  pub fewer : length (remaining (stepped w).walk) < length (remaining w)
-  fewer = let s = (goes order len h g f w k p e).2 in shorter s.left s.first
-
-  pub walks-on : Walks order len (stepped w).walk
-  walks-on = (goes order len h g f w k p e).2.walks
-
-  -- the running total takes in the term x of those parts
-  pub one-list-more : {A B : Type 0} (op : A → B → A) (t : List ℕ → B) (sum : A) {all : A} {x : B} → along_list op sum t (remaining w) ≡ all → x ≡ t (take len p) →
-      along_list op (op sum x) t (remaining (stepped w).walk) ≡ all
-  unfolding along_list
-  one-list-more op t sum a i =
-      let s = (goes order len h g f w k p e).2 in
-      ap₂ (λ y ls. along_list op (op sum y) t ls) (i ∙ ap t s.parts) s.left ∙ sym (ap (along_list op sum t) s.first) ∙ a
-
--- ---- a count is one number, and no refusal besides
-pub value_of : {m n : ℕ} {r : Result ℕ Refusal} → r ≡ Ok m → r ≡ Ok n → m ≡ n
-value_of p q = cc
-
-pub not-both : {n : ℕ} {e : Refusal} {r : Result ℕ Refusal} → r ≡ Err e → r ≡ Ok n → ⊥
-not-both p q = cc

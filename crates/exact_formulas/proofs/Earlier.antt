@@ -1,10 +1,5 @@
 -- A formula reads of the entries before it only those that are formed: what the array holds serves as well. Assumes nothing.
-use mathlib.Core.Path.{◌≡◌, refl, ap}
-use mathlib.Core.List.{List}
-use Prim.Native.Nat.{ℕ, ◌+◌, ◌≤◌, ◌<◌}
-use native.Mathlib.Nat.{le_refl}
-use native.Mathlib.Omega.{arith}
-use lib.IntN.{ℤ, pos}
+use Rattle.std.proofs.Common.{◌≡◌, refl, ap, List, ℕ, ◌+◌, ◌≤◌, ◌<◌, le_refl, arith, ℤ, pos}
 use Rattle.std.specs.Prelude.{Ok}
 use Rattle.whole.specs.Checked.{Whole}
 use Rattle.calculus.specs.Rising.{before, rising, before_entry, rising_rows}

@@ -1,6 +1,5 @@
 -- The entries that the formulas of the loops form in turn are those of the four operations. Assumes nothing.
-use mathlib.Core.Path.{◌≡◌, refl}
-use Prim.Native.Nat.{ℕ}
+use Rattle.std.proofs.Common.{◌≡◌, refl, ℕ}
 use Rattle.whole.specs.Checked.{Whole}
 use Rattle.calculus.specs.declared.Operation.{Operation}
 use Rattle.calculus.specs.declared.Operation.TheVariants.{Sum, Difference, Product, Quotient}

@@ -6,27 +6,16 @@ ghost use Rattle.exact_lists.specs.Delivery.{deliver_whole, deliver_count};
 use refusals::Refusal;
 
 // The list's test comes first.
-#[tactic(auto, unfolding(crate::specs::Delivery::deliver_whole))]
 pub fn whole(answer: Result<i64, Refusal>, out: &mut [i64]) -> Result<(), Refusal>
     ensures { ◌≡◌ {A = ℕ × List ℤ} (number_of result, out.new) (deliver_whole answer out.old) }
 {
-    given::count(1, out.len())?;
-    out[0] = answer?;
-    Ok(())
+    given::alone(answer, out)
 }
 
 // A count's list is tested after an order (1), and before a part list (3).
-#[tactic(auto, unfolding(crate::specs::Delivery::deliver_count))]
 pub fn count(answer: Result<u64, Refusal>, out: &mut [u64]) -> Result<(), Refusal>
     ensures { ◌≡◌ {A = ℕ × List ℕ} (number_of result, out.new) (deliver_count answer out.old) }
 {
-    let tested = given::count(1, out.len());
-    match answer {
-        Ok(value) => {
-            tested?;
-            out[0] = value;
-            Ok(())
-        }
-        Err(refusal) => given::first(Err(refusal), tested),
-    }
+    given::first(answer.and(Ok(())), given::count(1, out.len()))?;
+    given::alone(answer, out)
 }

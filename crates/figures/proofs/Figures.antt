@@ -1,10 +1,5 @@
 -- Document 01's figures that are to be proved, in its order, each as what a public function's contract says of it. By computation; assumes nothing.
-use mathlib.Core.Path.{◌≡◌, refl}
-use mathlib.Core.Bool.{false}
-use mathlib.Core.List.{List, [], ◌∷◌, ◌++◌, map}
-use Prim.Native.Nat.{ℕ, ◌^◌, ◌+◌, ◌-◌}
-use lib.IntN.{ℤ, pos}
-use lib.ListN.{take, replicate}
+use Rattle.std.proofs.Common.{◌≡◌, refl, false, List, [], ◌∷◌, ◌++◌, map, ℕ, ◌^◌, ◌+◌, ◌-◌, ℤ, pos, take, replicate}
 use lib.Ieee.{of_bits, of_int, add, sub, mul, div, neg, eq}
 use Rattle.partitions.specs.Parts.{total, fact, parts, divide, runs_from, runs, multiplicity}
 use Rattle.partitions.specs.Count.{counted, falls, stirling, stirling_of}

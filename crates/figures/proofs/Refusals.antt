@@ -1,9 +1,5 @@
 -- The small inputs of document 01's refusal table, each as what a public function's contract says of it. By computation; assumes nothing.
-use mathlib.Core.Path.{◌≡◌, refl}
-use mathlib.Core.List.{List, [], ◌∷◌}
-use Prim.Native.Nat.{ℕ}
-use lib.IntN.{ℤ, pos}
-use lib.ListN.{replicate}
+use Rattle.std.proofs.Common.{◌≡◌, refl, List, [], ◌∷◌, ℕ, ℤ, pos, replicate}
 use lib.Ieee.{Float, of_bits, of_int, add, mul}
 use Rattle.partitions.specs.Walk.{started}
 use Rattle.whole.specs.Checked.{formed, divided}

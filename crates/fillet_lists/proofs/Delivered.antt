@@ -1,16 +1,9 @@
 -- What the fillet's functions answer is delivered whole: the functions that write its jets refuse none of them, where each list lent has just
 -- the length that is due. Assumes nothing.
-use mathlib.Core.Path.{◌≡◌, refl, sym, ap, ap₂, ◌∙◌, subst}
-use mathlib.Core.Bool.{Bool, true, false, cond, not, ◌&&◌, ◌||◌}
-use mathlib.Core.List.{List, [], ◌∷◌}
-use Prim.Native.Nat.{ℕ, suc, ◌+◌, ◌*◌, ◌≤◌}
-use native.Mathlib.Omega.{arith}
-use lib.Dec.{ltb, eqb}
-use lib.ListN.{length}
-use lib.Ieee.{Float}
-use lib.Ieee.Scale.{finite}
-use borrow.Author.Tests.{ltb-false, eq-eqb}
-use Rattle.std.specs.Prelude.{Result, Ok, Err, ⊤}
+use Rattle.std.proofs.Common.{◌≡◌, refl, sym, ap, ap₂, ◌∙◌, subst, Bool, true, false, cond, ◌&&◌, ◌||◌, List, [], ◌∷◌, ℕ, suc, ◌+◌, ◌*◌, ◌≤◌, arith, ltb, length, Float, ltb-false, eq-eqb, Result, Ok, Err}
+use Rattle.std.specs.Float.Ieee.Scale.{finite}
+use Rattle.std.proofs.lemmas.Bool.{and_parts, or_parts}
+use Rattle.std.specs.Prelude.{⊤}
 use Rattle.refusals.specs.declared.Refusal.{Refusal}
 use Rattle.refusals.specs.declared.Refusal.TheVariants.{OrderAbove20, Shape, InputNotFinite, AnswerNotFinite}
 use Rattle.calculus.specs.Order.{curve_entries, pairs}
@@ -36,19 +29,6 @@ use Rattle.given.specs.Values.{written}
 use Rattle.given.proofs.Delivered.{by-test}
 use Rattle.vector_derivatives.specs.Answer.{vector_curves}
 use Rattle.derivatives.specs.Answer.{parameters, curves}
-
-and_left : (p q : Bool) → (p && q) ≡ true → p ≡ true
-and_left true q e = refl
-and_left false q e = e
-
-and_right : (p q : Bool) → (p && q) ≡ true → q ≡ true
-and_right true q e = e
-and_right false true e = refl
-and_right false false e = e
-
-or_left : (p q : Bool) → (p || q) ≡ false → p ≡ false
-or_left true q e = e
-or_left false q e = refl
 
 -- ---- one jet of the order k, into a list of just its length
 module _ {X E J : Type 0} (K : JetKind X E J) where
@@ -85,13 +65,14 @@ module _ (d : CenterContactDers) (r : CurveDerivatives) (t : Float) where
       let q = finite_up_to vector_curves a.info.axis_ders n in
       let s = finite_up_to curves a.info.angle_ders n in
       let w = finite a.cosine in
+      let jets : (partial.finite_info a.info n && w) ≡ true → ((p && q) ≡ true) × (s ≡ true) = λ f. and_parts (p && q) s (and_parts (p && q && s) w f).0 in
       by-test Whole (partial.finite_info a.info n && w) (Ok a) (Err AnswerNotFinite)
       (λ f. record {
         low = h;
         axis = refl;
         angle = refl;
-        axis-finite = and_right p q (and_left (p && q) s (and_left (p && q && s) w f));
-        angle-finite = and_right (p && q) s (and_left (p && q && s) w f);
+        axis-finite = (and_parts p q (jets f).0).1;
+        angle-finite = (jets f).1;
       })
       (λ _. tt)
   returned h (Err c) = tt
@@ -111,7 +92,7 @@ module _ (d : CenterContactDers) (r : CurveDerivatives) (t : Float) where
       (λ _. by-test Whole given back (Err InputNotFinite) (λ _. returned (low near) x) (λ _. tt)))
     where
       low : partial.beyond d r ≡ false → n ≤ 19
-      low near = ltb-false 19 n (or_left (ltb 19 n) _ (or_left (ltb 19 n || _) (ltb 20 r.order) near))
+      low near = ltb-false 19 n (or_parts (ltb 19 n) _ (or_parts (ltb 19 n || _) (ltb 20 r.order) near).0).0
 
   pub info-delivered : (a : VderInfoWithCosine) → answer ≡ Ok a → (axis angle cosine : List Float) → length axis ≡ 3 * suc n → length angle ≡ suc n → length cosine ≡ 1 →
       let x = a.info.axis_ders in
@@ -164,7 +145,7 @@ module _ (f : RollingBallFilletSurface) (cc : ContactCircle) (n : ℕ) where
       by-test All (center.beyond f n) (Err OrderAbove20) (cond short (Err Shape) (cond given back (Err InputNotFinite))) (λ _. tt)
       (λ near. by-test All short (Err Shape) (cond given back (Err InputNotFinite)) (λ _. tt)
       (λ _. by-test All given back (Err InputNotFinite)
-      (λ _. back_full (ltb-false 19 n (or_left (ltb 19 n) (center.jets_above20 f) near)) (contacts_at (center.placed f cc) n)) (λ _. tt)))
+      (λ _. back_full (ltb-false 19 n (or_parts (ltb 19 n) (center.jets_above20 f) near).0) (contacts_at (center.placed f cc) n)) (λ _. tt)))
 
   abbrev vector_list : VectorCurveDerivatives → List Float
   vector_list a = flat (curve_entries (vector_numbers a.entries) a.order)
@@ -186,15 +167,16 @@ module _ (f : RollingBallFilletSurface) (cc : ContactCircle) (n : ℕ) where
       let c = finite_up_to vector_curves d.contact1_ders (n + 1) in
       let s = finite_up_to parameters d.uv0_ders (n + 1) in
       let t = finite_up_to parameters d.uv1_ders (n + 1) in
-      let vs = and_left (a && (b && c)) (s && t) m.all-finite in
-      let ps = and_right (a && (b && c)) (s && t) m.all-finite in
-      let bc = and_right a (b && c) vs in
+      let all = and_parts (a && (b && c)) (s && t) m.all-finite in
+      let vs = and_parts a (b && c) all.0 in
+      let bc = and_parts b c vs.1 in
+      let ps = and_parts s t all.1 in
       let five : List Float → List Float → List Float → List Float → List Float → ℕ × Five = λ i j k l r. (0, (i, (j, (k, (l, r))))) in
-      let i = left vector_curves d.center_ders x n low m.center-order ex (and_left a (b && c) vs) in
-      let j = left vector_curves d.contact0_ders p (n + 1) high m.contact0-order ep (and_left b c bc) in
-      let k = left vector_curves d.contact1_ders q (n + 1) high m.contact1-order eq (and_right b c bc) in
-      let l = left parameters d.uv0_ders u (n + 1) high m.uv0-order eu (and_left s t ps) in
-      let r = left parameters d.uv1_ders v (n + 1) high m.uv1-order ev (and_right s t ps) in
+      let i = left vector_curves d.center_ders x n low m.center-order ex vs.0 in
+      let j = left vector_curves d.contact0_ders p (n + 1) high m.contact0-order ep bc.0 in
+      let k = left vector_curves d.contact1_ders q (n + 1) high m.contact1-order eq bc.1 in
+      let l = left parameters d.uv0_ders u (n + 1) high m.uv0-order eu ps.0 in
+      let r = left parameters d.uv1_ders v (n + 1) high m.uv1-order ev ps.1 in
       ap (λ (w : Result CenterContactDers Refusal). deliver_contacts w (x, (p, (q, (u, v))))) z
       ∙ sym (ap₂ (λ (e : List Float × List Float) (w : List Float × (List Float × List Float)). five e.0 e.1 w.0 w.1.0 w.1.1) (ap₂ pair i j) (ap₂ pair k (ap₂ pair l r)))
     where

@@ -1,11 +1,12 @@
 // Circles, fillets and the jets along their edges, as they are handed over in lists.
-ghost use Rattle.std.specs.Prelude.{◌≡◌};
+ghost use Rattle.std.specs.Prelude.{◌≡◌, cond, length, ltb};
 ghost use Rattle.refusals.specs.Number.{number_of};
-ghost use Rattle.fillet_lists.specs.Records.{circle_of, circle_with, fillet_of, ders_of, info_of, fillet_given, five_given, ders_given, contacts_given};
+ghost use Rattle.given.specs.Given.{first as first_of};
+ghost use Rattle.fillet_lists.specs.Records.{circle_of, circle_with, fillet_of, ders_of, info_of, fillet_given, ders_given, contacts_given};
 
 use derivatives::{CurveDerivatives, ParameterCurve};
 use given::values::{float_at, vector_at};
-use given::{Listed, Shape, count, first};
+use given::{Listed, count, first};
 use ieee_vectors::Vector2;
 use refusals::Refusal;
 use rolling_ball_fillet::{
@@ -39,6 +40,28 @@ pub struct Jet<'a> {
     pub list: &'a [f64],
 }
 
+impl<'a> Jet<'a> {
+    pub fn new(order: usize, list: &'a [f64]) -> Jet<'a>
+        ensures order { result.order ≡ order }
+        ensures list { result.list.now ≡ list.now }
+    {
+        Jet { order, list }
+    }
+
+    // The test of the list as that of a J.
+    pub fn test<J: Listed<f64>>(&self) -> Result<(), Refusal>
+        ensures { number_of result ≡ J.input.test self.now.order (length self.now.list.now) }
+    {
+        J::test(self.order, self.list.len())
+    }
+
+    pub fn read<J: Listed<f64>>(&self) -> J
+        ensures { result ≡ J.input.jet self.now.order self.now.list.now }
+    {
+        J::read(self.order, self.list)
+    }
+}
+
 // A circle, with the parameters of its contact points from a list of their own.
 pub fn circle_with(list: &[f64], feet: &[f64]) -> ContactCircle
     ensures { result ≡ circle_with list.now feet.now }
@@ -64,10 +87,10 @@ pub fn fillet_of(
     ensures { result ≡ fillet_of normals.now (edge.entry.order, edge.entry.list.now) (radius.entry.order, radius.entry.list.now) (surface0.entry.order, surface0.entry.list.now) (surface1.entry.order, surface1.entry.list.now) }
 {
     RollingBallFilletSurface {
-        edge_curve: VectorCurveDerivatives::read(edge.order, edge.list),
-        surface0: VectorSurfaceDerivatives::read(surface0.order, surface0.list),
-        surface1: VectorSurfaceDerivatives::read(surface1.order, surface1.list),
-        radius: CurveDerivatives::read(radius.order, radius.list),
+        edge_curve: edge.read(),
+        surface0: surface0.read(),
+        surface1: surface1.read(),
+        radius: radius.read(),
         normal0: vector_at(normals, 0),
         normal1: vector_at(normals, 3),
     }
@@ -89,18 +112,10 @@ impl<'a> Fillet<'a> {
     pub fn test(&self) -> Result<(), Refusal>
         ensures { number_of result ≡ fillet_given self.now.circle.now self.now.feet.now self.now.normals.now (self.now.edge.order, self.now.edge.list.now) (self.now.radius.order, self.now.radius.list.now) (self.now.surface0.order, self.now.surface0.list.now) (self.now.surface1.order, self.now.surface1.list.now) }
     {
-        let edge = given::list(Shape::VectorCurve, self.edge.order, self.edge.list.len());
-        let radius = given::list(Shape::Curve, self.radius.order, self.radius.list.len());
-        let surface0 = given::list(
-            Shape::VectorSurface,
-            self.surface0.order,
-            self.surface0.list.len(),
-        );
-        let surface1 = given::list(
-            Shape::VectorSurface,
-            self.surface1.order,
-            self.surface1.list.len(),
-        );
+        let edge = self.edge.test::<VectorCurveDerivatives>();
+        let radius = self.radius.test::<CurveDerivatives>();
+        let surface0 = self.surface0.test::<VectorSurfaceDerivatives>();
+        let surface1 = self.surface1.test::<VectorSurfaceDerivatives>();
         let jets = first(edge, first(radius, first(surface0, surface1)));
         let normals = first(count(6, self.normals.len()), jets);
         first(
@@ -128,29 +143,24 @@ impl<'a> Fillet<'a> {
     }
 }
 
-// The test of the jets of the centre, the contacts and their parameters, by orders and lengths. The centre's order ends at 19.
+// The first refusal of the tests of the centre's jet, of the order n, and the others'. The centre's order ends at 19.
 fn five(
     n: usize,
-    center: usize,
-    contact0: (usize, usize),
-    contact1: (usize, usize),
-    uv0: (usize, usize),
-    uv1: (usize, usize),
+    center: Result<(), Refusal>,
+    contact0: Result<(), Refusal>,
+    contact1: Result<(), Refusal>,
+    uv0: Result<(), Refusal>,
+    uv1: Result<(), Refusal>,
 ) -> Result<(), Refusal>
-    ensures { number_of result ≡ five_given n center contact0.0 contact0.1 contact1.0 contact1.1 uv0.0 uv0.1 uv1.0 uv1.1 }
+    ensures { number_of result ≡ cond (ltb 19 n) 1 (first_of (number_of center) (first_of (number_of contact0) (first_of (number_of contact1) (first_of (number_of uv0) (number_of uv1))))) }
 {
     if 19 < n {
         return Err(Refusal::OrderAbove20);
     }
-    let a = given::list(Shape::VectorCurve, n, center);
-    let b = given::list(Shape::VectorCurve, contact0.0, contact0.1);
-    let c = given::list(Shape::VectorCurve, contact1.0, contact1.1);
-    let d = given::list(Shape::Parameter, uv0.0, uv0.1);
-    let e = given::list(Shape::Parameter, uv1.0, uv1.1);
-    first(a, first(b, first(c, first(d, e))))
+    first(center, first(contact0, first(contact1, first(uv0, uv1))))
 }
 
-// That of the lists lent for them, at the centre's order n.
+// The test of the lists lent for the centre, the contacts and their parameters, by their lengths, at the centre's order n.
 pub fn lent(
     n: usize,
     center: usize,
@@ -161,11 +171,15 @@ pub fn lent(
 ) -> Result<(), Refusal>
     ensures { number_of result ≡ contacts_given n center contact0 contact1 uv0 uv1 }
 {
-    if 19 < n {
-        return Err(Refusal::OrderAbove20);
-    }
-    let k = n + 1;
-    five(n, center, (k, contact0), (k, contact1), (k, uv0), (k, uv1))
+    let k = n.saturating_add(1);
+    five(
+        n,
+        VectorCurveDerivatives::test(n, center),
+        VectorCurveDerivatives::test(k, contact0),
+        VectorCurveDerivatives::test(k, contact1),
+        ParameterCurve::test(k, uv0),
+        ParameterCurve::test(k, uv1),
+    )
 }
 
 // The jets of the centre, the contacts and their parameters.
@@ -184,11 +198,11 @@ impl<'a> Ders<'a> {
     {
         five(
             self.center.order,
-            self.center.list.len(),
-            (self.contact0.order, self.contact0.list.len()),
-            (self.contact1.order, self.contact1.list.len()),
-            (self.uv0.order, self.uv0.list.len()),
-            (self.uv1.order, self.uv1.list.len()),
+            self.center.test::<VectorCurveDerivatives>(),
+            self.contact0.test::<VectorCurveDerivatives>(),
+            self.contact1.test::<VectorCurveDerivatives>(),
+            self.uv0.test::<ParameterCurve>(),
+            self.uv1.test::<ParameterCurve>(),
         )
     }
 
@@ -196,11 +210,11 @@ impl<'a> Ders<'a> {
         ensures { result ≡ ders_of (self.now.center.order, self.now.center.list.now) (self.now.contact0.order, self.now.contact0.list.now) (self.now.contact1.order, self.now.contact1.list.now) (self.now.uv0.order, self.now.uv0.list.now) (self.now.uv1.order, self.now.uv1.list.now) }
     {
         CenterContactDers {
-            center_ders: VectorCurveDerivatives::read(self.center.order, self.center.list),
-            contact0_ders: VectorCurveDerivatives::read(self.contact0.order, self.contact0.list),
-            contact1_ders: VectorCurveDerivatives::read(self.contact1.order, self.contact1.list),
-            uv0_ders: ParameterCurve::read(self.uv0.order, self.uv0.list),
-            uv1_ders: ParameterCurve::read(self.uv1.order, self.uv1.list),
+            center_ders: self.center.read(),
+            contact0_ders: self.contact0.read(),
+            contact1_ders: self.contact1.read(),
+            uv0_ders: self.uv0.read(),
+            uv1_ders: self.uv1.read(),
         }
     }
 }
@@ -211,7 +225,7 @@ pub fn info(ders: CenterContactDers, axis: Jet, angle: Jet) -> VderInfo
 {
     VderInfo {
         cc_ders: ders,
-        axis_ders: VectorCurveDerivatives::read(axis.order, axis.list),
-        angle_ders: CurveDerivatives::read(angle.order, angle.list),
+        axis_ders: axis.read(),
+        angle_ders: angle.read(),
     }
 }

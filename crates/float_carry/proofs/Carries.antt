@@ -1,12 +1,5 @@
 -- The carry of floats and of vectors: its terms by what the loops hold, and the carried jet by order. Assumes nothing.
-use Rattle.std.proofs.Common.{◌≡◌, true, List, Float, ℕ, zero, suc, ◌≤◌, ◌<◌, Some, Result, Ok, Err, length, take, refl, sym, ap, ap₂, ◌∙◌, suc-ne-zero}
-use Rattle.refusals.specs.declared.Refusal.{Refusal}
-use Rattle.partitions.specs.Parts.{total}
-use Rattle.partitions.specs.Count.{is_list}
-use Rattle.partitions.specs.Walk.{stepped, remaining}
-use Rattle.partitions.specs.declared.CompositionIter.{CompositionIter}
-use Rattle.calculus.specs.InTurn.{along_list}
-use Rattle.calculus.proofs.LoopWalking.{Walks, goes, is-list, shorter}
+use Rattle.std.proofs.Common.{◌≡◌, List, Float, ℕ, zero, suc, refl, suc-ne-zero}
 use Rattle.ieee_vectors.specs.declared.Vector3.{Vector3}
 use Rattle.calculus.specs.Kind.{Module, regular}
 use Rattle.calculus.specs.Carry.{digits, ones, factors, summand, through_len, coordinates, surface_entry, composite_derivative, composite_derivatives}
@@ -45,29 +38,3 @@ carried_jet entries = carried (regular real) (surface_numbers entries)
 
 abbrev pub carried_vectors : (entries u v : List Float) → ℕ → Vector3
 carried_vectors entries = carried vectors (vector_surface_numbers entries)
-
--- ---- a walk that is stepped hands out the parts p
-module _ (order len : ℕ) (h : 0 < len) (g : len ≤ order) (f : order ≤ 20) (w : CompositionIter) (k : Walks order len w) {p : List ℕ} (e : (stepped w).item ≡ Ok (Some p)) where
-  pub counts : (is_list (take len p) ≡ true) × (total (take len p) ≤ 20)
-  counts = let s = (goes order len h g f w k p e).2 in rw s.parts (is-list order len h g f _ s.is)
-
-  pub fewer : length (remaining (stepped w).walk) < length (remaining w)
-  fewer = let s = (goes order len h g f w k p e).2 in shorter s.left s.first
-
-  pub walks-on : Walks order len (stepped w).walk
-  walks-on = (goes order len h g f w k p e).2.walks
-
-  -- the running total takes in the term x of those parts
-  pub one-list-more : {A B : Type 0} (op : A → B → A) (t : List ℕ → B) (sum : A) {all : A} {x : B} → along_list op sum t (remaining w) ≡ all → x ≡ t (take len p) →
-      along_list op (op sum x) t (remaining (stepped w).walk) ≡ all
-  unfolding along_list
-  one-list-more op t sum a i =
-      let s = (goes order len h g f w k p e).2 in
-      ap₂ (λ y ls. along_list op (op sum y) t ls) (i ∙ ap t s.parts) s.left ∙ sym (ap (along_list op sum t) s.first) ∙ a
-
--- ---- a count is one number, and no refusal besides
-pub value_of : {m n : ℕ} {r : Result ℕ Refusal} → r ≡ Ok m → r ≡ Ok n → m ≡ n
-value_of p q = cc
-
-pub not-both : {n : ℕ} {e : Refusal} {r : Result ℕ Refusal} → r ≡ Err e → r ≡ Ok n → ⊥
-not-both p q = cc

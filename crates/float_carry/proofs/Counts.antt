@@ -1,8 +1,7 @@
 -- Multiplicities to order 20 are below 2^53, so a float holds each: none is above the Stirling number of its order and len. Assumes nothing.
-use Rattle.std.proofs.Common.{◌≡◌, refl, sym, ◌∙◌, subst, Bool, true, false, cond, true≢false, List, [], ◌∷◌, ℕ, zero, suc, ◌+◌, ◌*◌, ◌/◌, ◌^◌, ◌≤◌, ◌<◌, lt_of_le_of_lt, le_of_lt, arith, T, ltb, lit<, pos, length, get_or}
+use Rattle.std.proofs.Common.{◌≡◌, refl, sym, ◌∙◌, subst, Bool, true, false, cond, true≢false, List, [], ◌∷◌, ℕ, zero, suc, ◌+◌, ◌*◌, ◌/◌, ◌^◌, ◌≤◌, ◌<◌, lt_of_le_of_lt, le_of_lt, arith, T, ltb, lit<, pos, length, get_or, ltb-true, le-leb}
 use mathlib.Core.List.{Memᴰ}
 use lib.Ieee.{binary64, in_float}
-use borrow.Author.Tests.{ltb-true, le-leb}
 use Rattle.partitions.specs.Parts.{total, multiplicity}
 use Rattle.partitions.specs.Count.{is_list, total_count}
 use Rattle.partitions.proofs.Down.{long}

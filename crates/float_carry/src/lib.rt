@@ -3,26 +3,44 @@
 // above is cut to 20. Floats and vectors have separate functions, as in document 01.
 #![tactic(auto)]
 
-ghost use Rattle.std.specs.Prelude.{◌≡◌, ◌≤◌};
+ghost use Rattle.std.specs.Prelude.{◌≡◌, true, ◌≤◌, length};
 ghost use Rattle.calculus.specs.Carry.{factors as Factors, coordinates};
-ghost use Rattle.partitions.specs.Parts.{total};
+ghost use Rattle.partitions.specs.Parts.{total, multiplicity as counts};
+ghost use Rattle.partitions.specs.Count.{is_list};
 ghost use Rattle.formulas.specs.Real.{real};
 ghost use Rattle.formulas.specs.Numbers.{curve_numbers};
 
 pub mod floats;
 pub mod vectors;
 
-// From one, for each part in turn: the derivative of the part's order of u where the part's bit is 0, and of v where it is 1.
-fn factors(u: &[f64; 21], v: &[f64; 21], list: &[usize], mask: u32) -> f64
-    requires { total list.now ≤ 20 }
-    ensures { result ≡ Factors real 2 (coordinates (curve_numbers u.now) (curve_numbers v.now)) real.one list.now mask }
-{
-    let mut product = 1.0f64;
-    let mut rest = mask;
-    for a in list {
-        let x = if rest % 2 == 0 { u[*a] } else { v[*a] };
-        product = product * x;
-        rest = rest / 2;
+// A part list of an order up to 20, which so has no more parts.
+#[derive(Clone, Copy)]
+struct Parts<'a> {
+    list: &'a [usize],
+    ghost falling: { is_list list.now ≡ true },
+    ghost small: { total list.now ≤ 20 },
+    ghost short: { length list.now ≤ 20 },
+}
+
+impl<'a> Parts<'a> {
+    // How often the list counts: of a part list that is never refused.
+    fn multiplicity(&self) -> f64
+        ensures { result ≡ real.of_nat (counts self.now.list.now) }
+    {
+        partitions::multiplicity(self.list).unwrap_or(0) as f64
     }
-    product
+
+    // From one, for each part in turn: the derivative of the part's order of u where the part's bit is 0, and of v where it is 1.
+    fn factors(&self, u: &[f64; 21], v: &[f64; 21], mask: u32) -> f64
+        ensures { result ≡ Factors real 2 (coordinates (curve_numbers u.now) (curve_numbers v.now)) real.one self.now.list.now mask }
+    {
+        let mut product = 1.0f64;
+        let mut rest = mask;
+        for a in self.list {
+            let x = if rest % 2 == 0 { u[*a] } else { v[*a] };
+            product = product * x;
+            rest = rest / 2;
+        }
+        product
+    }
 }

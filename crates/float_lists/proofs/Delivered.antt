@@ -1,12 +1,7 @@
 -- An answered jet of floats is written whole: given/proofs/Delivered.antt for each operation over lists that answers a jet. What its list lent
 -- has then, beside 0 or another number, is `two-left`, `at_left` and `one_left` there. Here: it refuses what is given, or as the operation does,
 -- and nothing else. Assumes nothing.
-use mathlib.Core.Path.{◌≡◌, refl, ap, ◌∙◌}
-use mathlib.Core.Bool.{true, cond}
-use mathlib.Core.List.{List}
-use Prim.Native.Nat.{ℕ, suc, ◌-◌, ◌≤◌}
-use native.Mathlib.Nat.{zero-add}
-use lib.ListN.{length}
+use Rattle.std.proofs.Common.{◌≡◌, refl, ap, ◌∙◌, true, cond, List, ℕ, suc, ◌-◌, ◌≤◌, zero-add, length}
 use lib.Ieee.{Float, nan}
 use lib.Ieee.Scale.{finite}
 use Rattle.std.specs.Prelude.{Result, Err}

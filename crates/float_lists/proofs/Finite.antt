@@ -1,10 +1,5 @@
 -- Entries that stand among entries that pass a test pass it too. Assumes nothing.
-use mathlib.Core.Path.{◌≡◌, refl, sym, ap, ◌∙◌}
-use mathlib.Core.Bool.{Bool, true, false}
-use Prim.Native.Nat.{ℕ, zero, suc, ◌<◌}
-use native.Mathlib.Nat.{le_refl}
-use native.Mathlib.Numerals.{add-one}
-use native.Mathlib.Omega.{arith}
+use Rattle.std.proofs.Common.{◌≡◌, refl, sym, ap, ◌∙◌, Bool, true, false, ℕ, zero, suc, ◌<◌, le_refl, add-one, arith}
 use Rattle.formulas.specs.Numbers.{all_pass}
 use Rattle.formulas.proofs.Finite.{none, more, stop}
 

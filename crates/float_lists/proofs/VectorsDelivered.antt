@@ -1,11 +1,5 @@
 -- An answered jet of vectors, or of floats from such, is written whole: as Delivered.antt says it of jets of floats. Assumes nothing.
-use mathlib.Core.Path.{◌≡◌, refl, ap, ◌∙◌, subst}
-use mathlib.Core.Bool.{true, cond, ◌&&◌}
-use mathlib.Core.List.{List}
-use Prim.Native.Nat.{ℕ, suc, ◌*◌, ◌-◌, ◌≤◌}
-use native.Mathlib.Nat.{zero-add}
-use lib.Dec.{ltb}
-use lib.ListN.{length}
+use Rattle.std.proofs.Common.{◌≡◌, refl, ap, ◌∙◌, subst, true, cond, ◌&&◌, List, ℕ, suc, ◌*◌, ◌-◌, ◌≤◌, zero-add, ltb, length}
 use lib.Ieee.{Float}
 use Rattle.std.specs.Prelude.{Result, Err}
 use Rattle.refusals.specs.declared.Refusal.{Refusal}

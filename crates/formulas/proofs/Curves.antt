@@ -1,9 +1,8 @@
 -- An array of a curve's entries, as a loop fills it and as it is read; and what a formula reads of the entries before it. Assumes nothing.
-use Rattle.std.proofs.Common.{◌≡◌, Bool, true, false, cond, List, ◌++◌, Float, ℕ, suc, ◌+◌, ◌-◌, ◌≤◌, ◌<◌, ltb, length, get_or, drop, set, replicate, refl, sym, ap, ap₂, ◌∙◌, arith, length-append, length-drop, le_refl}
+use Rattle.std.proofs.Common.{◌≡◌, Bool, true, false, cond, List, ◌++◌, Float, ℕ, suc, ◌+◌, ◌-◌, ◌≤◌, ◌<◌, ltb, length, get_or, drop, set, replicate, refl, sym, ap, ap₂, ◌∙◌, arith, length-append, length-drop, le_refl, lt-ltb, ltb-true, ltb-false}
 use Rattle.std.specs.Float.{nan}
 use Rattle.std.proofs.lemmas.List.{get_or_append_left, get_or-drop, length-replicate, get_or-replicate}
 use Rattle.std.proofs.Math.Seq.{ext_get_or, get_or-append_right}
-use borrow.Author.Tests.{lt-ltb, ltb-true, ltb-false}
 use Rattle.calculus.specs.Array.{filled, curve_array}
 use Rattle.calculus.specs.Kind.{regular}
 use Rattle.calculus.specs.Rising.{before, rising}

@@ -1,10 +1,9 @@
 -- A loop that asks of each entry whether it is finite, and stops at the first that is not. Assumes nothing.
-use Rattle.std.proofs.Common.{◌≡◌, Bool, true, false, cond, ◌&&◌, List, Float, ℕ, zero, suc, ◌+◌, ◌≤◌, ◌<◌, ltb, length, take, get_or, refl, sym, ap, ap₂, ◌∙◌, add-one, arith, le_refl, not-suc-le-zero}
+use Rattle.std.proofs.Common.{◌≡◌, Bool, true, false, cond, ◌&&◌, List, Float, ℕ, zero, suc, ◌+◌, ◌≤◌, ◌<◌, ltb, length, take, get_or, refl, sym, ap, ap₂, ◌∙◌, add-one, arith, le_refl, not-suc-le-zero, le-ltb}
 use Rattle.std.specs.List.{list_all}
 use Rattle.std.specs.Float.Ieee.Scale.{finite}
 use Rattle.std.proofs.lemmas.List.Folds.{list_all_more}
 use native.Mathlib.Decide.{ℕ_discrete}
-use borrow.Author.Tests.{le-ltb}
 use Rattle.calculus.specs.Graded.{triangle, graded}
 use Rattle.calculus.proofs.Graded.{index-place}
 use Rattle.formulas.specs.Numbers.{curve_numbers, surface_numbers, all_pass, all_finite, finite_surface}

@@ -1,5 +1,5 @@
 -- A loop that forms the entries of a surface's jet, i rising, then j, and stores each; and what a formula reads of them. Assumes nothing.
-use Rattle.std.proofs.Common.{◌≡◌, ℕ, List, Float, ◌+◌, ◌-◌, ◌≤◌, ◌<◌, min, set, replicate, refl, sym, ap₂, ◌∙◌, arith, subst}
+use Rattle.std.proofs.Common.{◌≡◌, ℕ, List, Float, ◌+◌, ◌-◌, ◌≤◌, ◌<◌, min, set, replicate, refl, sym, ap₂, ◌∙◌, arith}
 use Rattle.std.specs.Float.{nan}
 use Rattle.calculus.specs.Kind.{regular}
 use Rattle.calculus.specs.Rising.{before_entry, rising_rows}
@@ -9,7 +9,6 @@ use Rattle.calculus.proofs.Related.{same_module}
 use Rattle.calculus.proofs.Graded.{room-231, index-231}
 use Rattle.calculus.proofs.LoopCut.{uncut-entry}
 use Rattle.calculus.proofs.LoopSurfaceFilling.{SurfaceStored, surface-none, surface-more, surface-next, surface-all, surface-earlier}
-use Rattle.calculus.proofs.LoopLeft.{Inside}
 use Rattle.calculus.specs.declared.Operation.{Operation}
 use Rattle.formulas.specs.Operations.{surface_by}
 use Rattle.calculus.specs.declared.Operation.TheVariants
@@ -43,29 +42,6 @@ module _ (f : ℕ → ℕ → Float) {n : ℕ} (b : n ≤ 20) where
 
   pub surface_all : {i : ℕ} {r : List Float} → SurfaceFilled i 0 r → n < i → r ≡ surface_array positive_zero f n
   surface_all = surface-all 231 nan positive_zero n (room-231 n b) (λ i j v. f i j ≡ v) f (λ i j v q. sym q)
-
-  pub record SurfaceProgress (i j : ℕ) (r : List Float) : Type 0 where
-    pub stored : SurfaceFilled i j r
-    pub inside : Inside n i j
-
-  pub surface-begins : SurfaceProgress 0 0 (replicate 231 positive_zero)
-  surface-begins = record { stored = surface-none 231 nan positive_zero n (room-231 n b) (λ i j v. f i j ≡ v); inside = (omega arith, λ h. omega arith) }
-
-  module _ {i j : ℕ} {r : List Float} (p : SurfaceProgress i j r) where
-    module _ {v : Float} (h : i ≤ n) (e : f i j ≡ v) where
-      kept : SurfaceFilled i (j + 1) (set r (index i j) v)
-      kept = surface-more 231 nan positive_zero n (room-231 n b) (λ i j v. f i j ≡ v) v p.stored (p.inside.1 h) e
-
-      pub surface-goes-on : i + (j + 1) ≤ n → SurfaceProgress i (j + 1) (set r (index i j) v)
-      surface-goes-on l = record { stored = kept; inside = (omega arith, λ k. l) }
-
-      pub surface-turns : n < i + (j + 1) → SurfaceProgress (i + 1) 0 (set r (index i j) v)
-      surface-turns l = record { stored = surface-next 231 nan positive_zero n (room-231 n b) (λ i j v. f i j ≡ v) kept l; inside = (omega arith, λ k. omega arith) }
-
-    pub surface-ends : n < i → r ≡ surface_array positive_zero f n
-    surface-ends l =
-        let e : j ≡ 0 = omega (arith, p.inside.0) in
-        surface-all 231 nan positive_zero n (room-231 n b) (λ i j v. f i j ≡ v) f (λ i j v q. sym q) {m = i} (subst (λ (x : ℕ). SurfaceFilled i x r) e p.stored) l
 
 -- ---- a formula reads only entries that are formed, or that it forms
 surface-reads : (f : Operation) (a b p q : ℕ → ℕ → Float) (N m n : ℕ) → m + n ≤ N → ((i j : ℕ) → i + j ≤ N → p i j ≡ q i j) →

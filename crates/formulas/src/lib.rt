@@ -15,7 +15,7 @@ ghost use Rattle.formulas.specs.Real.{real};
 ghost use Rattle.formulas.specs.Numbers.{curve_numbers, surface_numbers, finite_list, finite_curve, finite_surface};
 ghost use Rattle.formulas.specs.Operations.{curve_by, surface_by};
 
-use calculus::Operation;
+use calculus::{Operation, places};
 
 mod curve_entries;
 mod surface_entries;
@@ -59,13 +59,13 @@ pub fn surface_product(a: &[f64; 231], b: &[f64; 231], m: usize, n: usize) -> f6
 pub fn derivative_u(a: &[f64; 231], n: usize) -> [f64; 231]
     ensures { result ≡ surface_array positive_zero (derivative_u (surface_numbers a.now)) (min n 19) }
 {
-    surface_entries::shifted(a, n.min(19), 1, 0)
+    places::derivative_u(a, n, 0.0)
 }
 
 pub fn derivative_v(a: &[f64; 231], n: usize) -> [f64; 231]
     ensures { result ≡ surface_array positive_zero (derivative_v (surface_numbers a.now)) (min n 19) }
 {
-    surface_entries::shifted(a, n.min(19), 0, 1)
+    places::derivative_v(a, n, 0.0)
 }
 
 // Where [i][j] stands in a surface's array: i is cut to 20, and j to 20 - i.

@@ -112,17 +112,3 @@ pub fn entries(f: Operation, a: &[f64; 231], b: &[f64; 231], n: usize) -> [f64; 
     }
     r
 }
-
-// The derivative p times by u and q times by v, of the order n.
-pub fn shifted(a: &[f64; 231], n: usize, p: usize, q: usize) -> [f64; 231]
-    requires { n + (p + q) ≤ 20 }
-    ensures { result ≡ surface_array positive_zero (λ i j. surface_numbers a.now (i + p) (j + q)) n }
-{
-    let mut r = [0.0f64; 231];
-    for i in 0..n + 1 {
-        for j in 0..n + 1 - i {
-            r[index(i, j)] = number_at(a, i + p, j + q);
-        }
-    }
-    r
-}

@@ -1,19 +1,13 @@
 -- What a function over lists returns, by its test of what is given. Assumes nothing.
-use mathlib.Core.Path.{◌≡◌, refl, sym, ap, ap₂, ◌∙◌}
-use mathlib.Core.Bool.{Bool, true, false, cond}
-use lib.Dec.{ltb, eqb}
-use mathlib.Core.List.{List}
-use Prim.Native.Nat.{ℕ, ◌<◌, min}
+use Rattle.std.proofs.Common.{◌≡◌, refl, sym, ap, ap₂, ◌∙◌, Bool, true, false, cond, ltb, eqb, List, ℕ, ◌<◌, min, length, arith}
 use native.Mathlib.Decide.{ℕ_discrete}
-use native.Mathlib.Omega.{arith}
-use lib.ListN.{length}
-use borrow.Author.Tests.{eq-eqb, ne_eqb}
+use borrow.Author.Tests.{eq-eqb, ne_eqb, lt-ltb, ltb-true, ltb-false}
 use Rattle.std.specs.Prelude.{Result, Ok, Err, ⊤}
 use Rattle.refusals.specs.declared.Refusal.{Refusal}
 use Rattle.refusals.specs.Number.{number, number_of}
 use Rattle.refusals.proofs.Numbers.{number-pos}
 use Rattle.given.specs.Given.{first, order_given, count_given}
-use Rattle.given.specs.Lists.{over_two_at, over_two, over_one, admitted, Input, Output}
+use Rattle.given.specs.Lists.{two_given_at, over_two_at, over_two, over_one, admitted, Input, Output}
 
 abbrev pub pair : {T : Type 0} → ℕ → List T → ℕ × List T
 pair c l = (c, l)
@@ -30,24 +24,30 @@ refused-not_0 {r = r} e z =
     let q : number r ≡ 0 = sym (ap number_of e) ∙ z in
     absurd (omega (arith, number-pos r, q))
 
--- a test before another: none is left of the second where the first is an order above 20, and only it where the first is 0
-pub first-high : (n x : ℕ) → ¬ (order_given n ≡ 0) → order_given n ≡ first (order_given n) x
+-- an order that is asked is tested before the list lent for it: above 20 it alone counts, as a sum that may be cut off high above it shows
+above : (x : ℕ) → first 1 x ≡ 1
 unfolding first
-first-high n x h = by (ltb 20 n) refl
+above x = go (ℕ_discrete x 0)
   where
-    by : (b : Bool) → ltb 20 n ≡ b → order_given n ≡ cond (eqb (order_given n) 0) x (cond (eqb x 0) (order_given n) (min (order_given n) x))
-    by true e = go (ℕ_discrete x 0)
-      where
-        go : Dec (x ≡ 0) → order_given n ≡ cond (eqb (order_given n) 0) x (cond (eqb x 0) (order_given n) (min (order_given n) x))
-        go (yes p) = rw (e, eq-eqb x 0 p)
-        go (no p) =
-            let q : ◌≡◌ {A = ℕ} 1 (min 1 x) = omega arith in
-            rw (e, ne_eqb x 0 p) q
-    by false e = absurd (h (ap (λ (b : Bool). cond b 1 0) e))
+    go : Dec (x ≡ 0) → first 1 x ≡ 1
+    go (yes p) = rw (eq-eqb x 0 p)
+    go (no p) =
+        let q : ◌≡◌ {A = ℕ} (min 1 x) 1 = omega arith in
+        rw (ne_eqb x 0 p) q
 
-pub first-fit : (n x : ℕ) → order_given n ≡ 0 → x ≡ first (order_given n) x
-unfolding first
-first-fit n x h = sym (rw (eq-eqb (order_given n) 0 h))
+pub asked-sum : (o : ℕ → ℕ) (s : ℕ) {k : ℕ} → k ≡ min s 18446744073709551615 → first (order_given k) (o k) ≡ first (order_given s) (o s)
+asked-sum o s {k} e = by (ltb 20 s) refl
+  where
+    high : (n : ℕ) → 20 < n → first (order_given n) (o n) ≡ 1
+    high n h = rw (lt-ltb 20 n h) (above (o n))
+
+    by : (b : Bool) → ltb 20 s ≡ b → first (order_given k) (o k) ≡ first (order_given s) (o s)
+    by true q =
+        let h : 20 < s = ltb-true 20 s q in
+        high k (omega (arith, e, h)) ∙ sym (high s h)
+    by false q =
+        let h : k ≡ s = omega (arith, e, ltb-false 20 s q) in
+        ap (λ (n : ℕ). first (order_given n) (o n)) h
 
 -- the test is not 0, or it is
 module _ {L : Type 0} {t g : ℕ} (out : L) (e : t ≡ g) where
@@ -82,9 +82,14 @@ module _ {T J K A : Type 0} (X : Input T J) (Y : Input T K) (Z : Output T A) (op
     unfolding over_two_at
     two-worked-at h p q w v = allowed out e h (v ∙ ap (λ (r : A). Z.deliver r out) (w ∙ ap₂ op p q))
 
--- the test of an order asked, as a number of its own
-pub asked-at : (p q o : ℕ) {x y t : ℕ} → x ≡ y → t ≡ first p (first q (first x o)) → t ≡ first p (first q (first y o))
-asked-at p q o h e = e ∙ ap (λ (x : ℕ). first p (first q (first x o))) h
+-- at an order that is a sum
+module _ {T J K A : Type 0} (X : Input T J) (Y : Input T K) (Z : Output T A) (s m : ℕ) (a : List T) (n : ℕ) (b out : List T) {k : ℕ} (e : k ≡ min s 18446744073709551615) where
+  pub given-sum : two_given_at X Y Z k m a n b out ≡ two_given_at X Y Z s m a n b out
+  given-sum = ap (λ (x : ℕ). first (X.test m (length a)) (first (Y.test n (length b)) x)) (asked-sum (λ k. Z.test k (length out)) s e)
+
+  pub over-sum : (op : J → K → A) → over_two_at X Y Z k op m a n b out ≡ over_two_at X Y Z s op m a n b out
+  unfolding over_two_at
+  over-sum op = ap (λ (c : ℕ). admitted c out (Z.deliver (op (X.jet m a) (Y.jet n b)) out)) given-sum
 
 module _ {T J A : Type 0} (X : Input T J) (Z : Output T A) (k : ℕ) (op : J → A) (n : ℕ) (a out : List T) where
   module _ {t : ℕ} (e : t ≡ first (X.test n (length a)) (Z.test k (length out))) where

@@ -1,5 +1,4 @@
 pub mod Admission
 -- what is answered is written whole
--- what is answered is written whole
 pub mod Delivered
 pub mod Answered

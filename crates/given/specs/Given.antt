@@ -2,8 +2,6 @@
 -- the one that is due. Assumes nothing.
 use Rattle.std.specs.Prelude.{cond, ℕ, suc, ◌*◌, min, ltb, eqb}
 use Rattle.calculus.specs.Graded.{triangle}
-use Rattle.given.specs.declared.Shape.{Shape}
-use Rattle.given.specs.declared.Shape.TheVariants as shape
 
 -- the first refusal of two: document 01 checks 1 to 4 in the order of their numbers
 unfoldable pub first : ℕ → ℕ → ℕ
@@ -35,16 +33,3 @@ vector_curve_given = list_given (λ n. 3 * suc n)
 
 abbrev pub vector_surface_given : ℕ → ℕ → ℕ
 vector_surface_given = list_given (λ n. 3 * triangle (suc n))
-
--- a list of l numbers for what it holds: a single value, whatever the order, or a jet of the order n
-abbrev pub shape_given : Shape → ℕ → ℕ → ℕ
-shape_given shape.Number n = count_given 1
-shape_given shape.Vector2 n = count_given 2
-shape_given shape.Vector n = count_given 3
-shape_given shape.Matrix2 n = count_given 4
-shape_given shape.Matrix3 n = count_given 9
-shape_given shape.Curve n = curve_given n
-shape_given shape.Surface n = surface_given n
-shape_given shape.Parameter n = parameter_given n
-shape_given shape.VectorCurve n = vector_curve_given n
-shape_given shape.VectorSurface n = vector_surface_given n

@@ -1,4 +1,4 @@
--- Single values as lists: a whole number, a float, vectors and matrices. They have no order: each is a jet of the order 0. A value goes into the list lent,
+-- Single values as lists: a whole number, a count, a float, vectors and matrices. They have no order: each is a jet of the order 0. A value goes into the list lent,
 -- beside 0; a refusal leaves that list as it was, beside its number. Assumes nothing.
 use Rattle.std.specs.Prelude.{cond, List, [], ◌∷◌, ℕ, ◌+◌, eqb, ℤ, length, get_or, Float, Result, Ok, Err}
 use Rattle.std.specs.Float.{nan}
@@ -63,6 +63,9 @@ a_matrix3 = record { test = λ n. count_given 9; jet = λ n. matrix3_of }
 -- ---- what goes into one, whatever the order
 abbrev pub to_whole : Output ℤ (Result ℤ Refusal)
 to_whole = record { test = λ n. count_given 1; deliver = deliver_value (λ z. z ∷ []) }
+
+abbrev pub to_count : Output ℕ (Result ℕ Refusal)
+to_count = record { test = λ n. count_given 1; deliver = deliver_value (λ n. n ∷ []) }
 
 abbrev pub to_float : Output Float (Result Float Refusal)
 to_float = record { test = λ n. count_given 1; deliver = deliver_value (λ x. x ∷ []) }

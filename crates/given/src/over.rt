@@ -2,10 +2,9 @@
 ghost use Rattle.std.specs.Prelude.{◌≡◌, ◌+◌, ℕ, List, Result};
 ghost use Rattle.refusals.specs.Number.{number_of};
 ghost use Rattle.refusals.specs.declared.Refusal.{Refusal};
-ghost use Rattle.given.specs.Given.{first as first_of, order_given};
-ghost use Rattle.given.specs.Lists.{Input, Output, alone, over_one, over_two, over_two_at};
+ghost use Rattle.given.specs.Lists.{Input, Output, Refused, alone, one_given, over_one, over_two, over_two_at, two_given, two_given_at};
 
-use crate::{first, order, order_sum};
+use crate::{first, order};
 use refusals::Refusal;
 
 // What is read off a list of T: a jet of an order, or a single value.
@@ -45,7 +44,8 @@ pub fn over_two<T, A: Listed<T>, B: Listed<T>, C: Lent<T>, F: FnOnce(A, B) -> Re
     work: F,
 ) -> Result<(), Refusal>
     requires { F.IsAlwaysCallable work }
-    ensures { (op : A → B → Result C Refusal) → ((x : A) (y : B) (r : Result C Refusal) → F.post work x y r → r ≡ op x y) → ◌≡◌ {A = ℕ × List T} (number_of result, out.new) (over_two A.input B.input C.output op m a.now n b.now out.old) }
+    ensures tested { Refused (two_given A.input B.input C.output m a.now n b.now out.old) out.old (number_of result, out.new) }
+    ensures value { (op : A → B → Result C Refusal) → ((x : A) (y : B) (r : Result C Refusal) → F.post work x y r → r ≡ op x y) → ◌≡◌ {A = ℕ × List T} (number_of result, out.new) (over_two A.input B.input C.output op m a.now n b.now out.old) }
 {
     let k = calculus::smaller(m, n);
     let rest = first(B::test(n, b.len()), C::due(k, out.len()));
@@ -63,21 +63,14 @@ pub fn over_two_at<
     F: FnOnce(A, B) -> Result<C, Refusal>,
 >(k: usize, m: usize, a: &[T], n: usize, b: &[T], out: &mut [T], work: F) -> Result<(), Refusal>
     requires { F.IsAlwaysCallable work }
-    ensures { (op : A → B → Result C Refusal) → ((x : A) (y : B) (r : Result C Refusal) → F.post work x y r → r ≡ op x y) → ◌≡◌ {A = ℕ × List T} (number_of result, out.new) (over_two_at A.input B.input C.output k op m a.now n b.now out.old) }
+    ensures tested { Refused (two_given_at A.input B.input C.output k m a.now n b.now out.old) out.old (number_of result, out.new) }
+    ensures value { (op : A → B → Result C Refusal) → ((x : A) (y : B) (r : Result C Refusal) → F.post work x y r → r ≡ op x y) → ◌≡◌ {A = ℕ × List T} (number_of result, out.new) (over_two_at A.input B.input C.output k op m a.now n b.now out.old) }
 {
     let last = first(order(k), C::due(k, out.len()));
     let rest = first(B::test(n, b.len()), last);
     let tested = first(A::test(m, a.len()), rest);
     tested?;
     C::write(work(A::read(m, a), B::read(n, b)), out)
-}
-
-// The test of an order i + j, and of the list lent for an answer of it.
-fn due_at_both<T, C: Lent<T>>(i: usize, j: usize, count: usize) -> Result<(), Refusal>
-    ensures { number_of result ≡ first_of (order_given (i + j)) (C.output.test (i + j) count) }
-{
-    order_sum(i, j)?;
-    C::due(i + j, count)
 }
 
 // The same at the orders i by u and j by v: an entry, for which any order lends the same list.
@@ -98,13 +91,10 @@ pub fn over_two_at_both<
     work: F,
 ) -> Result<(), Refusal>
     requires { F.IsAlwaysCallable work }
-    ensures { (op : A → B → Result C Refusal) → ((x : A) (y : B) (r : Result C Refusal) → F.post work x y r → r ≡ op x y) → ◌≡◌ {A = ℕ × List T} (number_of result, out.new) (over_two_at A.input B.input C.output (i + j) op m a.now n b.now out.old) }
+    ensures tested { Refused (two_given_at A.input B.input C.output (i + j) m a.now n b.now out.old) out.old (number_of result, out.new) }
+    ensures value { (op : A → B → Result C Refusal) → ((x : A) (y : B) (r : Result C Refusal) → F.post work x y r → r ≡ op x y) → ◌≡◌ {A = ℕ × List T} (number_of result, out.new) (over_two_at A.input B.input C.output (i + j) op m a.now n b.now out.old) }
 {
-    let last = due_at_both::<T, C>(i, j, out.len());
-    let rest = first(B::test(n, b.len()), last);
-    let tested = first(A::test(m, a.len()), rest);
-    tested?;
-    C::write(work(A::read(m, a), B::read(n, b)), out)
+    over_two_at(i.saturating_add(j), m, a, n, b, out, work)
 }
 
 // One jet, to an answer of the order k.
@@ -116,7 +106,8 @@ pub fn over_one<T, A: Listed<T>, C: Lent<T>, F: FnOnce(A) -> Result<C, Refusal>>
     work: F,
 ) -> Result<(), Refusal>
     requires { F.IsAlwaysCallable work }
-    ensures { (op : A → Result C Refusal) → ((x : A) (r : Result C Refusal) → F.post work x r → r ≡ op x) → ◌≡◌ {A = ℕ × List T} (number_of result, out.new) (over_one A.input C.output k op n a.now out.old) }
+    ensures tested { Refused (one_given A.input C.output k n a.now out.old) out.old (number_of result, out.new) }
+    ensures value { (op : A → Result C Refusal) → ((x : A) (r : Result C Refusal) → F.post work x r → r ≡ op x) → ◌≡◌ {A = ℕ × List T} (number_of result, out.new) (over_one A.input C.output k op n a.now out.old) }
 {
     let tested = first(A::test(n, a.len()), C::due(k, out.len()));
     tested?;

@@ -1,8 +1,8 @@
-// Single values as lists: a whole number, a float, vectors and matrices. A float past a list's end is NaN: the functions over lists test the lengths first.
+// Single values as lists: a whole number, a count, a float, vectors and matrices. A float past a list's end is NaN: the functions over lists test the lengths first.
 ghost use Rattle.std.specs.Prelude.{◌≡◌, ℕ, List, ◌+◌, get_or, Float};
 ghost use Rattle.std.specs.Float.{nan};
 ghost use Rattle.refusals.specs.Number.{number_of};
-ghost use Rattle.given.specs.Values.{written, vector_at, a_vector2, a_vector, a_matrix2, a_matrix3, to_whole, to_float, to_vector2, to_vector, to_matrix2, to_matrix3};
+ghost use Rattle.given.specs.Values.{written, vector_at, a_vector2, a_vector, a_matrix2, a_matrix3, to_whole, to_count, to_float, to_vector2, to_vector, to_matrix2, to_matrix3};
 
 use crate::{Lent, Listed, count};
 use ieee_vectors::{Matrix2, Matrix3, Vector2, Vector3};
@@ -113,6 +113,22 @@ impl Lent<i64> for i64 {
     {
         let z = answer?;
         written(&[z], out)
+    }
+}
+
+impl Lent<u64> for u64 {
+    ghost output = { to_count };
+
+    fn due(_order: usize, length: usize) -> Result<(), Refusal> {
+        count(1, length)
+    }
+
+    fn write(answer: Result<u64, Refusal>, out: &mut [u64]) -> Result<(), Refusal>
+        ensures number { number_of result ≡ (to_count.deliver answer out.old).0 }
+        ensures list { out.new ≡ (to_count.deliver answer out.old).1 }
+    {
+        let n = answer?;
+        written(&[n], out)
     }
 }
 

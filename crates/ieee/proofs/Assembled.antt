@@ -1,13 +1,8 @@
 -- The bits of a normal value q * 2 ^ k of the smallest values, q having 53 digits or being 2 ^ 53: k * 2 ^ 52 + q. Assumes nothing.
-use mathlib.Core.Path.{◌≡◌, sym, ap, ◌∙◌, subst}
-use mathlib.Core.Logic.{◌⊎◌, inl, inr}
-use mathlib.Core.Bool.{Bool, true, false, not, cond, true≢false}
-use Prim.Native.Nat.{ℕ, suc, ◌+◌, ◌-◌, ◌*◌, ◌/◌, ◌^◌, ◌≤◌, ◌<◌}
-use native.Mathlib.Nat.{le_refl, le_of_eq, lt_of_le_of_lt, eq-or-lt_of_le, zero-add, mul_assoc, mul-le-mul_right, mul-div_cancel, pow-succ', mod-eq_of_lt}
-use native.Mathlib.Omega.{arith}
-use lib.Dec.{T, ltb, ltb→lt, lit<}
+use Rattle.std.proofs.Common.{◌≡◌, sym, ap, ◌∙◌, subst, ◌⊎◌, inl, inr, Bool, true, false, not, cond, true≢false, ℕ, suc, ◌+◌, ◌-◌, ◌*◌, ◌/◌, ◌^◌, ◌≤◌, ◌<◌, le_refl, le_of_eq, lt_of_le_of_lt, eq-or-lt_of_le, zero-add, mul_assoc, mul-le-mul_right, mul-div_cancel, mod-eq_of_lt, arith, T, ltb, ltb→lt, lit<, pow-add, pow_pos}
+use native.Mathlib.Nat.{pow-succ'}
 use lib.Arith.{le→nltb}
-use lib.Pow.{pow-add, pow_pos, pow-lt}
+use lib.Pow.{pow-lt}
 use lib.Ieee.{Float, nan, inf, fin, binary64, down, size, odd, units, fits, to_bits, of_bits, nan_bits}
 use lib.Ieee.Exact.{HasValue, units_val}
 use lib.Ieee.Fits.{down_pos, odd-fits, inf-fits}

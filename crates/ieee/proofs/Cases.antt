@@ -1,11 +1,6 @@
 -- The cases of the square root, by the tests that `sqrt` makes: above zero, finite, zero. Assumes nothing.
-use mathlib.Core.Path.{◌≡◌, refl, sym, ap, ◌∙◌}
-use mathlib.Core.Bool.{Bool, true, false, ◌&&◌, ◌||◌, beq, true≢false}
-use Prim.Native.Nat.{ℕ, zero, suc, ◌*◌, ◌≤◌, ◌<◌}
-use native.Mathlib.Nat.{zero-lt-suc, zero-mul, mul-pos}
-use native.Mathlib.Omega.{arith}
-use borrow.Author.Tests.{ltb-true, ltb-false, eqb-true}
-use lib.Dec.{T, eqb, lt→ltb}
+use Rattle.std.proofs.Common.{◌≡◌, refl, sym, ap, ◌∙◌, Bool, true, false, ◌&&◌, ◌||◌, true≢false, ℕ, zero, suc, ◌*◌, ◌≤◌, ◌<◌, zero-lt-suc, zero-mul, mul-pos, arith, ltb-true, ltb-false, eqb-true, T, eqb, lt→ltb}
+use mathlib.Core.Bool.{beq}
 use lib.Ieee.{Float, nan, inf, fin, binary64, up, down, lt, eq, div, of_bits}
 use lib.Ieee.Fits.{up_pos}
 use lib.Ieee.Positive.{positive}

@@ -1,7 +1,5 @@
 -- The definition at some values, computed: by bit patterns, since a clause has no float literals. Assumes nothing.
-use mathlib.Core.Path.{◌≡◌, refl}
-use mathlib.Core.Bool.{true, false}
-use Prim.Native.Nat.{ℕ}
+use Rattle.std.proofs.Common.{◌≡◌, refl, true, false, ℕ}
 use lib.Ieee.{nan, inf, binary64, of_bits, to_bits}
 use Rattle.ieee.specs.SquareRoot.{square_root}
 

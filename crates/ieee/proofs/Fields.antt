@@ -1,10 +1,6 @@
 -- The fields of a positive value's bits give it as a count of the smallest values, and its square root as that of the count. Assumes nothing.
-use mathlib.Core.Path.{◌≡◌, refl, sym, ap, ◌∙◌, subst}
-use mathlib.Core.Bool.{Bool, true, false, not, cond}
-use Prim.Native.Nat.{ℕ, zero, suc, ◌+◌, ◌-◌, ◌*◌, ◌/◌, ◌%◌, ◌^◌, ◌<◌}
-use native.Mathlib.Nat.{zero-lt-suc, mul-div_cancel, mod-eq_of_lt}
-use native.Mathlib.Omega.{arith}
-use lib.Dec.{T, leb, eqb, nleb→lt, lit<}
+use Rattle.std.proofs.Common.{◌≡◌, refl, sym, ap, ◌∙◌, subst, Bool, true, false, not, cond, ℕ, zero, suc, ◌+◌, ◌-◌, ◌*◌, ◌/◌, ◌%◌, ◌^◌, ◌<◌, zero-lt-suc, mul-div_cancel, mod-eq_of_lt, arith, T, leb, eqb, lit<}
+use lib.Dec.{nleb→lt}
 use lib.Ieee.{Float, nan, inf, fin, binary64, down, odd, fits, of_fields, of_bits, to_bits, is_nan}
 use lib.Ieee.Exact.{HasValue, odd_sign}
 use lib.Ieee.Fits.{down_pos}

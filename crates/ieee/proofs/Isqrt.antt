@@ -1,11 +1,7 @@
 -- The integer square root is the largest number whose square is at most n, and the only one. Assumes nothing.
-use mathlib.Core.Path.{◌≡◌, sym, ◌∙◌, subst}
-use mathlib.Core.Bool.{Bool, true, false, not, cond}
-use Prim.Native.Nat.{ℕ, zero, suc, ◌+◌, ◌*◌, ◌/◌, ◌^◌, ◌≤◌, ◌<◌, zero-le}
-use native.Mathlib.Nat.{le_trans, le_antisymm, le_of_suc-le-suc, lt_of_lt_of_le, lt_of_not-le, not-le_of_lt, mul-one, mul-mul-mul_comm, mul-add, add-mul, mul-le-mul, pow-suc, pow-le-pow_left, div-lt_iff_lt-mul, zero-lt-suc}
-use native.Mathlib.Numerals.{add-one}
-use native.Mathlib.Omega.{arith}
-use lib.Dec.{T, leb, leb→le, nleb→lt, lit≤}
+use Rattle.std.proofs.Common.{◌≡◌, sym, ◌∙◌, subst, Bool, true, false, not, cond, ℕ, zero, suc, ◌+◌, ◌*◌, ◌/◌, ◌^◌, ◌≤◌, ◌<◌, zero-le, le_trans, le_antisymm, le_of_suc-le-suc, lt_of_lt_of_le, lt_of_not-le, not-le_of_lt, mul-one, mul-add, add-mul, mul-le-mul, pow-suc, div-lt_iff_lt-mul, zero-lt-suc, add-one, arith, T, leb, leb→le, lit≤}
+use native.Mathlib.Nat.{mul-mul-mul_comm, pow-le-pow_left}
+use lib.Dec.{nleb→lt}
 use lib.Ieee.{size}
 use lib.Ieee.Digits.{size-lt}
 use Rattle.ieee.specs.SquareRoot.{root_digits, isqrt}

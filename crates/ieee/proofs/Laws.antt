@@ -1,14 +1,6 @@
 -- The laws of the square root. `root-is-nearest`: no value of binary64 is as near to the exact root as the defined one, so a tie never comes up.
 -- `root-fits`: the defined root is a value of binary64. `root-positive`, `root-finite`: when it is positive, and when finite. Assumes nothing.
-use mathlib.Core.Path.{◌≡◌, refl, sym, ap, ◌∙◌, subst}
-use mathlib.Core.Bool.{Bool, true, false, not, ◌&&◌}
-use Prim.Native.Nat.{ℕ, zero, suc, ◌+◌, ◌-◌, ◌*◌, ◌%◌, ◌^◌, ◌≤◌, ◌<◌, zero-le}
-use native.Mathlib.Nat.{zero-lt-suc, zero-mul, le_trans, le_of_eq, lt_of_le_of_lt, lt_of_lt_of_le, lt_of_not-le, not-le_of_lt, add-sub_of_le, add-mul, mul_comm, mul_assoc, mul_left_comm, mul_right_comm, mul-le-mul, mul-pos, mul-lt-mul_of_pos_right, lt_of_mul-lt-mul_right, mod-lt}
-use native.Mathlib.Omega.{arith}
-use borrow.Author.Tests.{lt-ltb, le-ltb}
-use lib.Dec.{T, ltb, lt→ltb}
-use lib.IntN.{ℤ}
-use lib.Pow.{pow-add, pow_pos}
+use Rattle.std.proofs.Common.{◌≡◌, refl, sym, ap, ◌∙◌, subst, Bool, true, false, not, ◌&&◌, ℕ, zero, suc, ◌+◌, ◌-◌, ◌*◌, ◌%◌, ◌^◌, ◌≤◌, ◌<◌, zero-le, zero-lt-suc, zero-mul, le_trans, le_of_eq, lt_of_le_of_lt, lt_of_lt_of_le, lt_of_not-le, not-le_of_lt, add-sub_of_le, add-mul, mul_comm, mul_assoc, mul_left_comm, mul_right_comm, mul-le-mul, mul-pos, mul-lt-mul_of_pos_right, lt_of_mul-lt-mul_right, mod-lt, arith, lt-ltb, le-ltb, T, ltb, lt→ltb, ℤ, pow-add, pow_pos}
 use lib.Count.{count_leading_zeros}
 use lib.Ieee
 use lib.Ieee.{Float, nan, inf, fin, binary64, up, down, units, fits, lt, of_bits}

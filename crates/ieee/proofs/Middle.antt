@@ -1,13 +1,8 @@
 -- On whole numbers: √r * 2 ^ k, rounded to q or q + 1 times 2 ^ k, is nearer to that than to any other n * 2 ^ i with an n of 53 digits at most.
 -- Assumes nothing.
-use mathlib.Core.Path.{◌≡◌, sym, ap, ◌∙◌, subst}
-use mathlib.Core.Bool.{Bool, true, false, not, cond}
-use Prim.Native.Nat.{ℕ, suc, ◌+◌, ◌-◌, ◌*◌, ◌^◌, ◌≤◌, ◌<◌}
-use native.Mathlib.Nat.{le_trans, le_of_eq, le_of_lt, le_of_suc-le-suc, lt_of_lt_of_le, lt_of_le_of_lt, lt_of_not-le, lt_irrefl, not-le_of_lt, add-mul, one-mul, mul_assoc, mul-le-mul, mul-le-mul_right, mul-lt-mul_of_pos_left, mul-lt-mul_of_pos_right, lt_of_mul-lt-mul_right, mul-mul-mul_comm, mul-pos}
-use native.Mathlib.Numerals.{add-one}
-use native.Mathlib.Omega.{arith}
-use lib.Dec.{T, leb, ltb, leb→le, nleb→lt, ltb→lt, nltb→le}
-use lib.Pow.{pow-add, pow_pos, pow_mono, shl_lt}
+use Rattle.std.proofs.Common.{◌≡◌, sym, ap, ◌∙◌, subst, Bool, true, false, not, cond, ℕ, suc, ◌+◌, ◌-◌, ◌*◌, ◌^◌, ◌≤◌, ◌<◌, le_trans, le_of_eq, le_of_lt, le_of_suc-le-suc, lt_of_lt_of_le, lt_of_le_of_lt, lt_of_not-le, lt_irrefl, not-le_of_lt, add-mul, one-mul, mul_assoc, mul-le-mul, mul-le-mul_right, mul-lt-mul_of_pos_right, lt_of_mul-lt-mul_right, mul-pos, add-one, arith, T, leb, ltb, leb→le, ltb→lt, nltb→le, pow-add, pow_pos, pow_mono, shl_lt}
+use native.Mathlib.Nat.{mul-lt-mul_of_pos_left, mul-mul-mul_comm}
+use lib.Dec.{nleb→lt}
 use lib.Ieee.Digits.{back}
 use Rattle.ieee.proofs.Isqrt.{square-more, square-twice}
 use Rattle.ieee.proofs.Rounded.{past-middle, before-middle}

@@ -1,10 +1,6 @@
 -- The digit-by-digit recurrence of `digits`: what holds before each turn, and that a turn keeps it. Assumes nothing.
-use mathlib.Core.Path.{◌≡◌, refl, sym, ap, ◌∙◌, subst}
-use Prim.Native.Nat.{ℕ, ◌+◌, ◌-◌, ◌*◌, ◌/◌, ◌%◌, ◌^◌, ◌≤◌, ◌<◌}
-use native.Mathlib.Nat.{lt_of_lt_of_le, mul_assoc, mul-mul-mul_comm, pow-suc}
-use native.Mathlib.Numerals.{add-one, add-one-le}
-use native.Mathlib.Omega.{arith}
-use lib.Pow.{pow_mono}
+use Rattle.std.proofs.Common.{◌≡◌, refl, sym, ap, ◌∙◌, subst, ℕ, ◌+◌, ◌-◌, ◌*◌, ◌/◌, ◌%◌, ◌^◌, ◌≤◌, ◌<◌, lt_of_lt_of_le, mul_assoc, pow-suc, add-one, add-one-le, arith, pow_mono}
+use native.Mathlib.Nat.{mul-mul-mul_comm}
 use Rattle.ieee.proofs.Isqrt.{square-more}
 
 -- after i turns over w: the digits of w that were taken are root * root + rest, and those that are left stand at the top of `left`

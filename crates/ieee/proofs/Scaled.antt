@@ -1,10 +1,6 @@
 -- The number of 105 or 106 digits whose root `of_units` takes: m * 2 ^ j smallest values, shifted by an even count of places. Assumes nothing.
-use mathlib.Core.Path.{◌≡◌, refl, sym, ap, ◌∙◌, subst}
-use Prim.Native.Nat.{ℕ, zero, suc, ◌+◌, ◌-◌, ◌*◌, ◌/◌, ◌%◌, ◌^◌, ◌≤◌, ◌<◌}
-use native.Mathlib.Nat.{le_antisymm, le_trans, le_of_eq, le_of_suc-le-suc, lt_of_lt_of_le, lt_of_not-le, not-le_of_lt, suc-add, mul_assoc, mul-le-mul_right, mul-mul-mul_comm, pow-suc}
-use native.Mathlib.Omega.{arith}
-use lib.Dec.{lit≤}
-use lib.Pow.{pow-add, pow_mono, shl_lt, shl_exact}
+use Rattle.std.proofs.Common.{◌≡◌, refl, sym, ap, ◌∙◌, subst, ℕ, zero, suc, ◌+◌, ◌-◌, ◌*◌, ◌/◌, ◌%◌, ◌^◌, ◌≤◌, ◌<◌, le_antisymm, le_trans, le_of_eq, le_of_suc-le-suc, lt_of_lt_of_le, lt_of_not-le, not-le_of_lt, suc-add, mul_assoc, mul-le-mul_right, pow-suc, arith, lit≤, pow-add, pow_mono, shl_lt, shl_exact}
+use native.Mathlib.Nat.{mul-mul-mul_comm}
 use lib.Count.{count_leading_zeros, leading_top}
 use lib.Ieee.{size}
 use lib.Ieee.Digits.{size-lt, size-le}

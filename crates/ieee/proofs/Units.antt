@@ -1,11 +1,5 @@
 -- The root of m * 2 ^ j smallest values, from its digits: what `of_units` returns is the definition. Assumes nothing.
-use mathlib.Core.Path.{◌≡◌, sym, ap, ◌∙◌, subst}
-use mathlib.Core.Bool.{Bool, true, false, cond}
-use Prim.Native.Nat.{ℕ, suc, ◌+◌, ◌*◌, ◌%◌, ◌^◌, ◌≤◌, ◌<◌}
-use native.Mathlib.Nat.{le_of_suc-le-suc, lt_of_not-le, mul-le-mul}
-use native.Mathlib.Numerals.{add-one}
-use native.Mathlib.Omega.{arith}
-use lib.Dec.{ltb}
+use Rattle.std.proofs.Common.{◌≡◌, sym, ap, ◌∙◌, subst, Bool, true, false, cond, ℕ, suc, ◌+◌, ◌*◌, ◌%◌, ◌^◌, ◌≤◌, ◌<◌, le_of_suc-le-suc, lt_of_not-le, mul-le-mul, add-one, arith, ltb}
 use lib.Count.{count_leading_zeros}
 use lib.Ieee.{binary64, units}
 use Rattle.ieee.specs.SquareRoot.{root_of}

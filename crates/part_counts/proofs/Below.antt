@@ -1,9 +1,5 @@
 -- A test that is computed for every number below a bound, and what it says of each. Assumes nothing.
-use mathlib.Core.Path.{sym, subst}
-use mathlib.Core.Bool.{Bool, true, false}
-use Prim.Native.Nat.{ℕ, zero, suc, ◌<◌}
-use native.Mathlib.Omega.{arith}
-use lib.Dec.{T}
+use Rattle.std.proofs.Common.{sym, subst, Bool, true, false, ℕ, zero, suc, ◌<◌, arith, T}
 use Rattle.partitions.proofs.Tests.{by_eqb}
 
 abbrev pub both : Bool → Bool → Bool

@@ -1,11 +1,5 @@
 -- How many part lists an order to 20 can have of each len. Assumes nothing.
-use mathlib.Core.Path.{sym, subst}
-use mathlib.Core.Bool.{Bool}
-use mathlib.Core.List.{List, [], ◌∷◌}
-use Prim.Native.Nat.{ℕ, ◌≤◌}
-use native.Mathlib.Omega.{arith}
-use lib.Dec.{T, leb, leb→le}
-use lib.ListN.{length, get_or}
+use Rattle.std.proofs.Common.{sym, subst, Bool, List, [], ◌∷◌, ℕ, ◌≤◌, arith, T, leb, leb→le, length, get_or}
 use Rattle.partitions.specs.Parts.{lists}
 use Rattle.part_counts.proofs.Below.{below, below_at}
 use Rattle.part_counts.proofs.Pruned.{pruned, pruned-is}

@@ -1,11 +1,6 @@
 -- The part lists found without dead ends: no part is tried that leaves too much or too little for the rest. So they are computed quickly, and they
 -- are the same. Assumes nothing.
-use mathlib.Core.Path.{◌≡◌, refl, ◌∙◌, ap, ap₂}
-use mathlib.Core.Bool.{cond}
-use mathlib.Core.List.{List, [], ◌∷◌, ◌++◌, map}
-use Prim.Native.Nat.{ℕ, zero, suc, ◌+◌, ◌-◌, ◌*◌}
-use native.Mathlib.Omega.{arith}
-use lib.Dec.{leb, eqb}
+use Rattle.std.proofs.Common.{◌≡◌, refl, ◌∙◌, ap, ap₂, cond, List, [], ◌∷◌, ◌++◌, map, ℕ, zero, suc, ◌+◌, ◌-◌, ◌*◌, arith, leb, eqb}
 use Rattle.partitions.specs.Parts.{parts}
 use Rattle.partitions.proofs.Tests.{by-leb}
 use Rattle.partitions.proofs.Successor.{none-low, none-high}

@@ -1,11 +1,6 @@
 -- The multiplicities of the part lists of an order and a len add up to the Stirling number of the second kind, to order 20, and to less than 2^53.
 -- Assumes nothing.
-use mathlib.Core.Path.{◌≡◌, sym, ◌∙◌, ap, subst}
-use mathlib.Core.Bool.{Bool}
-use Prim.Native.Nat.{ℕ, suc, ◌^◌, ◌≤◌, ◌<◌}
-use native.Mathlib.Omega.{arith}
-use lib.Dec.{T, eqb, ltb, eqb→eq, ltb→lt}
-use lib.ListN.{get_or}
+use Rattle.std.proofs.Common.{◌≡◌, sym, ◌∙◌, ap, subst, Bool, ℕ, suc, ◌^◌, ◌≤◌, ◌<◌, arith, T, eqb, ltb, eqb→eq, ltb→lt, get_or}
 use Rattle.partitions.specs.Parts.{total, lists, fact, divide, runs_from, runs, multiplicity}
 use Rattle.partitions.specs.Count.{stirling, total_count}
 use Rattle.partitions.proofs.Triangle.{row, row_is}

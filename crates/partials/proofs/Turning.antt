@@ -1,14 +1,8 @@
 -- The formulas of axis and angle read of the entries before theirs only those that are formed, and of jets only the orders up to theirs.
 -- Assumes nothing.
-use mathlib.Core.Path.{◌≡◌, refl, sym, ap, ap₂, ◌∙◌}
-use mathlib.Core.Bool.{Bool, true, false, cond}
-use Rattle.std.specs.Prelude.{Ok, Err}
+use Rattle.std.proofs.Common.{◌≡◌, refl, sym, ap, ap₂, ◌∙◌, Bool, true, false, cond, Ok, Err, List, ℕ, zero, suc, ◌≤◌, ◌<◌, zero-le, min, le_refl, not-suc-le-zero, arith, Float}
 use Rattle.refusals.specs.declared.Refusal.TheVariants.{DivisionByZero}
-use mathlib.Core.List.{List}
-use Prim.Native.Nat.{ℕ, zero, suc, ◌≤◌, ◌<◌, zero-le, min}
-use native.Mathlib.Nat.{le_refl, not-suc-le-zero}
-use native.Mathlib.Omega.{arith}
-use lib.Ieee.{Float, nan}
+use Rattle.std.specs.Float.{nan}
 use Rattle.ieee_vectors.specs.declared.Vector3.{Vector3}
 use Rattle.ieee_vectors.specs.Vectors.{minus, times, over, quotient, dot, cross, positive_zero}
 use Rattle.calculus.specs.Kind.{regular}

@@ -1,3 +1,4 @@
+pub mod Parameters
 pub mod Partials
 pub mod AxisAngle
 pub mod Pairs

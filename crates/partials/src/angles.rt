@@ -32,8 +32,7 @@ fn rates(r: &[f64; 21], n: usize) -> [f64; 21]
 {
     let mut q = [0.0f64; 21];
     for m in 0..n + 1 {
-        let e = rate(r, &q, m);
-        q[m] = e;
+        q[m] = rate(r, &q, m);
     }
     q
 }
@@ -54,22 +53,19 @@ fn turns(rate: &[f64; 21], dot: &[f64; 21], length: &[f64; 21], n: usize) -> [f6
 {
     let mut q = [0.0f64; 21];
     for m in 0..n {
-        let e = turn(rate, dot, length, &q, m);
-        q[m] = e;
+        q[m] = turn(rate, dot, length, &q, m);
     }
     q
 }
 
-// The angle, and after it the entries of its derivative: the loop is as short as a copy between two ranges, and its invariant is that of the loops above.
+// The angle, and after it the first n entries of its derivative.
 fn with_angle(angle: f64, turn: &[f64; 21], n: usize) -> [f64; 21]
     requires { n ≤ 20 }
     ensures { result ≡ curve_array positive_zero (angles_from angle (curve_numbers turn.now)) n }
 {
     let mut r = [0.0f64; 21];
     r[0] = angle;
-    for m in 0..n {
-        r[m + 1] = turn[m];
-    }
+    r[1..n + 1].copy_from_slice(&turn[..n]);
     r
 }
 

@@ -10,6 +10,8 @@ ghost use Rattle.partials.specs.Pairs.{decided, order_of};
 
 use ieee_vectors::Vector3;
 use refusals::Refusal;
+use rodrigues::Rotation;
+use rotations::Parameter;
 
 mod angles;
 mod rotations;
@@ -29,6 +31,13 @@ pub enum Decision {
     Unserved,
 }
 
+// How a rotation moves: a derivative of its axis, and of its angle.
+#[derive(Clone, Copy)]
+pub struct Motion {
+    pub axis: Vector3,
+    pub angle: f64,
+}
+
 // How the circle's axis and angle move along the edge, and the clamped cosine of the angle.
 #[derive(Clone, Copy)]
 pub struct AxisAngle {
@@ -41,20 +50,11 @@ pub struct AxisAngle {
 pub fn decide(m: usize, n: usize) -> Decision
     ensures { result ≡ decided m n }
 {
-    match n {
-        0 => match m {
-            0..=20 => Decision::Arc,
-            _ => Decision::Unserved,
-        },
-        1 => match m {
-            0 => Decision::Edge(EdgePartial::V),
-            1 => Decision::Edge(EdgePartial::Uv),
-            _ => Decision::Unserved,
-        },
-        2 => match m {
-            0 => Decision::Edge(EdgePartial::Vv),
-            _ => Decision::Unserved,
-        },
+    match (m, n) {
+        (0..=20, 0) => Decision::Arc,
+        (0, 1) => Decision::Edge(EdgePartial::V),
+        (1, 1) => Decision::Edge(EdgePartial::Uv),
+        (0, 2) => Decision::Edge(EdgePartial::Vv),
         _ => Decision::Unserved,
     }
 }
@@ -72,30 +72,16 @@ pub fn order(p: EdgePartial) -> usize
 }
 
 // The partials from their parts: the arm and its derivatives are contact point 0 less the centre.
-pub fn by_v(
-    axis: Vector3,
-    s: f64,
-    c: f64,
-    a: Vector3,
-    t: f64,
-    dcenter: Vector3,
-    arm: Vector3,
-    darm: Vector3,
-) -> Vector3
-    ensures { result ≡ by_v axis s c a t dcenter arm darm }
+pub fn by_v(turn: Rotation, a: Motion, dcenter: Vector3, arm: Vector3, darm: Vector3) -> Vector3
+    ensures { result ≡ by_v turn.axis turn.angle.s turn.angle.c a.axis a.angle dcenter arm darm }
 {
-    let turn = rotations::turn_v(axis, s, c, a, t);
-    let fixed = rodrigues::rotation(0, 0, 0, 0, axis, s, c);
-    let turned = turn.image(arm);
-    let moved = fixed.image(darm);
-    let first = dcenter.add(turned);
-    first.add(moved)
+    let turned = rotations::turn_v(turn, a).image(arm);
+    let moved = turn.derived(0, 0, 0, 0).image(darm);
+    dcenter.add(turned).add(moved)
 }
 
 pub fn by_uv(
-    axis: Vector3,
-    s: f64,
-    c: f64,
+    turn: Rotation,
     a: Vector3,
     angle: f64,
     dangle: f64,
@@ -103,45 +89,34 @@ pub fn by_uv(
     arm: Vector3,
     darm: Vector3,
 ) -> Vector3
-    ensures { result ≡ by_u_v axis s c a angle dangle u arm darm }
+    ensures { result ≡ by_u_v turn.axis turn.angle.s turn.angle.c a angle dangle u arm darm }
 {
-    let by_axis = rotations::turn_by_axis(axis, s, c, a, angle);
-    let by_angle = rotations::turn_by_angle(axis, s, c, angle, dangle, u);
-    let once = rotations::by_one(axis, s, c, 3);
-    let both = by_axis.add(by_angle);
-    let turned = both.image(arm);
-    let along = once.mul(angle);
-    let moved = along.image(darm);
+    let by_axis = rotations::turn_by_axis(turn, a, angle);
+    let by_angle = rotations::turn_by_angle(turn, angle, dangle, u);
+    let once = rotations::by_one(turn, Parameter::Angle);
+    let turned = by_axis.add(by_angle).image(arm);
+    let moved = once.mul(angle).image(darm);
     turned.add(moved)
 }
 
 pub fn by_vv(
-    axis: Vector3,
-    s: f64,
-    c: f64,
-    a: Vector3,
-    t: f64,
-    da: Vector3,
-    dt: f64,
+    turn: Rotation,
+    a: Motion,
+    da: Motion,
     ddcenter: Vector3,
     arm: Vector3,
     darm: Vector3,
     ddarm: Vector3,
 ) -> Vector3
-    ensures { result ≡ by_v_v axis s c a t da dt ddcenter arm darm ddarm }
+    ensures { result ≡ by_v_v turn.axis turn.angle.s turn.angle.c a.axis a.angle da.axis da.angle ddcenter arm darm ddarm }
 {
-    let coef0 = rotations::one_terms(axis, s, c, da, dt);
-    let coef1 = rotations::two_terms(axis, s, c, a, t);
-    let coef2 = rotations::one_terms(axis, s, c, a, t);
-    let fixed = rodrigues::rotation(0, 0, 0, 0, axis, s, c);
-    let both = coef0.add(coef1);
-    let turned = both.image(arm);
-    let first = ddcenter.add(turned);
-    let twice = coef2.mul(2.0);
-    let moved = twice.image(darm);
-    let second = first.add(moved);
-    let last = fixed.image(ddarm);
-    second.add(last)
+    let coef0 = rotations::one_terms(turn, da);
+    let coef1 = rotations::two_terms(turn, a);
+    let coef2 = rotations::one_terms(turn, a);
+    let turned = coef0.add(coef1).image(arm);
+    let moved = coef2.mul(2.0).image(darm);
+    let last = turn.derived(0, 0, 0, 0).image(ddarm);
+    ddcenter.add(turned).add(moved).add(last)
 }
 
 // Axis and angle up to the order n, at most 19, from the centre, the contact points, the radius r and the angle itself; refused where a division by

@@ -1,9 +1,6 @@
 -- Nonincreasing lists of parts from 1 to m.
 -- Assumes nothing.
-use mathlib.Core.List.{List, [], ◌∷◌}
-use Prim.Native.Nat.{ℕ, suc, ◌≤◌}
-use native.Mathlib.Omega.{arith}
-use lib.ListN.{length}
+use Rattle.std.proofs.Common.{List, [], ◌∷◌, ℕ, suc, ◌≤◌, arith, length}
 use Rattle.partitions.specs.Parts.{total}
 
 pub data Down : ℕ → List ℕ → Type 0 where

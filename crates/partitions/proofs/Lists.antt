@@ -1,13 +1,8 @@
 -- The lists of parts are what they are said to be: nonincreasing, of the given length and sum; all of them; greatest first, each once.
 -- Assumes nothing.
-use mathlib.Core.Path.{◌≡◌, refl, sym, ap, subst}
-use mathlib.Core.Bool.{cond}
+use Rattle.std.proofs.Common.{◌≡◌, refl, sym, ap, subst, cond, List, [], ◌∷◌, ◌++◌, map, ℕ, zero, suc, ◌-◌, ◌<◌, arith, leb, length}
 use mathlib.Core.List.Memᴰ
-use mathlib.Core.List.{List, [], ◌∷◌, ◌++◌, map, Memᴰ}
-use Prim.Native.Nat.{ℕ, zero, suc, ◌-◌, ◌<◌}
-use native.Mathlib.Omega.{arith}
-use lib.Dec.{leb}
-use lib.ListN.{length}
+use mathlib.Core.List.{Memᴰ}
 use Rattle.partitions.specs.Parts.{total, parts}
 use Rattle.partitions.proofs.Tests.{by-leb, by_eqb}
 use Rattle.partitions.proofs.Down.{Down, none, one, wider}

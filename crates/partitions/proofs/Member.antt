@@ -1,16 +1,10 @@
 -- Which lists are among the lists, and the lists from one on.
 -- Assumes nothing.
-use mathlib.Core.Path.{◌≡◌, refl, sym, ◌∙◌, ap, ap₂, subst}
-use mathlib.Core.Bool.{Bool, true, false, cond, true≢false}
-use mathlib.Core.List.{List, [], ◌∷◌, Memᴰ, nil≢cons, head-eq_of_cons-eq}
-use Prim.Native.Nat.{ℕ, zero, suc, ◌≤◌, ◌<◌}
-use native.Mathlib.Omega.{arith}
-use lib.Dec.{ltb}
-use lib.ListN.{length, get_or}
+use Rattle.std.proofs.Common.{◌≡◌, refl, sym, ◌∙◌, ap, ap₂, subst, Bool, true, false, cond, true≢false, List, [], ◌∷◌, ℕ, zero, suc, ◌≤◌, ◌<◌, arith, ltb, length, get_or, eq-eqb, ne_eqb}
+use mathlib.Core.List.{Memᴰ, nil≢cons, head-eq_of_cons-eq}
 use Rattle.partitions.specs.Parts.{total, parts, lists}
 use Rattle.partitions.specs.Walk.{same, from}
 use Rattle.partitions.specs.Count.{falls, is_list}
-use borrow.Author.Tests.{eq-eqb, ne_eqb}
 use Rattle.partitions.proofs.Tests.{by-leb, by_eqb}
 use Rattle.partitions.proofs.Down.{Down, none, one}
 use Rattle.partitions.proofs.Lists.{Every, nil, and, head_of, every-weaken, Is, sound, complete, Greater, sooner, later}
@@ -90,13 +84,6 @@ falls_down m (suc a ∷ l) e =
     by-leb (suc m) (suc a) (λ b. cond b false (falls (suc a) l) ≡ true → Down m (suc a ∷ l))
     (λ _ g. absurd (true≢false (sym g))) (λ h g. one {m = m} {a = a} (omega arith) (falls_down (suc a) l g))
     (ap (λ b. cond b false (cond (ltb m (suc a)) false (falls (suc a) l))) (sym (ne_eqb (suc a) 0 (λ z. omega arith))) ∙ e)
-
-pub by-falls : (m : ℕ) (l : List ℕ) (P : Bool → Type 0) → (Down m l → P true) → (¬ (Down m l) → P false) → P (falls m l)
-by-falls m l P f g = split (falls m l) refl
-  where
-    split : (b : Bool) → falls m l ≡ b → P b
-    split true e = f (falls_down m l e)
-    split false e = g (λ d. true≢false (sym (down-falls d) ∙ e))
 
 -- the bound may be any number that is at least the first part
 pub down-least : {m n : ℕ} {l : List ℕ} → Down m l → total l ≤ n → Down n l

@@ -1,20 +1,16 @@
 -- The step to the next list, as the code takes it: in the tail; else the first part falls by one and the tail starts anew; else there is none.
 -- Assumes nothing.
-use mathlib.Core.Path.{◌≡◌, refl, sym, ap, ap₂, ◌∙◌}
-use mathlib.Core.Bool.{Bool, true, false, cond, false≢true}
-use mathlib.Core.List.{List, [], ◌∷◌}
-use Prim.Native.Nat.{ℕ, ◌+◌, ◌-◌, ◌*◌, ◌≤◌, ◌<◌, min}
-use native.Mathlib.Nat.{mul-zero}
-use native.Mathlib.Omega.{arith}
-use lib.Dec.{leb, ltb, eqb}
-use lib.ListN.{length, get_or, set, length-set}
+use Rattle.std.proofs.Common.{◌≡◌, refl, sym, ap, ap₂, ◌∙◌, Bool, true, false, cond, List, [], ◌∷◌, ℕ, ◌+◌, ◌-◌, ◌*◌, ◌≤◌, ◌<◌, mul-zero, arith, leb, ltb, eqb, length, get_or, set, ltb-false, le-ltb, ne_eqb}
+use mathlib.Core.Bool.{false≢true}
 use borrow.Rule.Slice.PartMut.{put_mid}
-use borrow.Author.Tests.{eqb-false, ltb-false, le-ltb, ne_eqb}
+use borrow.Author.Tests.{eqb-false}
+use Rattle.std.specs.List.{sum}
 use Rattle.partitions.specs.Parts.{total}
 use Rattle.partitions.specs.Count.{falls}
 use Rattle.partitions.specs.Inner.{greatest, can_init, has_next, next_of}
 use Rattle.partitions.proofs.Successor.{next-same}
-use Rattle.partitions.proofs.Tail.{tail_of, one_less, tail-cons, put-cons, put-length}
+use Rattle.partitions.proofs.Slices.{sum-total}
+use Rattle.partitions.proofs.Tail.{tail_of, one_less, tail-cons, put-cons}
 
 -- ---- what `falls` says of the first part and of the tail
 pub record First (m a : ℕ) (t : List ℕ) : Type 0 where
@@ -86,9 +82,8 @@ module _ (x : List ℕ) (h : 0 < length x) (e : falls 20 x ≡ true) where
       by [] h = absurd (omega arith)
       by (a ∷ t) h = omega (arith, ap total (tail-cons a t))
 
--- the sum of the tail as the code has it, which is not cut at 21 here
-pub sum_is : (x : List ℕ) (n : ℕ) → 0 < length x → falls 20 x ≡ true → total x ≤ 20 → n ≡ min (total (tail_of x)) 21 → n + 1 ≡ total (tail_of x) + 1
-sum_is x n h e s r = omega (arith, tail-total x h e)
+  pub tail-sum : total x ≤ 20 → sum (tail_of x) ≤ 20
+  tail-sum s = omega (arith, sum-total (tail_of x), tail-total)
 
 -- ---- the four ways that the step goes
 pub no-tail : (x : List ℕ) → length x ≤ 1 → (false ≡ has_next x) × (x ≡ next_of x)
@@ -129,8 +124,12 @@ abbrev pub lowered : List ℕ → List ℕ → List ℕ
 lowered x ys = set (put_mid 1 (length x - 1) x ys) 0 (get_or x 0 0 - 1)
 
 -- the tests and the sums that the code has of the tail, at a ∷ t
-asked : (a n : ℕ) (t : List ℕ) (b : Bool) → n ≡ total (tail_of (a ∷ t)) + 1 → can_init (length (a ∷ t) - 1) n (a - 1) ≡ b → can_init (length t) (total t + 1) (a - 1) ≡ b
-asked a n t b e k = sym (ap₂ (λ (i j : ℕ). can_init i j (a - 1)) (one_less (length t)) (e ∙ ap (λ (l : List ℕ). total l + 1) (tail-cons a t))) ∙ k
+module _ (a n : ℕ) (t : List ℕ) (e : n ≡ sum (tail_of (a ∷ t))) where
+  one-more : n + 1 ≡ total t + 1
+  one-more = ap (λ (n : ℕ). n + 1) (e ∙ sum-total (tail_of (a ∷ t)) ∙ ap total (tail-cons a t))
+
+  asked : (b : Bool) → can_init (length (a ∷ t) - 1) (n + 1) (a - 1) ≡ b → can_init (length t) (total t + 1) (a - 1) ≡ b
+  asked b k = sym (ap₂ (λ (i j : ℕ). can_init i j (a - 1)) (one_less (length t)) one-more) ∙ k
 
 pub moved-tail : (x ys : List ℕ) → 0 < length x → ys ≡ next_of (tail_of x) → has_next (tail_of x) ≡ true →
     (true ≡ has_next x) × (put_mid 1 (length x - 1) x ys ≡ next_of x)
@@ -139,27 +138,24 @@ moved-tail (a ∷ t) ys h e k =
     let r = in_tail a t ys (e ∙ ap next_of (tail-cons a t)) (sym (ap has_next (tail-cons a t)) ∙ k) in
     (r.0, put-cons a t ys ∙ r.1)
 
-pub moved_none : (x ys : List ℕ) (n : ℕ) → 0 < length x → ys ≡ next_of (tail_of x) → has_next (tail_of x) ≡ false → n ≡ total (tail_of x) + 1 →
-    can_init (length x - 1) n (get_or x 0 0 - 1) ≡ false → (false ≡ has_next x) × (put_mid 1 (length x - 1) x ys ≡ next_of x)
+pub moved_none : (x ys : List ℕ) (n : ℕ) → 0 < length x → ys ≡ next_of (tail_of x) → has_next (tail_of x) ≡ false → n ≡ sum (tail_of x) →
+    can_init (length x - 1) (n + 1) (get_or x 0 0 - 1) ≡ false → (false ≡ has_next x) × (put_mid 1 (length x - 1) x ys ≡ next_of x)
 moved_none [] ys n h e k s c = absurd (omega arith)
 moved_none (a ∷ t) ys n h e k s c =
-    let r = nowhere a t ys (e ∙ ap next_of (tail-cons a t)) (sym (ap has_next (tail-cons a t)) ∙ k) (asked a n t false s c) in
+    let r = nowhere a t ys (e ∙ ap next_of (tail-cons a t)) (sym (ap has_next (tail-cons a t)) ∙ k) (asked a n t s false c) in
     (r.0, put-cons a t ys ∙ r.1)
 
 pub lowered-cons : (a : ℕ) (t ys : List ℕ) → lowered (a ∷ t) ys ≡ (a - 1) ∷ ys
 lowered-cons a t ys = ap (λ (l : List ℕ). set l 0 (a - 1)) (put-cons a t ys)
 
-pub moved-anew : (x ys zs : List ℕ) (n : ℕ) → 0 < length x → length ys ≡ length (tail_of x) → has_next (tail_of x) ≡ false → n ≡ total (tail_of x) + 1 →
-    can_init (length x - 1) n (get_or x 0 0 - 1) ≡ true → zs ≡ greatest (length (tail_of (lowered x ys))) n (get_or x 0 0 - 1) →
+pub moved-anew : (x ys zs : List ℕ) (n : ℕ) → 0 < length x → length ys ≡ length (tail_of x) → has_next (tail_of x) ≡ false → n ≡ sum (tail_of x) →
+    can_init (length x - 1) (n + 1) (get_or x 0 0 - 1) ≡ true → zs ≡ greatest (length (tail_of (lowered x ys))) (n + 1) (get_or x 0 0 - 1) →
     (true ≡ has_next x) × (put_mid 1 (length (lowered x ys) - 1) (lowered x ys) zs ≡ next_of x)
 moved-anew [] ys zs n h e k s c g = absurd (omega arith)
 moved-anew (a ∷ t) ys zs n h e k s c g =
-    let r = anew a t (next_of t) refl (sym (ap has_next (tail-cons a t)) ∙ k) (asked a n t true s c) in
+    let r = anew a t (next_of t) refl (sym (ap has_next (tail-cons a t)) ∙ k) (asked a n t s true c) in
     let long : length (tail_of (lowered (a ∷ t) ys)) ≡ length t = ap (λ (l : List ℕ). length (tail_of l)) (lowered-cons a t ys) ∙ ap length (tail-cons (a - 1) ys) ∙ e ∙ ap length (tail-cons a t) in (
       r.0,
       ap (λ (l : List ℕ). put_mid 1 (length l - 1) l zs) (lowered-cons a t ys) ∙ put-cons (a - 1) ys zs
-          ∙ ap (λ (l : List ℕ). (a - 1) ∷ l) (g ∙ ap₂ (λ (i j : ℕ). greatest i j (a - 1)) long (s ∙ ap (λ (l : List ℕ). total l + 1) (tail-cons a t))) ∙ r.1,
+          ∙ ap (λ (l : List ℕ). (a - 1) ∷ l) (g ∙ ap₂ (λ (i j : ℕ). greatest i j (a - 1)) long (one-more a n t s)) ∙ r.1,
     )
-
-pub lowered-length : (x ys : List ℕ) → 0 < length x → length ys ≡ length (tail_of x) → length (lowered x ys) ≡ length x
-lowered-length x ys h e = length-set (put_mid 1 (length x - 1) x ys) 0 (get_or x 0 0 - 1) ∙ put-length x ys h e

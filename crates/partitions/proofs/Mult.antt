@@ -1,12 +1,6 @@
 -- The weight of a list of positive parts divides the factorial of its sum.
 -- Assumes nothing.
-use mathlib.Core.Path.{◌≡◌, refl, sym, ◌∙◌, ap}
-use mathlib.Core.Logic.{◌⊎◌, inl, inr}
-use mathlib.Core.List.{List, ◌∷◌}
-use Prim.Native.Nat.{ℕ, zero, suc, ◌+◌, ◌*◌, ◌<◌}
-use native.Mathlib.Omega.{arith}
-use native.Mathlib.Nat.{mul_comm}
-use lib.ListN.{length}
+use Rattle.std.proofs.Common.{◌≡◌, refl, sym, ◌∙◌, ap, ◌⊎◌, inl, inr, List, ◌∷◌, ℕ, zero, suc, ◌+◌, ◌*◌, ◌<◌, arith, mul_comm, length}
 use Rattle.partitions.specs.Parts.{total, fact}
 use Rattle.partitions.proofs.Out.{Out, Pos, empty, more, out-pos, out-length, out-total, out-weight, count, weight, none-or-out, by_value, divides-sum}
 

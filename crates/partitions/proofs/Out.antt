@@ -1,17 +1,7 @@
 -- Taking one part out of a list: what it does to the sum, the counts and the weight.
 -- Assumes nothing.
-use mathlib.Core.Path.{◌≡◌, refl, sym, ◌∙◌, ap, ap₂, subst}
-use mathlib.Core.Bool.{cond}
-use mathlib.Core.Logic.{◌⊎◌, inl, inr}
-use mathlib.Core.List.{List, [], ◌∷◌}
-use Prim.Native.Nat.{ℕ, zero, suc, ◌+◌, ◌*◌, ◌≤◌, ◌<◌}
-use native.Mathlib.Omega.{arith}
-use native.Mathlib.Nat.{mul-pos, mul-zero, mul-add}
-use native.Mathlib.Numerals.{one-add}
-use lib.Dec.{eqb}
-use lib.ListN.{length}
+use Rattle.std.proofs.Common.{◌≡◌, refl, sym, ◌∙◌, ap, ap₂, subst, cond, ◌⊎◌, inl, inr, List, [], ◌∷◌, ℕ, zero, suc, ◌+◌, ◌*◌, ◌≤◌, ◌<◌, arith, mul-pos, mul-zero, mul-add, one-add, eqb, length, eq-eqb, ne_eqb}
 use Rattle.partitions.specs.Parts.{total, fact}
-use borrow.Author.Tests.{eq-eqb, ne_eqb}
 use Rattle.partitions.proofs.Tests.{by_eqb}
 use Rattle.partitions.proofs.Down.{Down, none, one}
 

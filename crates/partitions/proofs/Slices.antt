@@ -1,14 +1,41 @@
--- What a loop over a slice of parts uses: a sum, a test and the divisions from an index on, one part further. Assumes nothing.
-use Rattle.std.proofs.Common.{◌≡◌, refl, sym, ap, ap₂, ◌∙◌, Bool, true, false, cond, List, [], ◌∷◌, ◌⊎◌, inl, inr, ℕ, suc, ◌+◌, ◌-◌, ◌*◌, ◌/◌, ◌≤◌, ◌<◌, mul_comm, add-one, arith, eqb, ltb, length, get_or, drop, drop_of_length-le, drop-cons, eq-eqb, ne_eqb, lt-ltb, le-ltb}
+-- What the functions over a slice of parts use: sums, and a test, the divisions and the runs one part further. Assumes nothing.
+use Rattle.std.proofs.Common.{◌≡◌, refl, sym, ap, ◌∙◌, true, false, cond, Option, Some, None, List, [], ◌∷◌, ◌⊎◌, inl, inr, ℕ, suc, ◌+◌, ◌-◌, ◌*◌, ◌/◌, ◌≤◌, ◌<◌, mul_comm, add-one, min, arith, eqb, ltb, leb, length, length-drop, get_or, get_or-take, take, drop, drop_of_length-le, drop-cons, eq-eqb, ne_eqb, lt-ltb, le-ltb}
+use Rattle.std.specs.List.{sum, fold}
+use Rattle.std.specs.Bool.{then_some}
+use Rattle.partitions.proofs.Tests.{by-leb}
+use Rattle.std.proofs.lemmas.List.Sums.{sum_by_from}
 use Rattle.partitions.specs.Parts.{total, fact, divide, runs_from, runs}
 use Rattle.partitions.specs.Count.{falls}
 
 pub drop_at : (l : List ℕ) (i : ℕ) → i < length l → drop i l ≡ get_or l i 0 ∷ drop (i + 1) l
 drop_at l i h = rw (add-one, drop-cons l i 0)
 
-pub total-at : (l : List ℕ) (i : ℕ) → i < length l → total (drop i l) ≡ get_or l i 0 + total (drop (i + 1) l)
+-- the sum of the kit
+pub sum-total : (l : List ℕ) → sum l ≡ total l
 unfolding total
-total-at l i h = ap total (drop_at l i h)
+sum-total [] = refl
+sum-total (a ∷ l) = omega (arith, sum_by_from (λ x. x) (0 + a) l, sum-total l)
+
+-- sums as the code has them: in numbers up to m, and at most 20 or none
+saturates : (m s : ℕ) (l : List ℕ) → s ≤ m → fold (λ s a. min (s + a) m) s l ≡ min (s + total l) m
+unfolding total
+saturates m s [] h = omega arith
+saturates m s (a ∷ l) h = saturates m (min (s + a) m) l (omega arith) ∙ omega arith
+
+pub kept : (m : ℕ) (l : List ℕ) {s : ℕ} → 20 < m → s ≡ fold (λ s a. min (s + a) m) 0 l → then_some (leb s 20) s ≡ cond (ltb 20 (total l)) None (Some (total l))
+kept m l {s} h e =
+    let f = e ∙ saturates m 0 l (omega arith) in
+    by-leb s 20 (λ b. then_some b s ≡ cond (ltb 20 (total l)) None (Some (total l)))
+    (λ g. let is : s ≡ total l = omega (arith, f) in rw is (rw (le-ltb 20 (total l) (omega arith)) refl))
+    (λ g. rw (lt-ltb 20 (total l) (omega (arith, f))) refl)
+
+-- what such a sum says
+module _ {s : Option ℕ} (t : ℕ) (e : s ≡ cond (ltb 20 t) None (Some t)) where
+  pub sum_is : (n : ℕ) → s ≡ Some n → (t ≡ n) × (n ≤ 20)
+  sum_is n h = by-leb 21 t (λ b. cond b None (Some t) ≡ Some n → (t ≡ n) × (n ≤ 20)) (λ _ f. cc) (λ g f. let is : t ≡ n = cc in (is, omega arith)) (sym e ∙ h)
+
+  pub sum-high : s ≡ None → 20 < t
+  sum-high h = by-leb 21 t (λ b. cond b None (Some t) ≡ None → 20 < t) (λ g _. omega arith) (λ _ f. cc) (sym e ∙ h)
 
 module _ (m : ℕ) (l : List ℕ) (i : ℕ) (h : i < length l) where
   falls_at : falls m (drop i l) ≡ cond (eqb (get_or l i 0) 0) false (cond (ltb m (get_or l i 0)) false (falls (get_or l i 0) (drop (i + 1) l)))
@@ -27,40 +54,53 @@ pub divide-at : (x : ℕ) (l : List ℕ) (i : ℕ) → i < length l → divide x
 unfolding divide
 divide-at x l i h = ap (divide x) (drop_at l i h)
 
--- the runs from an index on, where k parts equal to the one before it stand last
+-- the runs of a list, of which one part stands last
 pub runs-start : (l : List ℕ) → 0 < length l → runs_from (get_or l 0 0) 1 (drop 1 l) ≡ runs l
 unfolding runs
 runs-start [] h = absurd (omega arith)
 runs-start (a ∷ l) h = refl
 
-back : (i : ℕ) → i ≡ i + 1 - 1
-back i = omega arith
+-- the next part is like the one before it, of which k stand last, or not
+longer : (k : ℕ) (left : List ℕ) → 2 ≤ length left → get_or left 1 0 ≡ get_or left 0 0 →
+    runs_from (get_or left 0 0) k (drop 1 left) ≡ runs_from (get_or (drop 1 left) 0 0) (k + 1) (drop 1 (drop 1 left))
+unfolding runs_from
+longer k [] h e = absurd (omega arith)
+longer k (a ∷ []) h e = absurd (omega arith)
+longer k (a ∷ (b ∷ l)) h e = rw (eq-eqb b a e, add-one) (ap (λ (x : ℕ). runs_from x (suc k) l) (sym e))
 
-module _ (a k : ℕ) (l : List ℕ) (i : ℕ) (h : i < length l) where
-  runs-at : runs_from a k (drop i l) ≡ cond (eqb (get_or l i 0) a) (runs_from a (suc k) (drop (i + 1) l)) (k ∷ runs_from (get_or l i 0) 1 (drop (i + 1) l))
-  unfolding runs_from
-  runs-at = ap (runs_from a k) (drop_at l i h)
+over : (k : ℕ) (left : List ℕ) → 2 ≤ length left → ¬ (get_or left 1 0 ≡ get_or left 0 0) →
+    runs_from (get_or left 0 0) k (drop 1 left) ≡ k ∷ runs_from (get_or (drop 1 left) 0 0) 1 (drop 1 (drop 1 left))
+unfolding runs_from
+over k [] h e = absurd (omega arith)
+over k (a ∷ []) h e = absurd (omega arith)
+over k (a ∷ (b ∷ l)) h e = rw (ne_eqb b a e) refl
 
-  pub run-longer : get_or l i 0 ≡ a → runs_from a k (drop i l) ≡ runs_from (get_or l (i + 1 - 1) 0) (k + 1) (drop (i + 1) l)
-  run-longer e =
-      runs-at
-      ∙ ap (λ (t : Bool). cond t (runs_from a (suc k) (drop (i + 1) l)) (k ∷ runs_from (get_or l i 0) 1 (drop (i + 1) l))) (eq-eqb (get_or l i 0) a e)
-      ∙ ap₂ (λ (x n : ℕ). runs_from x n (drop (i + 1) l)) (sym e ∙ ap (λ (j : ℕ). get_or l j 0) (back i)) (sym (add-one k))
+-- the same of a window of two
+module _ (k : ℕ) (left : List ℕ) {size : ℕ} {pair after : List ℕ} (two : size ≡ 2) (h : size ≤ length left) (p : pair ≡ take size left) (e : after ≡ drop 1 left) where
+  pub one_less : length after ≡ length left - 1
+  one_less = ap length e ∙ length-drop 1 left
 
-  pub run-over : (get_or l i 0 ≡ a → ⊥) → runs_from a k (drop i l) ≡ k ∷ runs_from (get_or l (i + 1 - 1) 0) 1 (drop (i + 1) l)
-  run-over e =
-      runs-at
-      ∙ ap (λ (t : Bool). cond t (runs_from a (suc k) (drop (i + 1) l)) (k ∷ runs_from (get_or l i 0) 1 (drop (i + 1) l))) (ne_eqb (get_or l i 0) a e)
-      ∙ ap (λ (j : ℕ). k ∷ runs_from (get_or l j 0) 1 (drop (i + 1) l)) (back i)
+  in-pair : (i : ℕ) → i < 2 → get_or left i 0 ≡ get_or pair i 0
+  in-pair i l = sym (ap (λ (x : List ℕ). get_or x i 0) p ∙ get_or-take size left i 0 (omega arith))
+
+  pub run-longer : get_or pair 1 0 ≡ get_or pair 0 0 → runs_from (get_or left 0 0) k (drop 1 left) ≡ runs_from (get_or after 0 0) (k + 1) (drop 1 after)
+  run-longer f =
+      longer k left (omega arith) (in-pair 1 (omega arith) ∙ f ∙ sym (in-pair 0 (omega arith)))
+      ∙ ap (λ (x : List ℕ). runs_from (get_or x 0 0) (k + 1) (drop 1 x)) (sym e)
+
+  pub run-over : ¬ (get_or pair 1 0 ≡ get_or pair 0 0) → runs_from (get_or left 0 0) k (drop 1 left) ≡ k ∷ runs_from (get_or after 0 0) 1 (drop 1 after)
+  run-over f =
+      over k left (omega arith) (λ g. f (sym (in-pair 1 (omega arith)) ∙ g ∙ in-pair 0 (omega arith)))
+      ∙ ap (λ (x : List ℕ). k ∷ runs_from (get_or x 0 0) 1 (drop 1 x)) (sym e)
 
 -- past the end
 pub falls-past : (m : ℕ) (l : List ℕ) (i : ℕ) → length l ≤ i → falls m (drop i l) ≡ true
 unfolding falls
 falls-past m l i h = ap (falls m) (drop_of_length-le l h)
 
-pub runs_past : (a k : ℕ) (l : List ℕ) (i : ℕ) → length l ≤ i → runs_from a k (drop i l) ≡ k ∷ []
+pub runs_past : (a k : ℕ) (left : List ℕ) → length left < 2 → runs_from a k (drop 1 left) ≡ k ∷ []
 unfolding runs_from
-runs_past a k l i h = ap (runs_from a k) (drop_of_length-le l h)
+runs_past a k left h = let short : length left ≤ 1 = omega arith in ap (runs_from a k) (drop_of_length-le left short)
 
 pub divide-first : (x k : ℕ) (l : List ℕ) → divide (x / fact k) l ≡ divide x (k ∷ l)
 unfolding divide
@@ -73,10 +113,6 @@ divide-one x k = refl
 pub divide-past : (x : ℕ) (l : List ℕ) (i : ℕ) → length l ≤ i → divide x (drop i l) ≡ x
 unfolding divide
 divide-past x l i h = ap (divide x) (drop_of_length-le l h)
-
-pub nothing-past : (l : List ℕ) (i : ℕ) → length l ≤ i → total (drop i l) ≡ 0
-unfolding total
-nothing-past l i h = ap total (drop_of_length-le l h)
 
 pub fact-next : (i : ℕ) → fact i * (i + 1) ≡ fact (i + 1)
 unfolding fact

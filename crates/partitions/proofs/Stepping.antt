@@ -1,5 +1,5 @@
 -- What the code of a start and of a step finds, by the walk's definition. Assumes nothing.
-use Rattle.std.proofs.Common.{◌≡◌, refl, sym, ap, ap₂, ◌∙◌, Bool, true, false, not, List, ◌∷◌, ◌++◌, ℕ, ◌-◌, ◌≤◌, min, arith, length, take, drop, replicate, take-append-drop, length-take-le, Some, None, Ok, Err}
+use Rattle.std.proofs.Common.{◌≡◌, refl, sym, ap, ap₂, ◌∙◌, Bool, true, false, not, List, ◌∷◌, ◌++◌, ℕ, ◌-◌, ◌≤◌, arith, ltb, le-ltb, length, take, drop, replicate, take-append-drop, length-take-le, cond, Option, Some, None, Ok, Err}
 use Rattle.std.proofs.lemmas.List.{drop-replicate}
 use Rattle.refusals.specs.declared.Refusal.{Refusal}
 use Rattle.refusals.specs.declared.Refusal.TheVariants.{NoPartList}
@@ -8,6 +8,7 @@ use Rattle.partitions.specs.Count.{falls}
 use Rattle.partitions.specs.Inner.{greatest, has_next, next_of, held, moved_on}
 use Rattle.partitions.specs.Walk.{from, padded, tested, started, started_by, stepped}
 use Rattle.partitions.specs.declared.CompositionIter.{CompositionIter}
+use Rattle.partitions.proofs.Slices.{sum_is}
 use Rattle.partitions.proofs.Member.{listed, unlisted-falls, unlisted-total, down-falls, from_is}
 use Rattle.partitions.proofs.Successor.{greatest-length, next-same}
 use Rattle.partitions.proofs.Moves.{falls-wider}
@@ -52,26 +53,27 @@ item-refused w r e = sym (ap (λ s. s.item) (stepped-out w r e))
 pub item-ended : (w : CompositionIter) → tested w.order w.len ≡ Ok tt → w.end ≡ true → Ok None ≡ (stepped w).item
 item-ended w e h = sym (ap (λ s. s.item) (stepped-end w e h))
 
--- a walk that has lists and has not ended, of which the code adds the parts up to s
-module _ (w : CompositionIter) (e : tested w.order w.len ≡ Ok tt) (g : w.end ≡ false) (s : ℕ) (q : s ≡ min (total (held w)) 21) where
+-- a walk that has lists and has not ended, of which the code has the sum s
+module _ (w : CompositionIter) (e : tested w.order w.len ≡ Ok tt) (g : w.end ≡ false) (s : Option ℕ)
+    (q : s ≡ cond (ltb 20 (total (held w))) None (Some (total (held w)))) where
   range : InRange w.order w.len
   range = range-of w.order w.len e
 
   -- where the parts do not have the sum of the walk, and where they are no part list
-  pub item_sum : ¬ (s ≡ w.order) → Err NoPartList ≡ (stepped w).item
+  pub item_sum : ¬ (s ≡ Some w.order) → Err NoPartList ≡ (stepped w).item
   item_sum h =
       let o : w.order ≤ 20 = range.2 in
-      sym (ap (λ s. s.item) (stepped-none w e g (unlisted-total w.order w.len (held w) (λ t. h (omega arith)))))
+      sym (ap (λ s. s.item) (stepped-none w e g (unlisted-total w.order w.len (held w) (λ t. h (q ∙ simp (t, le-ltb 20 w.order o))))))
 
   pub item_falls : falls w.order (held w) ≡ false → Err NoPartList ≡ (stepped w).item
   item_falls h = sym (ap (λ s. s.item) (stepped-none w e g (unlisted-falls w.order w.len (held w) h)))
 
   -- else it holds a list
-  pub item-holds : length w.current ≡ 20 → s ≡ w.order → falls w.order (held w) ≡ true → Holds w
+  pub item-holds : length w.current ≡ 20 → s ≡ Some w.order → falls w.order (held w) ≡ true → Holds w
   item-holds l t f =
       let o : w.order ≤ 20 = range.2 in
       let a : w.len ≤ w.order = range.1 in
-      record { none = e; going = g; sums = omega arith; down = f; long = length-take-le w.len w.current (omega (arith, l)) }
+      record { none = e; going = g; sums = (sum_is (total (held w)) q w.order t).0; down = f; long = length-take-le w.len w.current (omega (arith, l)) }
 
 module _ {w : CompositionIter} (r : Holds w) where
   pub next-asks : (w.len ≤ 20) × (falls 20 (held w) ≡ true) × (total (held w) ≤ 20)

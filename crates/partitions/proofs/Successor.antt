@@ -1,17 +1,10 @@
 -- The greatest list is the first of the lists, and each list's next is the list after it.
 -- Assumes nothing.
-use mathlib.Core.Path.{◌≡◌, refl, sym, ◌∙◌, ap, ap₂, subst}
-use mathlib.Core.Bool.{Bool, true, false, cond, true≢false}
-use mathlib.Core.List.{List, [], ◌∷◌, ◌++◌, map, nil≢cons, tail-eq_of_cons-eq}
-use Prim.Native.Nat.{ℕ, zero, suc, ◌+◌, ◌-◌, ◌*◌, ◌≤◌, ◌<◌, min}
-use native.Mathlib.Omega.{arith}
-use native.Mathlib.Nat.{mul-le-mul_right}
-use lib.Dec.{leb}
-use lib.ListN.{length}
+use Rattle.std.proofs.Common.{◌≡◌, refl, sym, ◌∙◌, ap, ap₂, subst, Bool, true, false, cond, true≢false, List, [], ◌∷◌, ◌++◌, map, ℕ, zero, suc, ◌+◌, ◌-◌, ◌*◌, ◌≤◌, ◌<◌, min, arith, mul-le-mul_right, leb, length, eq-eqb}
+use mathlib.Core.List.{nil≢cons, tail-eq_of_cons-eq}
 use Rattle.partitions.specs.Parts.{total, parts}
 use Rattle.partitions.specs.Inner.{greatest, can_init, has_next, next_of}
 use Rattle.partitions.specs.Walk.{from}
-use borrow.Author.Tests.{eq-eqb}
 use Rattle.partitions.proofs.Tests.{by-leb, by_eqb}
 use Rattle.partitions.proofs.Down.{Down, none, one, long}
 use Rattle.partitions.proofs.Lists.{Every, nil, and, head_of, tail_of, every-weaken, Is, sound, complete, Falling, end, then, falling, Greater}
@@ -141,9 +134,6 @@ next-cases a t h =
 pub next_here : (a : ℕ) (t : List ℕ) → has_next t ≡ false → can_init (length t) (total t + 1) (a - 1) ≡ true →
     next_of (a ∷ t) ≡ (a - 1) ∷ greatest (length t) (total t + 1) (a - 1)
 next_here a t h c = next-cases a t h ∙ ap (λ b. cond b ((a - 1) ∷ greatest (length t) (total t + 1) (a - 1)) (a ∷ t)) c
-
-pub next-none : (a : ℕ) (t : List ℕ) → has_next t ≡ false → can_init (length t) (total t + 1) (a - 1) ≡ false → next_of (a ∷ t) ≡ a ∷ t
-next-none a t h c = next-cases a t h ∙ ap (λ b. cond b ((a - 1) ∷ greatest (length t) (total t + 1) (a - 1)) (a ∷ t)) c
 
 -- ---- a chain: each is followed by its next, and the last has none
 pub data Chain : List (List ℕ) → Type 0 where
@@ -278,6 +268,3 @@ next-keeps k m n l i =
     by_next k m n l f.0 (λ _ _. Is k m n (next_of l)) f.1
     (λ h _. subst (Is k m n) (sym (next-same l h)) i)
     (λ s _ _ e. head_of (subst (Every (Is k m n)) e (from-every (next_of l) (sound k m n))))
-
-pub next-total : (k m n : ℕ) (l : List ℕ) → Is k m n l → total (next_of l) ≡ total l
-next-total k m n l i = (next-keeps k m n l i).sums ∙ sym i.sums

@@ -1,11 +1,6 @@
 -- A function that stores the first element of an array and hands the rest to a call of itself. Assumes nothing.
-use mathlib.Core.Path.{◌≡◌, refl, sym, ap, ap₂, ◌∙◌}
-use mathlib.Core.List.{List, [], ◌∷◌, ◌++◌, append-nil}
-use Prim.Native.Nat.{ℕ, suc, ◌-◌, ◌<◌, min}
-use native.Mathlib.Nat.{le_refl}
-use native.Mathlib.Omega.{arith}
-use lib.ListN.{length, set, take, drop}
-use lib.Seq.{take_all, drop-length}
+use Rattle.std.proofs.Common.{◌≡◌, refl, sym, ap, ap₂, ◌∙◌, List, [], ◌∷◌, ◌++◌, append-nil, ℕ, suc, ◌-◌, ◌<◌, min, le_refl, arith, length, set, take, drop, take_all}
+use lib.Seq.{drop-length}
 use borrow.Rule.Slice.PartMut.{put_mid}
 use Rattle.partitions.specs.Inner.{greatest}
 
@@ -26,10 +21,6 @@ tail-length (a ∷ t) = ap length (tail-cons a t) ∙ sym (one_less (length t))
 -- the array when the tail has come back
 pub put-cons : (a : ℕ) (t ys : List ℕ) → put_mid 1 (length (a ∷ t) - 1) (a ∷ t) ys ≡ a ∷ ys
 put-cons a t ys = ap (λ (l : List ℕ). a ∷ l) (ap (λ (l : List ℕ). ys ++ l) (ap (λ (k : ℕ). drop k t) (one_less (length t)) ∙ drop-length t) ∙ append-nil ys)
-
-pub put-length : (x ys : List ℕ) → 0 < length x → length ys ≡ length (tail_of x) → length (put_mid 1 (length x - 1) x ys) ≡ length x
-put-length [] ys h e = absurd (omega arith)
-put-length (a ∷ t) ys h e = ap length (put-cons a t ys) ∙ ap suc (e ∙ ap length (tail-cons a t))
 
 -- the greatest list: none in an empty array, else its first part and the greatest list of the rest
 pub none_left : (x : List ℕ) (n m : ℕ) → length x ≡ 0 → x ≡ greatest (length x) n m

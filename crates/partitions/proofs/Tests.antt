@@ -1,10 +1,7 @@
 -- Going by cases on a test inside a statement.
 -- Assumes nothing.
-use mathlib.Core.Path.{◌≡◌, sym, subst}
-use mathlib.Core.Bool.{Bool, true, false, not}
-use Prim.Native.Nat.{ℕ, ◌≤◌, ◌<◌}
-use borrow.Author.Tests.{eq-eqb, ne_eqb}
-use lib.Dec.{T, leb, eqb, leb→le, nleb→lt, eqb→eq, eqb_refl, T_not}
+use Rattle.std.proofs.Common.{◌≡◌, sym, subst, Bool, true, false, not, ℕ, ◌≤◌, ◌<◌, eq-eqb, ne_eqb, T, leb, eqb, leb→le, eqb→eq, T_not}
+use lib.Dec.{nleb→lt, eqb_refl}
 
 by-test : (b : Bool) (P : Bool → Type 0) → (T b → P true) → (T (not b) → P false) → P b
 by-test true P f g = f tt

@@ -1,11 +1,8 @@
 -- The Stirling numbers of the second kind by rows, and the table of them to order 20.
 -- Assumes nothing.
-use mathlib.Core.Path.{◌≡◌, refl, sym, ◌∙◌, ap, ap₂}
-use mathlib.Core.List.{List, [], ◌∷◌, ◌++◌}
-use Prim.Native.Nat.{ℕ, zero, suc, ◌+◌, ◌*◌, ◌/◌, ◌≤◌, ◌<◌}
-use native.Mathlib.Omega.{arith}
-use native.Mathlib.Nat.{add-zero, zero-add, suc-add, mul-le-mul, div-eq_of_eq-mul_right}
-use lib.ListN.{length, get_or, get_or-append}
+use Rattle.std.proofs.Common.{◌≡◌, refl, sym, ◌∙◌, ap, ap₂, List, [], ◌∷◌, ◌++◌, ℕ, zero, suc, ◌+◌, ◌*◌, ◌/◌, ◌≤◌, arith, add-zero, zero-add, suc-add, length, get_or}
+use native.Mathlib.Nat.{div-eq_of_eq-mul_right}
+use lib.ListN.{get_or-append}
 use Rattle.partitions.specs.Count.{stirling}
 
 -- S(n, 0), S(n, 1), .. by the recurrence: the entries after the first, from those of the order before, s k first
@@ -121,6 +118,3 @@ triangle-at n k h g =
 
     half : n * (n + 1) / 2 ≡ offset 0 n
     half = div-eq_of_eq-mul_right (omega arith) (twice n (offset 0 n) (offset-is 0 n))
-
-pub triangle-within : (n k : ℕ) → n ≤ 20 → k ≤ n → n * (n + 1) / 2 + k < 231
-triangle-within n k h g = let f : n + 1 ≤ 21 = omega arith in let p : n * (n + 1) ≤ 20 * 21 = mul-le-mul h f in omega arith

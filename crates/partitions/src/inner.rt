@@ -1,5 +1,5 @@
 // The steps of the walk on a part of an array, and the divisions of the multiplicity. Each `requires` is met by the public functions in lib.rt.
-ghost use Rattle.std.specs.Prelude.{◌≡◌, true, ◌≤◌, ◌<◌, min, length};
+ghost use Rattle.std.specs.Prelude.{◌≡◌, true, ◌≤◌, ◌<◌, cond, ltb, length, Some, None};
 ghost use Rattle.partitions.specs.Parts.{total as sum, fact, divide, runs};
 ghost use Rattle.partitions.specs.Count.{falls as Falls};
 ghost use Rattle.partitions.specs.Walk.{padded};
@@ -7,18 +7,12 @@ ghost use Rattle.partitions.specs.Inner.{can_init, greatest, has_next, next_of};
 
 use crate::factorials;
 
-// The sum of the parts, or 21 where it is greater than 20.
-pub fn total(list: &[usize]) -> usize
-    ensures { result ≡ min (sum list.now) 21 }
+// The sum of the parts, or none where it is greater than 20.
+pub fn total(list: &[usize]) -> Option<usize>
+    ensures { result ≡ cond (ltb 20 (sum list.now)) None (Some (sum list.now)) }
 {
-    let mut sum = 0;
-    for a in list {
-        if 20 - sum < *a {
-            return 21;
-        }
-        sum += *a;
-    }
-    sum
+    let sum = list.iter().fold(0usize, |sum, a| sum.saturating_add(*a));
+    (sum <= 20).then_some(sum)
 }
 
 // Whether the parts are positive and none is greater than the one before it, the first at most max.
@@ -76,7 +70,7 @@ pub fn next(array: &mut [usize]) -> bool
     if len <= 1 {
         return false;
     }
-    let n = total(&array[1..]) + 1;
+    let n = array[1..].iter().sum::<usize>() + 1;
     let max = array[0] - 1;
     if next(&mut array[1..]) {
         return true;
@@ -121,8 +115,8 @@ pub fn over_runs(x: u64, list: &[usize]) -> u64
 {
     let mut rest = x;
     let mut run = 1;
-    for i in 1..list.len() {
-        if list[i] == list[i - 1] {
+    for pair in list.windows(2) {
+        if pair[1] == pair[0] {
             run += 1;
         } else {
             rest /= factorials::factorial(run);

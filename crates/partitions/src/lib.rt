@@ -70,7 +70,7 @@ impl CompositionIter {
             return Ok(None);
         }
         let list = &self.current[..self.len];
-        if inner::total(list) == self.order && inner::falls(list, self.order) {
+        if inner::total(list) == Some(self.order) && inner::falls(list, self.order) {
             Ok(Some(inner::pad(list)))
         } else {
             Err(Refusal::NoPartList)
@@ -96,11 +96,9 @@ impl CompositionIter {
         ensures { result ≡ stepped self }
     {
         let item = self.item();
-        // The last two arms are not one, since the proof does not close of `Ok(None) | Err(_)`: the check states no fact there.
         let walk = match item {
             Ok(Some(_)) => self.moved(),
-            Ok(None) => self,
-            Err(_) => self,
+            _ => self,
         };
         Stepped { item, walk }
     }
@@ -129,10 +127,7 @@ pub fn factorial(n: usize) -> Result<u64, Refusal>
 pub fn multiplicity(list: &[usize]) -> Result<u64, Refusal>
     ensures { result ≡ counted list.now }
 {
-    let n = inner::total(list);
-    if 20 < n {
-        return Err(Refusal::OrderAbove20);
-    }
+    let n = inner::total(list).ok_or(Refusal::OrderAbove20)?;
     match list {
         [first, ..] if inner::falls(list, *first) => {
             let x = inner::over_parts(factorials::factorial(n), list);

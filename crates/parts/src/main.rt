@@ -39,7 +39,6 @@ fn feed_all<R: Read>(input: &mut R) -> Reading {
 }
 
 fn main(rt: HostRuntime) -> io::Result<()> {
-    let mut out = [0u8; 4096];
-    let n = parts_text::report(feed_all(&mut rt.stdin()), &mut out);
-    io::writer(&rt).write_all(&out[..n])
+    let text = parts_text::report(feed_all(&mut rt.stdin()));
+    io::writer(&rt).write_all(text.as_bytes())
 }

@@ -1,7 +1,5 @@
 -- Inputs of the program and what it prints for each, as the definitions say it, and where the answer to one is settled. Assumes nothing.
-use mathlib.Core.Path.{◌≡◌, refl}
-use mathlib.Core.Bool.{true, false}
-use mathlib.Core.List.{[], ◌∷◌}
+use Rattle.std.proofs.Common.{◌≡◌, refl, true, false, [], ◌∷◌}
 use Rattle.partitions.specs.Parts.{parts, multiplicity, divide, total, fact, runs, runs_from}
 use Rattle.partitions.specs.Count.{total_count}
 use Rattle.parts_text.specs.declared.Reading.TheVariants.{Before}

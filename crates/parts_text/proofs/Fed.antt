@@ -1,10 +1,6 @@
 -- The steps of a reading, where the reading's case is known. Assumes nothing.
-use mathlib.Core.Path.{◌≡◌, refl}
-use mathlib.Core.List.{List, [], ◌∷◌, ◌++◌}
-use Prim.Native.Nat.{ℕ, ◌+◌, ◌<◌}
-use native.Mathlib.Numerals.{add-one}
-use lib.ListN.{length, get_or, take}
-use lib.Seq.{take-suc}
+use Rattle.std.proofs.Common.{◌≡◌, refl, List, [], ◌∷◌, ◌++◌, ℕ}
+use Rattle.std.specs.List.{fold}
 use Rattle.parts_text.specs.declared.Reading.{Reading}
 use Rattle.parts_text.specs.Printed.{kind}
 use Rattle.parts_text.specs.Reading.{step, fed}
@@ -14,7 +10,7 @@ unfolding fed
 fed-append s [] b = refl
 fed-append s (x ∷ a) b = fed-append (step s (kind x)) a b
 
--- a byte more
-pub fed-more : (s : Reading) (l : List ℕ) (i : ℕ) → i < length l → fed s (take (i + 1) l) ≡ step (fed s (take i l)) (kind (get_or l i 0))
+pub fed_fold : (s : Reading) (l : List ℕ) → fed s l ≡ fold (λ s b. step s (kind b)) s l
 unfolding fed
-fed-more s l i h = rw (add-one, take-suc l i 0) (fed-append s (take i l) (get_or l i 0 ∷ []))
+fed_fold s [] = refl
+fed_fold s (b ∷ l) = fed_fold (step s (kind b)) l

@@ -1,6 +1,6 @@
 -- The walk over the lists of a pair, as their lines are written: what has been written is the lines of the lists handed out, and the sum is their
 -- total. Assumes nothing.
-use Rattle.std.proofs.Common.{◌⊎◌, inl, inr, ◌≡◌, refl, sym, ◌∙◌, ap, ap₂, subst, true, List, [], ◌∷◌, ◌++◌, append_assoc, append-nil, ℕ, ◌+◌, ◌-◌, ◌^◌, ◌≤◌, ◌<◌, arith, add_assoc, add-zero, length, take, replicate, take_at, Some, None, Result, Ok, Err}
+use Rattle.std.proofs.Common.{◌⊎◌, inl, inr, ◌≡◌, refl, sym, ◌∙◌, ap, ap₂, subst, true, List, [], ◌∷◌, ◌++◌, append_assoc, append-nil, ℕ, ◌+◌, ◌-◌, ◌^◌, ◌<◌, arith, add_assoc, add-zero, length, take, replicate, take_at, Some, None, Result, Ok, Err}
 use mathlib.Core.List.{nil≢cons}
 use Rattle.partitions.specs.Parts.{lists, multiplicity}
 use Rattle.partitions.specs.Count.{counted, total_count}
@@ -13,7 +13,6 @@ use Rattle.partitions.proofs.Lists.{Is}
 use Rattle.partitions.proofs.Member.{from_is, down-list}
 use Rattle.partitions.proofs.Successor.{first}
 use Rattle.partitions.proofs.Walked.{range-of, least-times, started-is, started-range, is-first, all-remain, holds, moved-remains, moved-end, stepped-first, stepped-end, step_gives, step-ends}
-use Rattle.partitions.proofs.Stepping.{in-20}
 use Rattle.partitions.proofs.Counted.{counted-by}
 use Rattle.part_counts.proofs.Stirling.{count-below}
 use Rattle.parts_text.specs.declared.out.Text.{Text}
@@ -106,9 +105,6 @@ going_start order len p w e =
 module _ {order len : ℕ} {p₀ : Text} {w : CompositionIter} {p : Text} {sum : ℕ} (g : Going order len p₀ w p sum) where
   walk-range : tested w.order w.len ≡ Ok tt
   walk-range = ap₂ tested g.order_is g.len_is ∙ g.range
-
-  pub len-20 : len ≤ 20
-  len-20 = in-20 order len g.range
 
   -- a step of the walk is never refused
   pub taken : (r : Refusal) → (stepped w).item ≡ Err r → ⊥

@@ -1,12 +1,5 @@
 -- How long the texts of all pairs are, by how many lists there are: a multiplicity has at most 19 digits, and a part two. Assumes nothing.
-use mathlib.Core.Bool.{Bool, true, false, cond}
-use mathlib.Core.List.{List, [], ◌∷◌, ◌++◌}
-use Prim.Native.Nat.{ℕ, zero, suc, ◌+◌, ◌*◌, ◌/◌, ◌%◌, ◌^◌, ◌≤◌, ◌<◌}
-use native.Mathlib.Omega.{arith}
-use native.Mathlib.Nat.{le_trans, le_of_lt, le_refl, mul-le-mul}
-use lib.Dec.{T, leb, ltb, leb→le, lit<}
-use lib.ListN.{length, get_or, length-append}
-use borrow.Author.Tests.{lt-ltb}
+use Rattle.std.proofs.Common.{Bool, true, false, cond, List, [], ◌∷◌, ◌++◌, ℕ, zero, suc, ◌+◌, ◌*◌, ◌/◌, ◌%◌, ◌^◌, ◌≤◌, ◌<◌, arith, le_trans, le_of_lt, le_refl, mul-le-mul, T, leb, ltb, leb→le, lit<, length, get_or, length-append, lt-ltb}
 use Rattle.partitions.specs.Parts.{total, fact, lists, divide, runs, multiplicity}
 use Rattle.partitions.specs.Count.{total_count}
 use Rattle.partitions.proofs.Down.{Down, none, one}

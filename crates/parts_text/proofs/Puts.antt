@@ -1,8 +1,9 @@
 -- Texts written one after the other, and the digits of a number one after the other. Assumes nothing.
-use Rattle.std.proofs.Common.{◌≡◌, refl, ◌∙◌, ap, sym, cond, List, [], ◌∷◌, ◌++◌, append_assoc, append-nil, ℕ, zero, suc, ◌+◌, ◌/◌, ◌%◌, ◌<◌, ◌≤◌, add-zero, zero-add, add-one, arith, ltb, length, get_or, take, drop, set, length-append, length-set, length-take-le, take-suc, lt-ltb, le-ltb}
+use Rattle.std.proofs.Common.{◌≡◌, refl, ◌∙◌, ap, ap₂, sym, cond, List, [], ◌∷◌, ◌++◌, append_assoc, append-nil, ℕ, zero, suc, ◌+◌, ◌/◌, ◌%◌, ◌<◌, ◌≤◌, add-zero, zero-add, arith, ltb, length, get_or, take, drop, set, length-set, take_at, lt-ltb, le-ltb}
 use lib.Seq.{sets, sets-eq}
+use Rattle.std.proofs.lemmas.List.{take_more}
 use Rattle.parts_text.specs.Text.{digits, decimal, joined}
-use Rattle.parts_text.specs.Printed.{written}
+use Rattle.parts_text.specs.Printed.{written, shown}
 use Rattle.parts_text.specs.declared.out.Text.{Text}
 use Rattle.parts_text.specs.Inner.{put, puts}
 
@@ -47,18 +48,10 @@ module _ (t out : List ℕ) {p : Text} (h : length t ≤ length out) (w : p ≡ 
   pub front_bytes : p.bytes ≡ written t out
   front_bytes = ap (λ (p : Text). p.bytes) whole ∙ sets-eq t out 0 (omega arith) ∙ ap (λ (n : ℕ). t ++ drop n out) (zero-add (length t))
 
--- for a caller that hands on the text: its length is within the array
-module _ (t out : List ℕ) {out' : List ℕ} {r : ℕ} (e : r ≡ length t) (f : out' ≡ written t out) where
-  pub front-within : r ≤ length out'
-  front-within = let g = ap length f ∙ length-append t (drop (length t) out) in omega arith
-
-  pub front-taken : r ≡ length (take r out')
-  front-taken = sym (length-take-le r out' front-within)
+  pub front_shown : shown p ≡ t
+  front_shown = ap₂ take front_length front_bytes ∙ take_at t (drop (length t) out) (length t) refl
 
 -- ---- a thing more
-pub take_more : (l : List ℕ) (i : ℕ) → i < length l → take (i + 1) l ≡ take i l ++ (get_or l i 0 ∷ [])
-take_more l i h = rw add-one (take-suc l i 0 h)
-
 pub joined-append : {A : Type 0} (f : A → List ℕ) (l m : List A) → joined f (l ++ m) ≡ joined f l ++ joined f m
 unfolding joined
 joined-append f [] m = refl
@@ -70,7 +63,7 @@ joined-one f a = append-nil (f a)
 
 pub joined-more : (f : ℕ → List ℕ) (l : List ℕ) (i : ℕ) → i < length l → joined f (take (i + 1) l) ≡ joined f (take i l) ++ f (get_or l i 0)
 joined-more f l i h =
-    ap (joined f) (take_more l i h) ∙ joined-append f (take i l) (get_or l i 0 ∷ []) ∙ ap (λ (t : List ℕ). joined f (take i l) ++ t) (joined-one f (get_or l i 0))
+    ap (joined f) (take_more l i 0 h) ∙ joined-append f (take i l) (get_or l i 0 ∷ []) ∙ ap (λ (t : List ℕ). joined f (take i l) ++ t) (joined-one f (get_or l i 0))
 
 -- ---- digits
 -- how many digits are allowed does not matter where they are enough

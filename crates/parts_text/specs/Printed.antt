@@ -1,8 +1,9 @@
 -- What the program `parts` prints: a function from the bytes that it reads to the bytes that it writes. Assumes nothing.
-use Rattle.std.specs.Prelude.{cond, List, [], ◌∷◌, ◌++◌, ℕ, ◌+◌, ◌-◌, ◌*◌, ltb, leb, eqb, length, drop}
+use Rattle.std.specs.Prelude.{cond, List, [], ◌∷◌, ◌++◌, ℕ, ◌+◌, ◌-◌, ◌*◌, ltb, leb, eqb, length, take, drop, replicate}
 use Rattle.std.proofs.Math.Option.{Option, some, none}
 use Rattle.parts_text.specs.declared.input.Kind.{Kind}
 use Rattle.parts_text.specs.declared.input.Kind.TheVariants.{Digit, Separator, Other}
+use Rattle.parts_text.specs.declared.out.Text.{Text}
 use Rattle.parts_text.specs.Text.{answer, refused_line}
 
 -- a space, a line feed and a carriage return separate
@@ -47,3 +48,10 @@ printed input = said (numbers none input)
 -- an array with a text at its front
 abbrev pub written : List ℕ → List ℕ → List ℕ
 written t out = t ++ drop (length t) out
+
+-- a text at the front of zeros, and what is shown of an array
+abbrev pub filled : List ℕ → Text
+filled t = record { bytes = written t (replicate 4096 0); len = length t }
+
+abbrev pub shown : Text → List ℕ
+shown p = take p.len p.bytes

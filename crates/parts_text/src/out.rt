@@ -1,6 +1,7 @@
 // The text that is printed, written byte by byte.
 ghost use Rattle.std.specs.Prelude.{◌≡◌, ◌++◌};
 ghost use Rattle.partitions.specs.Walk.{tested};
+ghost use Rattle.parts_text.specs.Printed.{filled, shown};
 ghost use Rattle.parts_text.specs.Text.{decimal, joined, spaced, newline, last_line};
 ghost use Rattle.parts_text.specs.Reading.{finished};
 ghost use Rattle.parts_text.specs.Inner.{put, puts, listed};
@@ -12,11 +13,18 @@ use refusals::Refusal;
 // The first `len` bytes are the text. A byte past the array's end would be left out, and none is: every text fits (proofs/Fits.antt).
 #[derive(Clone, Copy)]
 pub struct Text {
-    pub bytes: [u8; 4096],
-    pub len: usize,
+    bytes: [u8; 4096],
+    len: usize,
 }
 
 impl Text {
+    // The text, to be written out.
+    pub fn as_bytes(&self) -> &[u8]
+        ensures { result.now ≡ shown self.now }
+    {
+        &self.bytes[..self.len.min(self.bytes.len())]
+    }
+
     fn push(&mut self, b: u8)
         ensures { self.new ≡ put self.old b }
     {
@@ -93,7 +101,7 @@ impl Text {
     }
 
     // What is printed where the input ends.
-    pub fn push_finished(&mut self, state: Reading)
+    fn push_finished(&mut self, state: Reading)
         ensures { self.new ≡ puts self.old (finished state) }
     {
         let answer = match state {
@@ -106,4 +114,16 @@ impl Text {
             self.push_last(b"refused", refusal.number() as u64);
         }
     }
+}
+
+// The text of what was read. The longest has 2134 bytes.
+pub fn report(state: Reading) -> Text
+    ensures { (shown result ≡ finished state) × (result ≡ filled (finished state)) }
+{
+    let mut text = Text {
+        bytes: [0; 4096],
+        len: 0,
+    };
+    text.push_finished(state);
+    text
 }

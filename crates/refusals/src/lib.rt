@@ -4,12 +4,14 @@
 ghost use Rattle.std.specs.Prelude.{◌≡◌};
 ghost use Rattle.refusals.specs.Number.{number, number_of};
 
+use std::error::Error;
 use std::fmt;
 
-#[derive(Clone, Copy, Debug, PartialEq, Eq, Hash)]
+// In the order of their numbers, by which document 01 checks what is given.
+#[derive(Clone, Copy, Debug, PartialEq, Eq, PartialOrd, Ord, Hash)]
 pub enum Refusal {
     // An order is above 20, or the centre's n above 19.
-    OrderAbove20,
+    OrderAbove20 = 1,
     // An order asked or needed exceeds a jet's, a list has the wrong length, or a jet of order 0 has no derivative.
     Shape,
     // There are no such part lists, or the parts are not positive and nonincreasing.
@@ -37,19 +39,7 @@ impl Refusal {
     pub fn number(self) -> u8
         ensures { result ≡ number self }
     {
-        match self {
-            Refusal::OrderAbove20 => 1,
-            Refusal::Shape => 2,
-            Refusal::NoPartList => 3,
-            Refusal::NoRecipe => 4,
-            Refusal::InputNotFinite => 5,
-            Refusal::ZeroDeterminant => 6,
-            Refusal::DivisionByZero => 7,
-            Refusal::Remainder => 8,
-            Refusal::OutOfRange => 9,
-            Refusal::AnswerNotFinite => 10,
-            Refusal::PairNotServed => 11,
-        }
+        self as u8
     }
 }
 
@@ -71,6 +61,9 @@ impl From<Refusal> for u8 {
     }
 }
 
+impl Error for Refusal {}
+
+// An error says itself, as Rust's do: `Error` asks for it.
 impl fmt::Display for Refusal {
     fn fmt<W: fmt::Write>(&self, f: &mut fmt::Formatter<W>) -> fmt::Result {
         write!(f, "refused {}", self.number())

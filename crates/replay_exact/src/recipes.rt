@@ -11,14 +11,10 @@ const NO_STEP: Step = Step {
     right: 0,
 };
 
+// The cases have no other number than the library's: one more would be a quotient.
 fn next_operation(input: &mut impl Read) -> Operation {
-    let number: u64 = next(input);
-    match number {
-        0 => Operation::Sum,
-        1 => Operation::Difference,
-        2 => Operation::Product,
-        _ => Operation::Quotient,
-    }
+    let number: usize = next(input);
+    Operation::try_from(number).unwrap_or(Operation::Quotient)
 }
 
 fn next_step(input: &mut impl Read) -> Step {

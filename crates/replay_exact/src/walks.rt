@@ -60,10 +60,7 @@ fn start_case(input: &mut impl Read) -> bool {
 
 // Whether a list is handed out.
 fn handed_out(item: Item, list: &[usize]) -> bool {
-    match item {
-        Ok(Some(parts)) => same(&parts, list),
-        _ => false,
-    }
+    matches!(item, Ok(Some(parts)) if same(&parts, list))
 }
 
 // The lists of a walk with their multiplicities, and the step past the last one. No walk has more than 100 lists.

@@ -7,23 +7,15 @@ use std::io;
 use std::io::Write;
 
 fn write_whole(rt: &impl Print, input: &[u8]) -> io::Result<()> {
-    let mut out = [0u8; 4096];
-    let n = parts_text::print(input, &mut out);
-    io::writer(rt).write_all(&out[..n])
+    io::writer(rt).write_all(parts_text::print(input).as_bytes())
 }
 
 fn fed_by_bytes(input: &[u8]) -> Reading {
-    let mut state = parts_text::start();
-    for byte in input.chunks(1) {
-        state = parts_text::feed(state, byte);
-    }
-    state
+    input.chunks(1).fold(parts_text::start(), parts_text::feed)
 }
 
 fn write_by_bytes(rt: &impl Print, input: &[u8]) -> io::Result<()> {
-    let mut out = [0u8; 4096];
-    let n = parts_text::report(fed_by_bytes(input), &mut out);
-    io::writer(rt).write_all(&out[..n])
+    io::writer(rt).write_all(parts_text::report(fed_by_bytes(input)).as_bytes())
 }
 
 // How many bytes of an input settle its answer, if they do. It is fed byte by byte, and only while the answer is open, as `parts` reads.

@@ -38,10 +38,10 @@ impl<T: Word, const N: usize> Lists<T, N> {
         let mut ends = [0usize; 12];
         let places = &mut members[..];
         let mut at = 0usize;
-        let n: usize = next(input);
-        for i in 0..n.min(11) {
+        let n = 11usize.min(next(input));
+        for end in ends[1..=n].iter_mut() {
             at += next_list(input, &mut places[at..]);
-            ends[i + 1] = at;
+            *end = at;
         }
         Lists { members, ends }
     }

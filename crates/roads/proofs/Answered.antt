@@ -1,11 +1,8 @@
 -- The order of an answered recipe's jet, and of an answered road's. Assumes nothing.
-use Rattle.std.specs.Prelude.{Bool, true, false, cond, ◌||◌, List, [], ◌∷◌, map, ◌≡◌, ℕ, zero, suc, ◌-◌, ◌≤◌, ◌<◌, min, ltb, length, get_or, take, ℤ, Result, Ok, Err, ⊤}
-use mathlib.Core.Path.{refl, sym, ap, ◌∙◌, subst}
-use native.Mathlib.Nat.{le_refl, le-min, min-eq_left, not-suc-le-zero}
+use Rattle.std.proofs.Common.{Bool, true, false, cond, ◌||◌, List, [], ◌∷◌, map, ◌≡◌, ℕ, zero, suc, ◌-◌, ◌≤◌, ◌<◌, min, ltb, length, get_or, take, ℤ, Result, Ok, Err, refl, sym, ap, ◌∙◌, subst, le_refl, not-suc-le-zero, arith, length-take, ltb-true, ltb-false, le-ltb, eq-eqb, ne_eqb}
+use Rattle.std.specs.Prelude.{⊤}
+use native.Mathlib.Nat.{le-min, min-eq_left}
 use native.Mathlib.Decide.{ℕ_discrete}
-use native.Mathlib.Omega.{arith}
-use lib.ListN.{length-take}
-use borrow.Author.Tests.{ltb-true, ltb-false, le-ltb, eq-eqb, ne_eqb}
 use Rattle.refusals.specs.declared.Refusal.{Refusal}
 use Rattle.refusals.specs.declared.Refusal.TheVariants.{OrderAbove20, NoRecipe}
 use Rattle.whole.specs.History.{Traced, bare, verdict}

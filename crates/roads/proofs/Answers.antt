@@ -1,7 +1,6 @@
 -- What a call answers, on what the call before it answered. Assumes nothing.
-use Rattle.std.specs.Prelude.{◌≡◌, Result, Ok, Err}
+use Rattle.std.proofs.Common.{◌≡◌, Result, Ok, Err, refl, ap, sym}
 use Rattle.std.specs.Result.{result_unwrap_or, is_err, IsErrAnd}
-use mathlib.Core.Path.{refl, ap, sym}
 use Rattle.refusals.specs.declared.Refusal.{Refusal}
 use Rattle.whole.proofs.Range.{never}
 use Rattle.roads.specs.Recipe.{and_then}

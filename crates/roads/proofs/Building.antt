@@ -1,10 +1,7 @@
 -- A recipe's checks and its work, put together, over any kind of jet that stands in an array of four. Assumes nothing.
-use Rattle.std.specs.Prelude.{Bool, true, false, cond, List, [], ◌∷◌, map, ◌≡◌, ℕ, zero, suc, ◌<◌, min, length, get_or, take, Result, Err}
-use mathlib.Core.Path.{refl, sym, ap, ap₂, ◌∙◌}
+use Rattle.std.proofs.Common.{Bool, true, false, cond, List, [], ◌∷◌, map, ◌≡◌, ℕ, zero, suc, ◌<◌, min, length, get_or, take, Result, Err, refl, sym, ap, ap₂, ◌∙◌, arith, take_all, length-take-le}
 use native.Mathlib.Nat.{min-eq_left, min-eq_right}
 use native.Mathlib.Decide.{dec_lt}
-use native.Mathlib.Omega.{arith}
-use lib.Seq.{take_all, get_or-take}
 use Rattle.refusals.specs.declared.Refusal.{Refusal}
 use Rattle.refusals.specs.declared.Refusal.TheVariants.{OrderAbove20, NoRecipe}
 use Rattle.roads.specs.declared.Step.{Step}
@@ -56,12 +53,12 @@ module _ {J : Type 0} {K : RecipeKind J} {jets : List J} {inputs : ℕ} {os : Li
     ill-formed e = sym (checked false e)
 
     pub builds : true ≡ well_formed inputs steps (take steps program) → {n : ℕ} → n ≡ smallest (take g os) → (jet-of : List J) →
-        ((i : ℕ) → i < inputs → get_or jet-of i K.blank ≡ K.cut n (get_or jets i K.blank)) →
+        ((i : ℕ) → i < length (take inputs jets) → get_or jet-of i K.blank ≡ K.cut n (get_or (take inputs jets) i K.blank)) →
         worked K (λ i. get_or jet-of i K.blank) inputs (take steps program) ≡ outcome
     builds e ne jet-of he =
         let c = counts inputs steps (take steps program) (sym e) in
         worked_same K (take steps program) (λ i. get_or jet-of i K.blank) (λ i. K.cut (smallest orders) (get_or (take inputs jets) i K.blank)) inputs c.some
-        (λ i l. he i l ∙ ap₂ K.cut (ne ∙ ap smallest given-orders) (sym (get_or-take inputs jets i K.blank l))) c.names
+        (λ i l. he i (omega (arith, l, length-take-le inputs jets (omega (arith, c.four, p.four)))) ∙ ap (λ (k : ℕ). K.cut k (get_or (take inputs jets) i K.blank)) (ne ∙ ap smallest given-orders)) c.names
         ∙ sym (checked true e)
 
 -- ---- only the jets that are given count

@@ -1,6 +1,5 @@
 -- Recipes as they are answered: the theorem's cases all occur. Assumes nothing.
-use Rattle.std.specs.Prelude.{◌≡◌, true, false, List, [], ◌∷◌, ◌++◌, ℕ, ℤ, pos, replicate, Result, Ok, Err}
-use mathlib.Core.Path.{refl}
+use Rattle.std.proofs.Common.{◌≡◌, true, false, List, [], ◌∷◌, ◌++◌, ℕ, ℤ, pos, replicate, Result, Ok, Err, refl}
 use Rattle.refusals.specs.declared.Refusal.{Refusal}
 use Rattle.refusals.specs.declared.Refusal.TheVariants.{Shape, NoRecipe, OutOfRange}
 use Rattle.partitions.specs.Parts.{total, fact, parts, divide, runs_from, runs, multiplicity}

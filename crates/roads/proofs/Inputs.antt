@@ -1,9 +1,7 @@
 -- The inputs of the two roads: what an answered first road says of the orders, and what carrying every input answers. Assumes nothing.
-use Rattle.std.specs.Prelude.{Bool, true, false, cond, ◌||◌, List, [], ◌∷◌, map, ◌≡◌, ℕ, zero, suc, ◌≤◌, ◌<◌, min, ltb, eqb, length, get_or, Result, Ok, Err}
-use mathlib.Core.Path.{refl, sym, ap, ap₂, ◌∙◌}
-use native.Mathlib.Nat.{le_refl, min-le_left, min-le_right, min-eq_left, le-min, not-suc-le-zero}
-use native.Mathlib.Omega.{arith}
-use borrow.Author.Tests.{ltb-false, le-ltb, eqb-false}
+use Rattle.std.proofs.Common.{Bool, true, false, cond, ◌||◌, List, [], ◌∷◌, map, ◌≡◌, ℕ, zero, suc, ◌≤◌, ◌<◌, min, ltb, eqb, length, get_or, Result, Ok, Err, refl, sym, ap, ap₂, ◌∙◌, le_refl, not-suc-le-zero, arith, ltb-false, le-ltb}
+use native.Mathlib.Nat.{min-le_left, min-le_right, min-eq_left, le-min}
+use borrow.Author.Tests.{eqb-false}
 use Rattle.refusals.specs.declared.Refusal.{Refusal}
 use Rattle.refusals.specs.declared.Refusal.TheVariants.{OutOfRange}
 use Rattle.whole.specs.Checked.{in_range}

@@ -1,10 +1,7 @@
 -- The jets of the two roads side by side: a surface of the first, a curve of the second, and the same curve over the integers. What a call on them
 -- answers. Assumes nothing.
-use Rattle.std.specs.Prelude.{Bool, cond, List, ◌≡◌, ℕ, suc, ◌+◌, ◌≤◌, ℤ, pos, Result, Ok, Err}
-use mathlib.Core.Path.{refl, sym, ap, ap₂, ◌∙◌}
-use native.Mathlib.Nat.{le_refl, min-eq_left}
-use native.Mathlib.Omega.{arith}
-use borrow.Author.Tests.{lt-ltb, le-ltb}
+use Rattle.std.proofs.Common.{Bool, cond, List, ◌≡◌, ℕ, suc, ◌+◌, ◌≤◌, ℤ, pos, Result, Ok, Err, refl, sym, ap, ap₂, ◌∙◌, le_refl, arith, lt-ltb, le-ltb}
+use native.Mathlib.Nat.{min-eq_left}
 use Rattle.refusals.specs.declared.Refusal.{Refusal}
 use Rattle.refusals.specs.declared.Refusal.TheVariants.{OutOfRange}
 use Rattle.whole.specs.Checked.{Whole, in_range}

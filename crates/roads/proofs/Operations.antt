@@ -1,14 +1,8 @@
 -- One step: an operation on surfaces that is answered is carried to the operation on the carried, over the integers, every division of which is
 -- exact. Assumes nothing.
-use mathlib.Core.Path.{◌≡◌, refl, sym, ap, ◌∙◌, subst}
-use Rattle.std.specs.Prelude.{false, Ok}
-use Prim.Native.Nat.{ℕ, suc, ◌+◌, ◌≤◌}
-use native.Mathlib.Nat.{le_refl}
-use native.Mathlib.Omega.{arith}
-use lib.Dec.{eqb}
-use lib.IntN.{ℤ, pos, nat_abs}
+use Rattle.std.proofs.Common.{◌≡◌, refl, sym, ap, ◌∙◌, subst, false, Ok, ℕ, suc, ◌+◌, ◌≤◌, le_refl, arith, eqb, ℤ, pos, nat_abs, eqb-true}
 use lib.Signed.{rem_z}
-use borrow.Author.Tests.{eqb-true, eqb-false}
+use borrow.Author.Tests.{eqb-false}
 use Rattle.whole.specs.History.{Traced, Verdict, bare, verdict}
 use Rattle.whole.proofs.Range.{nat_abs-zero}
 use Rattle.calculus.specs.Kind.{regular, plain}

@@ -1,8 +1,7 @@
 -- Numbers with their history whose divisions are all exact: a division without a remainder keeps them so, and one that is answered leaves none.
 -- Assumes nothing.
-use Rattle.std.specs.Prelude.{true, false, [], ◌∷◌, ◌≡◌, eqb, ℤ, nat_abs, Ok}
+use Rattle.std.proofs.Common.{true, false, [], ◌∷◌, ◌≡◌, eqb, ℤ, nat_abs, Ok, ap, ◌∙◌, subst, sym}
 use Rattle.std.specs.Int.Signed.{quot_z, rem_z}
-use mathlib.Core.Path.{ap, ◌∙◌, subst, sym}
 use Rattle.whole.specs.Checked
 use Rattle.whole.specs.History.{forms, divides, Traced, Verdict, settle, bare, verdict, traced_over}
 use Rattle.whole.proofs.History.{settle-over, exact-then, exact-division, answered-value, settle-answered}

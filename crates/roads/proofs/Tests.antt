@@ -1,10 +1,5 @@
 -- The checks of a recipe, one step at a time. Assumes nothing.
-use Rattle.std.specs.Prelude.{Bool, true, false, cond, List, ◌≡◌, ℕ, ◌+◌, ◌≤◌, ◌<◌, ltb, length, get_or, drop}
-use mathlib.Core.Path.{sym, ap, ap₂, ◌∙◌}
-use native.Mathlib.Numerals.{add-one}
-use lib.Seq.{drop-cons}
-use lib.ListN.{drop_of_length-le}
-use borrow.Author.Tests.{lt-ltb, le-ltb}
+use Rattle.std.proofs.Common.{Bool, true, false, cond, List, ◌≡◌, ℕ, ◌+◌, ◌≤◌, ◌<◌, ltb, length, get_or, drop, sym, ap, ap₂, ◌∙◌, add-one, drop-cons, drop_of_length-le, lt-ltb, le-ltb}
 use Rattle.roads.specs.declared.Step.{Step}
 use Rattle.roads.specs.Recipe.{names_earlier}
 

@@ -1,12 +1,9 @@
 -- The two roads meet (document 01's demand 3). Take any surfaces, steps, curve in their parameters and order for which the first road (build, then
 -- carry) is answered. Then the second road (carry every input, then build) is answered with the same jet, where every number that it forms lies
 -- within signed 64 bits; and it is refused with 9 where one does not. Assumes nothing.
-use Rattle.std.specs.Prelude.{Bool, true, false, cond, List, map, ◌≡◌, ℕ, length, get_or, take, ℤ, Result, Ok, Err}
-use mathlib.Core.Path.{refl, sym, ap, ap₂, ◌∙◌}
+use Rattle.std.proofs.Common.{Bool, true, false, cond, List, map, ◌≡◌, ℕ, length, get_or, take, ℤ, Result, Ok, Err, refl, sym, ap, ap₂, ◌∙◌, arith, length-take, take_all}
 use native.Mathlib.Nat.{min-eq_left}
-use native.Mathlib.Omega.{arith}
-use lib.ListN.{length-map, length-take}
-use lib.Seq.{take_all}
+use lib.ListN.{length-map}
 use Rattle.refusals.specs.declared.Refusal.{Refusal}
 use Rattle.refusals.specs.declared.Refusal.TheVariants.{OrderAbove20, NoRecipe, OutOfRange}
 use Rattle.whole.specs.Checked.{in_range}

@@ -1,16 +1,8 @@
 -- The loop of a recipe's steps, over any kind of jet: what is left to work, on the jets in hand, comes to the whole. Assumes nothing.
-use Rattle.std.specs.Prelude.{Result, Ok, Err, Bool, true, false, cond, List, [], ◌∷◌, ◌≡◌, ℕ, suc, ◌+◌, ◌-◌, ◌*◌, ◌^◌, ◌≤◌, ◌<◌, ltb, eqb, length, get_or, set, drop}
-use mathlib.Core.Path.{sym, ap, ap₂, ◌∙◌, fun_ext}
-use native.Mathlib.Nat.{add-zero, mul-le-mul_right}
-use mir.Syntax.{w64}
-use mir.Val.{Fits}
-use native.Mathlib.Numerals.{add-one}
+use Rattle.std.proofs.Common.{Result, Ok, Err, Bool, true, false, cond, List, [], ◌∷◌, ◌≡◌, ℕ, suc, ◌+◌, ◌-◌, ◌*◌, ◌^◌, ◌≤◌, ◌<◌, ltb, eqb, length, get_or, set, drop, sym, ap, ap₂, ◌∙◌, add-zero, mul-le-mul_right, w64, Fits, add-one, arith, length-set, drop_of_length-le, drop-cons, get_or-set_same, get_or-set_other, ltb-true, eq-eqb, ne_eqb}
+use mathlib.Core.Path.{fun_ext}
 use native.Mathlib.Decide.{ℕ_discrete}
-use native.Mathlib.Omega.{arith}
-use lib.ListN.{length-set, drop_of_length-le}
-use lib.Seq.{drop-cons, get_or-set_same, get_or-set_other}
 use Rattle.std.proofs.lemmas.List.{get_or_default}
-use borrow.Author.Tests.{ltb-true, eq-eqb, ne_eqb}
 use Rattle.refusals.specs.declared.Refusal.{Refusal}
 use Rattle.whole.proofs.History.{both_true}
 use Rattle.calculus.specs.declared.Operation.TheVariants.{Sum}

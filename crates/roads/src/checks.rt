@@ -9,8 +9,7 @@ fn names_earlier(inputs: usize, program: &[Step]) -> bool
     requires { (inputs ≤ 4) × (length program.now ≤ 12) }
     ensures { result ≡ names_earlier inputs program.now }
 {
-    for i in 0..program.len() {
-        let step = program[i];
+    for (i, step) in program.iter().enumerate() {
         if inputs + i <= step.left || inputs + i <= step.right {
             return false;
         }
@@ -22,8 +21,5 @@ fn names_earlier(inputs: usize, program: &[Step]) -> bool
 pub fn well_formed(inputs: usize, steps: usize, program: &[Step; 12]) -> bool
     ensures { result ≡ well_formed inputs steps (take steps program.now) }
 {
-    if inputs == 0 || 4 < inputs || steps == 0 || 12 < steps {
-        return false;
-    }
-    names_earlier(inputs, &program[..steps])
+    matches!(inputs, 1..=4) && matches!(steps, 1..=12) && names_earlier(inputs, &program[..steps])
 }

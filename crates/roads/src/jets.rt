@@ -37,8 +37,7 @@ impl Jet for CurveDerivatives {
     }
 
     fn cut(self, order: usize) -> CurveDerivatives {
-        let entries = self.entries;
-        CurveDerivatives { order, entries }
+        CurveDerivatives { order, ..self }
     }
 
     fn apply(
@@ -65,8 +64,7 @@ impl Jet for SurfaceDerivatives {
     }
 
     fn cut(self, order: usize) -> SurfaceDerivatives {
-        let entries = self.entries;
-        SurfaceDerivatives { order, entries }
+        SurfaceDerivatives { order, ..self }
     }
 
     fn apply(

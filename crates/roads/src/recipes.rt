@@ -9,22 +9,17 @@ use refusals::Refusal;
 fn orders<J: Jet>(jets: &[J; 4]) -> [usize; 4]
     ensures { result ≡ map J.kind.order jets.now }
 {
-    [
-        jets[0].order(),
-        jets[1].order(),
-        jets[2].order(),
-        jets[3].order(),
-    ]
+    jets.each_ref().map(J::order)
 }
 
 // The jets given, at the order of work.
-fn cut<J: Jet>(jets: [J; 4], inputs: usize, order: usize) -> [J; 16]
-    requires { inputs ≤ 4 }
-    ensures { (i : ℕ) → i < inputs → get_or result i J.kind.blank ≡ J.kind.cut order (get_or jets i J.kind.blank) }
+fn cut<J: Jet>(given: &[J], order: usize) -> [J; 16]
+    requires { (0 < length given.now) × (length given.now ≤ 4) }
+    ensures { (i : ℕ) → i < length given.now → get_or result i J.kind.blank ≡ J.kind.cut order (get_or given.now i J.kind.blank) }
 {
-    let mut jet_of = [jets[0]; 16];
-    for i in 0..inputs {
-        jet_of[i] = jets[i].cut(order);
+    let mut jet_of = [given[0]; 16];
+    for (i, jet) in given.iter().enumerate() {
+        jet_of[i] = jet.cut(order);
     }
     jet_of
 }
@@ -35,8 +30,7 @@ fn work<J: Jet>(start: [J; 16], inputs: usize, program: &[Step]) -> Result<J, Re
     ensures { result ≡ worked J.kind (λ i. get_or start i J.kind.blank) inputs program.now }
 {
     let mut jet_of = start;
-    for i in 0..program.len() {
-        let step = program[i];
+    for (i, step) in program.iter().enumerate() {
         let jet = J::apply(step.operation, jet_of[step.left], jet_of[step.right])?;
         jet_of[inputs + i] = jet;
     }
@@ -58,7 +52,7 @@ impl<J: Jet> Recipe<J> {
             return Err(Refusal::NoRecipe);
         }
         let order = calculus::smallest(&all[..count]);
-        let jet_of = cut(self.jets, self.inputs, order);
+        let jet_of = cut(&self.jets[..self.inputs], order);
         work(jet_of, self.inputs, &self.program[..self.steps])
     }
 }

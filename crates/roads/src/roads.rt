@@ -1,6 +1,6 @@
 // The derivatives of a recipe of surfaces along a curve in their parameters, by two ways (document 01's roads). That they meet is proved in
 // proofs/Theorem.antt.
-ghost use Rattle.std.specs.Prelude.{◌≡◌, map, ◌≤◌, take};
+ghost use Rattle.std.specs.Prelude.{◌≡◌, map, ◌≤◌, length, take};
 ghost use Rattle.std.specs.Result.{result_map_both};
 ghost use Rattle.exact.specs.Composite.{along_curve};
 ghost use Rattle.roads.specs.Roads.{every_answer, build_then_carry, carry_then_build};
@@ -9,23 +9,22 @@ use crate::Recipe;
 use exact::{CurveDerivatives, ParameterCurve, SurfaceDerivatives};
 use refusals::Refusal;
 
-// The first `count` surfaces along the curve, used or not, by rising number.
+// The surfaces given along the curve, used or not, by rising number.
 fn carry_each(
-    jets: [SurfaceDerivatives; 4],
-    count: usize,
+    given: &[SurfaceDerivatives],
     curve: ParameterCurve,
     order: usize,
 ) -> Result<[CurveDerivatives; 4], Refusal>
-    requires { count ≤ 4 }
-    ensures { result_map_both (take count) (λ c. c) result ≡ every_answer (map (λ s. along_curve s curve order) (take count jets)) }
+    requires { length given.now ≤ 4 }
+    ensures { result_map_both (take (length given.now)) (λ c. c) result ≡ every_answer (map (λ s. along_curve s curve order) given.now) }
 {
     let blank = CurveDerivatives {
         order: 0,
         entries: [0; 21],
     };
     let mut curves = [blank; 4];
-    for i in 0..count {
-        curves[i] = jets[i].composite_derivatives(curve, order)?;
+    for (i, surface) in given.iter().enumerate() {
+        curves[i] = surface.composite_derivatives(curve, order)?;
     }
     Ok(curves)
 }
@@ -51,7 +50,7 @@ impl Recipe<SurfaceDerivatives> {
         ensures { result ≡ carry_then_build self curve order }
     {
         let count = self.inputs.min(4);
-        let jets = carry_each(self.jets, count, curve, order)?;
+        let jets = carry_each(&self.jets[..count], curve, order)?;
         let program = self.program;
         let recipe = Recipe {
             inputs: self.inputs,

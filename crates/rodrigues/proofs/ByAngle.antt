@@ -1,9 +1,7 @@
 -- Rodrigues' matrix derived by the angle: sine and cosine turn by a quarter, again and again. And that they are constant where the angle is.
 -- Assumes nothing.
-use Prim.Native.Nat.{ℕ, zero, suc, ◌%◌}
-use mathlib.Core.Path.{◌≡◌, refl, sym, ◌∙◌, ap}
+use Rattle.std.proofs.Common.{ℕ, zero, suc, ◌%◌, ◌≡◌, refl, sym, ◌∙◌, ap, arith}
 use mathlib.Mathlib.Algebra.Ring.Defs.{CommRing}
-use native.Mathlib.Omega.{arith}
 use Rattle.rodrigues.specs.Rodrigues.{Arithmetic, Three, sine_cosine, by_quarters, turned, rodrigues, constant}
 use Rattle.rodrigues.proofs.Ring.{neg-neg}
 use Rattle.rodrigues.proofs.Derivation.{ring, Derivation, each, repeated, same-nine, of_zero, of_one, of-neg, of-neg-zero, of-sum-zero}

@@ -1,8 +1,6 @@
 -- Rodrigues' matrix derived by the axis' components, where s, c and k are constant. Assumes nothing.
-use Prim.Native.Nat.{ℕ, zero, suc, ◌+◌, ◌≤◌}
-use mathlib.Core.Path.{◌≡◌, refl, ◌∙◌, ap}
+use Rattle.std.proofs.Common.{ℕ, zero, suc, ◌+◌, ◌≤◌, ◌≡◌, refl, ◌∙◌, ap, arith}
 use mathlib.Mathlib.Algebra.Ring.Defs.{CommRing}
-use native.Mathlib.Omega.{arith}
 use Rattle.rodrigues.specs.Rodrigues.{Arithmetic, Three, Nine, three, symmetric, rodrigues, by_x, by_y, by_z, zeros, by_axis}
 use Rattle.rodrigues.proofs.Orders.{third-zero}
 use Rattle.rodrigues.proofs.Derivation.{ring, Derivation, each, repeated, same-nine, of_zero, of-neg-zero, of-zeros, zeros-stay}

@@ -1,7 +1,6 @@
 -- What is said of derivatives: a commutative ring's operations, a derivation of the ring, a matrix derived entry by entry, and derived again and
 -- again. And what a derivation makes of zero, one and negations. Assumes nothing.
-use Prim.Native.Nat.{ℕ, zero, suc}
-use mathlib.Core.Path.{◌≡◌, refl, sym, ◌∙◌, ap}
+use Rattle.std.proofs.Common.{ℕ, zero, suc, ◌≡◌, refl, sym, ◌∙◌, ap}
 use mathlib.Mathlib.Algebra.Ring.Defs.{CommRing}
 use Rattle.rodrigues.specs.Rodrigues.{Arithmetic, Nine, nine, zeros}
 use Rattle.rodrigues.proofs.Ring.{zero-add, mul-one, add-neg, neg_unique, neg-zero, own-double, laws}

@@ -6,8 +6,7 @@
 -- the formula, derived n times by the angle, then k, j and i times by z, y and x, is that of the matrix `rotation i j k n`. So it is zero where
 -- i + j + k is 3 or more (`third-derivatives`); and quarter turns of s and c are their derivatives by the angle (`turned-is`).
 -- proofs/Polynomials.antt has such a ring: polynomials with their formal derivatives. Assumes nothing.
-use Prim.Native.Nat.{ℕ, ◌+◌, ◌%◌, ◌≤◌}
-use mathlib.Core.Path.{◌≡◌, sym, ◌∙◌, ap}
+use Rattle.std.proofs.Common.{ℕ, ◌+◌, ◌%◌, ◌≤◌, ◌≡◌, sym, ◌∙◌, ap}
 use mathlib.Mathlib.Algebra.Ring.Defs.{CommRing}
 use Rattle.rodrigues.specs.Rodrigues.{Arithmetic, Three, Nine, three, nine, symmetric, sine_cosine, turned, rodrigues, zeros, constant, rotation}
 use Rattle.rodrigues.proofs.Orders.{third-zero}

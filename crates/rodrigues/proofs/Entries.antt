@@ -1,5 +1,5 @@
 -- The entries of Rodrigues' matrix derived, each a sum of products. Assumes nothing.
-use mathlib.Core.Path.{◌≡◌}
+use Rattle.std.proofs.Common.{◌≡◌}
 use mathlib.Mathlib.Algebra.Ring.Defs.{CommRing}
 use Rattle.rodrigues.proofs.Ring.{laws}
 use Rattle.rodrigues.proofs.Derivation.{Derivation, of-neg}

@@ -1,10 +1,5 @@
 -- Axis orders of another total are other orders; so those that total three or more have the zero matrix. Assumes nothing.
-use Prim.Native.Nat.{ℕ, ◌+◌, ◌≤◌, ◌<◌}
-use mathlib.Core.Bool.{Bool, true, false, ◌&&◌}
-use mathlib.Core.Path.{◌≡◌, refl}
-use native.Mathlib.Omega.{arith}
-use borrow.Author.Tests.{eqb-true}
-use lib.Dec.{eqb}
+use Rattle.std.proofs.Common.{ℕ, ◌+◌, ◌≤◌, ◌<◌, Bool, true, false, ◌&&◌, ◌≡◌, refl, arith, eqb-true, eqb}
 use Rattle.rodrigues.specs.Rodrigues
 use Rattle.rodrigues.specs.Rodrigues.{Arithmetic, Three, same}
 

@@ -5,9 +5,7 @@
 -- the usual rules; `value` puts numbers of any commutative ring for the variables. Then `derivatives-at` says, for all orders and at every
 -- point of every commutative ring: the value of each entry of Rodrigues' formula in polynomials, formally derived, is that of the matrix
 -- `rotation i j k n` at the point. Assumes nothing.
-use Prim.Native.Nat.{ℕ, zero, suc, ◌%◌}
-use mathlib.Core.Path.{◌≡◌, refl, sym, ◌∙◌, ap}
-use mathlib.Core.Bool.{Bool, true, false, cond}
+use Rattle.std.proofs.Common.{ℕ, zero, suc, ◌%◌, ◌≡◌, refl, sym, ◌∙◌, ap, Bool, true, false, cond}
 use mathlib.Core.HubSpoke.{Sp, hub_spoke→set, rec_hub, rec_spoke}
 use mathlib.Mathlib.Algebra.Ring.Defs.{CommRing}
 use Rattle.rodrigues.specs.Rodrigues.{Arithmetic, Three, three, symmetric, sine_cosine, same, by_quarters, turned, rodrigues, by_x, by_y, by_z, zeros, constant, by_axis, rotation}

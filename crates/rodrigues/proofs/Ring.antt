@@ -1,5 +1,5 @@
 -- The laws of a commutative ring in a form for `simp`: `simp laws` sorts sums of products. Assumes nothing.
-use mathlib.Core.Path.{◌≡◌, sym, ◌∙◌, ap}
+use Rattle.std.proofs.Common.{◌≡◌, sym, ◌∙◌, ap}
 use mathlib.Mathlib.Algebra.Ring.Defs.{CommRing}
 
 module _ {R : Type 0} (C : CommRing R) where

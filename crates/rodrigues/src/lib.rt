@@ -7,6 +7,7 @@ ghost use Rattle.rodrigues.specs.Rotation.{turned as turned_by, constant as cons
 ghost use Rattle.rodrigues.specs.Circle.{power as power_of, derivative as derivative_of};
 
 use ieee_vectors::{Matrix3, Vector3};
+use matrices::Formula;
 
 mod matrices;
 
@@ -17,17 +18,11 @@ pub struct Pair {
     pub c: f64,
 }
 
-// The pair of an angle that is k quarter turns further on.
-pub fn turned(k: usize, s: f64, c: f64) -> Pair
-    ensures { result ≡ turned_by k s c }
-{
-    let quarters = k % 4;
-    match quarters {
-        0 => Pair { s, c },
-        1 => Pair { s: c, c: -s },
-        2 => Pair { s: -s, c: -c },
-        _ => Pair { s: -c, c: s },
-    }
+// A rotation about an axis, by an angle.
+#[derive(Clone, Copy)]
+pub struct Rotation {
+    pub axis: Vector3,
+    pub angle: Pair,
 }
 
 // The derivative of order n of 1.0.
@@ -46,13 +41,35 @@ pub fn zero() -> Matrix3
     matrices::symmetric(0.0, 0.0, 0.0, 0.0, 0.0, 0.0)
 }
 
-// Derived x, y and z times by the axis' components and n times by the angle.
-pub fn rotation(x: usize, y: usize, z: usize, n: usize, axis: Vector3, s: f64, c: f64) -> Matrix3
-    ensures { result ≡ rotation_by x y z n axis s c }
-{
-    let p = turned(n, s, c);
-    let k = -p.c + constant(n);
-    matrices::by_axis(x, y, z, axis, p.s, p.c, k)
+impl Pair {
+    // That of an angle k quarter turns further on.
+    pub fn turned(self, k: usize) -> Pair
+        ensures { result ≡ turned_by k self.s self.c }
+    {
+        let Pair { s, c } = self;
+        match k % 4 {
+            0 => Pair { s, c },
+            1 => Pair { s: c, c: -s },
+            2 => Pair { s: -s, c: -c },
+            _ => Pair { s: -c, c: s },
+        }
+    }
+}
+
+impl Rotation {
+    // Its matrix, derived x, y and z times by the axis' components and n times by the angle.
+    pub fn derived(self, x: usize, y: usize, z: usize, n: usize) -> Matrix3
+        ensures { result ≡ rotation_by x y z n self.axis self.angle.s self.angle.c }
+    {
+        let Pair { s, c } = self.angle.turned(n);
+        let formula = Formula {
+            axis: self.axis,
+            s,
+            c,
+            k: -c + constant(n),
+        };
+        formula.by_axis(x, y, z)
+    }
 }
 
 // A repeated product from 1.0.
@@ -60,27 +77,27 @@ fn power(x: f64, n: usize) -> f64
     ensures { result ≡ power_of x n }
 {
     let mut p = 1.0;
-    for i in 0..n {
+    for _ in 0..n {
         p = p * x;
     }
     p
 }
 
-// The derivative of order m of centre + R(axis, angle·u)·(point - centre) by u; s and c are the sine and cosine of angle·u.
+// The derivative of order m of centre + R(axis, angle·u)·(point - centre) by u, where R turns by angle·u.
 pub fn arc_derivative(
     center: Vector3,
-    axis: Vector3,
+    turn: Rotation,
     angle: f64,
     point: Vector3,
     m: usize,
-    s: f64,
-    c: f64,
 ) -> Vector3
-    ensures { result ≡ derivative_of center axis angle point m s c }
+    ensures { result ≡ derivative_of center turn.axis angle point m turn.angle.s turn.angle.c }
 {
-    let p = turned(m, s, c);
-    let turn = rotation(0, 0, 0, 0, axis, p.s, p.c);
-    let arm = turn.image(point.sub(center));
+    let further = Rotation {
+        angle: turn.angle.turned(m),
+        ..turn
+    };
+    let arm = further.derived(0, 0, 0, 0).image(point.sub(center));
     let fixed = center.mul(constant(m));
     fixed.add(arm.mul(power(angle, m)))
 }

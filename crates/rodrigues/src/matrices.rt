@@ -5,6 +5,15 @@ ghost use Rattle.rodrigues.specs.Rotation.{floats, three_of, matrix_of, by_axis}
 
 use ieee_vectors::{Matrix3, Vector3};
 
+// c·I + s·[axis]× + k·axis axisᵀ.
+#[derive(Clone, Copy)]
+pub struct Formula {
+    pub axis: Vector3,
+    pub s: f64,
+    pub c: f64,
+    pub k: f64,
+}
+
 // By columns.
 fn matrix(a: f64, b: f64, c: f64, d: f64, e: f64, f: f64, g: f64, h: f64, i: f64) -> Matrix3
     ensures { result ≡ matrix_of (nine a b c d e f g h i) }
@@ -16,72 +25,6 @@ fn matrix(a: f64, b: f64, c: f64, d: f64, e: f64, f: f64, g: f64, h: f64, i: f64
     }
 }
 
-// c·I + s·[axis]× + k·axis axisᵀ.
-fn rodrigues(axis: Vector3, s: f64, c: f64, k: f64) -> Matrix3
-    ensures { result ≡ matrix_of (rodrigues_by floats (three_of axis) s c k) }
-{
-    matrix(
-        k * axis.x * axis.x + c,
-        k * axis.x * axis.y + s * axis.z,
-        k * axis.x * axis.z - s * axis.y,
-        k * axis.x * axis.y - s * axis.z,
-        k * axis.y * axis.y + c,
-        k * axis.y * axis.z + s * axis.x,
-        k * axis.x * axis.z + s * axis.y,
-        k * axis.y * axis.z - s * axis.x,
-        k * axis.z * axis.z + c,
-    )
-}
-
-// Derived by one component of the axis.
-fn by_x(axis: Vector3, s: f64, k: f64) -> Matrix3
-    ensures { result ≡ matrix_of (by_x floats (three_of axis) s k) }
-{
-    matrix(
-        2.0 * axis.x * k,
-        axis.y * k,
-        axis.z * k,
-        axis.y * k,
-        0.0,
-        s,
-        axis.z * k,
-        -s,
-        0.0,
-    )
-}
-
-fn by_y(axis: Vector3, s: f64, k: f64) -> Matrix3
-    ensures { result ≡ matrix_of (by_y floats (three_of axis) s k) }
-{
-    matrix(
-        0.0,
-        axis.x * k,
-        -s,
-        axis.x * k,
-        2.0 * axis.y * k,
-        axis.z * k,
-        s,
-        axis.z * k,
-        0.0,
-    )
-}
-
-fn by_z(axis: Vector3, s: f64, k: f64) -> Matrix3
-    ensures { result ≡ matrix_of (by_z floats (three_of axis) s k) }
-{
-    matrix(
-        0.0,
-        s,
-        axis.x * k,
-        -s,
-        0.0,
-        axis.y * k,
-        axis.x * k,
-        axis.y * k,
-        2.0 * axis.z * k,
-    )
-}
-
 // A symmetric matrix.
 pub fn symmetric(xx: f64, xy: f64, xz: f64, yy: f64, yz: f64, zz: f64) -> Matrix3
     ensures { result ≡ matrix_of (symmetric_of xx xy xz yy yz zz) }
@@ -89,21 +32,93 @@ pub fn symmetric(xx: f64, xy: f64, xz: f64, yy: f64, yz: f64, zz: f64) -> Matrix
     matrix(xx, xy, xz, xy, yy, yz, xz, yz, zz)
 }
 
-// x, y and z times by the axis' components.
-pub fn by_axis(x: usize, y: usize, z: usize, axis: Vector3, s: f64, c: f64, k: f64) -> Matrix3
-    ensures { result ≡ by_axis x y z axis s c k }
-{
-    match (x, y, z) {
-        (0, 0, 0) => rodrigues(axis, s, c, k),
-        (1, 0, 0) => by_x(axis, s, k),
-        (0, 1, 0) => by_y(axis, s, k),
-        (0, 0, 1) => by_z(axis, s, k),
-        (2, 0, 0) => symmetric(2.0 * k, 0.0, 0.0, 0.0, 0.0, 0.0),
-        (0, 2, 0) => symmetric(0.0, 0.0, 0.0, 2.0 * k, 0.0, 0.0),
-        (0, 0, 2) => symmetric(0.0, 0.0, 0.0, 0.0, 0.0, 2.0 * k),
-        (0, 1, 1) => symmetric(0.0, 0.0, 0.0, 0.0, k, 0.0),
-        (1, 0, 1) => symmetric(0.0, 0.0, k, 0.0, 0.0, 0.0),
-        (1, 1, 0) => symmetric(0.0, k, 0.0, 0.0, 0.0, 0.0),
-        _ => crate::zero(),
+impl Formula {
+    fn matrix(self) -> Matrix3
+        ensures { result ≡ matrix_of (rodrigues_by floats (three_of self.axis) self.s self.c self.k) }
+    {
+        let Formula { axis, s, c, k } = self;
+        matrix(
+            k * axis.x * axis.x + c,
+            k * axis.x * axis.y + s * axis.z,
+            k * axis.x * axis.z - s * axis.y,
+            k * axis.x * axis.y - s * axis.z,
+            k * axis.y * axis.y + c,
+            k * axis.y * axis.z + s * axis.x,
+            k * axis.x * axis.z + s * axis.y,
+            k * axis.y * axis.z - s * axis.x,
+            k * axis.z * axis.z + c,
+        )
+    }
+
+    // Derived by one component of the axis.
+    fn by_x(self) -> Matrix3
+        ensures { result ≡ matrix_of (by_x floats (three_of self.axis) self.s self.k) }
+    {
+        let Formula { axis, s, k, .. } = self;
+        matrix(
+            2.0 * axis.x * k,
+            axis.y * k,
+            axis.z * k,
+            axis.y * k,
+            0.0,
+            s,
+            axis.z * k,
+            -s,
+            0.0,
+        )
+    }
+
+    fn by_y(self) -> Matrix3
+        ensures { result ≡ matrix_of (by_y floats (three_of self.axis) self.s self.k) }
+    {
+        let Formula { axis, s, k, .. } = self;
+        matrix(
+            0.0,
+            axis.x * k,
+            -s,
+            axis.x * k,
+            2.0 * axis.y * k,
+            axis.z * k,
+            s,
+            axis.z * k,
+            0.0,
+        )
+    }
+
+    fn by_z(self) -> Matrix3
+        ensures { result ≡ matrix_of (by_z floats (three_of self.axis) self.s self.k) }
+    {
+        let Formula { axis, s, k, .. } = self;
+        matrix(
+            0.0,
+            s,
+            axis.x * k,
+            -s,
+            0.0,
+            axis.y * k,
+            axis.x * k,
+            axis.y * k,
+            2.0 * axis.z * k,
+        )
+    }
+
+    // x, y and z times by the axis' components.
+    pub fn by_axis(self, x: usize, y: usize, z: usize) -> Matrix3
+        ensures { result ≡ by_axis x y z self.axis self.s self.c self.k }
+    {
+        let k = self.k;
+        match (x, y, z) {
+            (0, 0, 0) => self.matrix(),
+            (1, 0, 0) => self.by_x(),
+            (0, 1, 0) => self.by_y(),
+            (0, 0, 1) => self.by_z(),
+            (2, 0, 0) => symmetric(2.0 * k, 0.0, 0.0, 0.0, 0.0, 0.0),
+            (0, 2, 0) => symmetric(0.0, 0.0, 0.0, 2.0 * k, 0.0, 0.0),
+            (0, 0, 2) => symmetric(0.0, 0.0, 0.0, 0.0, 0.0, 2.0 * k),
+            (0, 1, 1) => symmetric(0.0, 0.0, 0.0, 0.0, k, 0.0),
+            (1, 0, 1) => symmetric(0.0, 0.0, k, 0.0, 0.0, 0.0),
+            (1, 1, 0) => symmetric(0.0, k, 0.0, 0.0, 0.0, 0.0),
+            _ => crate::zero(),
+        }
     }
 }

@@ -1,14 +1,11 @@
 -- Document 01's small inputs for the refusals of the centre and the contacts. Assumes nothing.
-use mathlib.Core.Path.{◌≡◌, refl, sym, ap, ◌∙◌}
-use mathlib.Core.Bool.{true, false, and-false}
-use Prim.Native.Nat.{ℕ, suc, ◌+◌, ◌≤◌}
-use native.Mathlib.Omega.{arith}
-use borrow.Author.Tests.{ne_eqb}
-use Rattle.std.specs.Prelude.{Result, Err}
+use Rattle.std.proofs.Common.{◌≡◌, refl, sym, ap, ◌∙◌, true, false, ℕ, suc, ◌+◌, ◌≤◌, arith, ne_eqb, Result, Err}
+use mathlib.Core.Bool.{and-false}
 use Rattle.refusals.specs.declared.Refusal.{Refusal}
 use Rattle.refusals.specs.declared.Refusal.TheVariants.{InputNotFinite, ZeroDeterminant}
-use lib.Ieee.{nan, of_bits, add, sub, mul, eq}
-use lib.Ieee.Scale.{finite}
+use Rattle.std.specs.Float.{nan}
+use Rattle.std.specs.Float.Ieee.{of_bits, add, sub, mul, eq}
+use Rattle.std.specs.Float.Ieee.Scale.{finite}
 use Rattle.ieee_vectors.specs.Vectors.{vector, positive_zero}
 use Rattle.ieee_vectors.specs.Matrices.{columns, transposed, determinant3}
 use Rattle.ieee_vectors.specs.declared.Vector3.{Vector3}

@@ -1,8 +1,8 @@
 -- Small inputs of the rotation and of the circle, computed: what the quarter turns and signs of zero give, and each refusal. Assumes nothing.
-use mathlib.Core.Path.{◌≡◌, refl}
-use lib.Ieee.{Float, nan, of_bits, add, mul, neg}
+use Rattle.std.proofs.Common.{◌≡◌, refl, Float, Err}
+use Rattle.std.specs.Float.{nan}
+use Rattle.std.specs.Float.Ieee.{of_bits, add, mul, neg}
 use Rattle.ieee_vectors.specs.Vectors.{vector, positive_zero}
-use Rattle.std.specs.Prelude.{Err}
 use Rattle.refusals.specs.declared.Refusal.TheVariants.{OrderAbove20, InputNotFinite, AnswerNotFinite}
 use Rattle.ieee_vectors.proofs.Floats.{minus_one, huge}
 use Rattle.rolling_ball_fillet.specs.declared.ContactCircle.{ContactCircle}

@@ -1,9 +1,5 @@
 -- Document 01's small input for a pair that is not served, and each pair that is refused so; computed. Assumes nothing.
-use mathlib.Core.Path.{◌≡◌, refl, ap, ◌∙◌}
-use mathlib.Core.Bool.{Bool, false, cond}
-use Prim.Native.Nat.{ℕ}
-use lib.Ieee.{Float}
-use Rattle.std.specs.Prelude.{Err}
+use Rattle.std.proofs.Common.{◌≡◌, refl, ap, ◌∙◌, Bool, false, cond, ℕ, Float, Err}
 use Rattle.refusals.specs.declared.Refusal.TheVariants.{OrderAbove20, PairNotServed}
 use Rattle.rolling_ball_fillet.specs.declared.ContactCircle.{ContactCircle}
 use Rattle.rolling_ball_fillet.specs.declared.RollingBallFilletSurface.{RollingBallFilletSurface}

@@ -1,7 +1,7 @@
 // How the circle's axis and angle move along the edge, as jets. Each `requires` is met by the callers.
 ghost use Rattle.std.specs.Prelude.{◌≡◌, ◌<◌};
 ghost use Rattle.formulas.specs.Numbers.{curve_numbers};
-ghost use Rattle.rolling_ball_fillet.specs.PartialAnswer.{with_cosine, info_answer, vder_info};
+ghost use Rattle.rolling_ball_fillet.specs.PartialAnswer.{with_cosine, vder_info};
 
 use crate::{CenterContactDers, VderInfo, VderInfoWithCosine, jets};
 use derivatives::CurveDerivatives;
@@ -14,39 +14,29 @@ fn with_cosine(d: &CenterContactDers, n: usize, a: AxisAngle) -> VderInfoWithCos
     requires { n < 20 }
     ensures { result ≡ with_cosine d.now n a }
 {
-    let cc_ders = jets::cut_ders(d, n);
-    let axis = a.axis;
-    let angle = a.angle;
-    let axis_ders = VectorCurveDerivatives {
-        order: n,
-        entries: axis,
-    };
-    let angle_ders = CurveDerivatives {
-        order: n,
-        entries: angle,
-    };
+    let AxisAngle {
+        axis,
+        angle,
+        cosine,
+    } = a;
     VderInfoWithCosine {
         info: VderInfo {
-            cc_ders,
-            axis_ders,
-            angle_ders,
+            cc_ders: jets::cut_ders(d, n),
+            axis_ders: VectorCurveDerivatives {
+                order: n,
+                entries: axis,
+            },
+            angle_ders: CurveDerivatives {
+                order: n,
+                entries: angle,
+            },
         },
-        cosine: a.cosine,
+        cosine,
     }
 }
 
-fn answered(
-    d: &CenterContactDers,
-    n: usize,
-    a: Result<AxisAngle, Refusal>,
-) -> Result<VderInfoWithCosine, Refusal>
-    requires { n < 20 }
-    ensures { result ≡ info_answer d.now n a }
-{
-    Ok(with_cosine(d, n, a?))
-}
-
 // On all floats, finite or not.
+#[tactic(auto, using(calculus::proofs::LoopCut::uncut), unfolding(crate::specs::PartialAnswer::vder_info))]
 pub fn vder_info(
     d: &CenterContactDers,
     r: &[f64; 21],
@@ -59,6 +49,6 @@ pub fn vder_info(
     let center = &d.center_ders.entries;
     let contact0 = &d.contact0_ders.entries;
     let contact1 = &d.contact1_ders.entries;
-    let a = partials::axis_angle(center, contact0, contact1, r, angle, n);
-    answered(d, n, a)
+    let found = partials::axis_angle(center, contact0, contact1, r, angle, n)?;
+    Ok(with_cosine(d, n, found))
 }

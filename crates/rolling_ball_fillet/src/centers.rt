@@ -1,6 +1,6 @@
 // The ball's centre, its contact points and their parameters along the edge, as jets. Each `requires` is met by the callers.
 ghost use Rattle.std.specs.Prelude.{◌≡◌, ◌<◌};
-ghost use Rattle.rolling_ball_fillet.specs.Center.{placed as placed_at, ders_of, answered_contacts, center_contacts};
+ghost use Rattle.rolling_ball_fillet.specs.Center.{placed as placed_at, ders_of, center_contacts};
 
 use crate::{CenterContactDers, ContactCircle, RollingBallFilletSurface};
 use contacts::{CenterContacts, Place};
@@ -12,15 +12,11 @@ use vector_derivatives::VectorCurveDerivatives;
 fn placed(f: &RollingBallFilletSurface, cc: &ContactCircle) -> Place
     ensures { result ≡ placed_at f.now cc.now }
 {
-    let edge = f.edge_curve.entries;
-    let radius = f.radius.entries;
-    let surface0 = f.surface0.entries;
-    let surface1 = f.surface1.entries;
     Place {
-        edge,
-        radius,
-        surface0,
-        surface1,
+        edge: f.edge_curve.entries,
+        radius: f.radius.entries,
+        surface0: f.surface0.entries,
+        surface1: f.surface1.entries,
         center: cc.center,
         foot0: cc.contact_point0.uv,
         foot1: cc.contact_point1.uv,
@@ -34,13 +30,17 @@ fn ders_of(n: usize, a: CenterContacts) -> CenterContactDers
     requires { n < 20 }
     ensures { result ≡ ders_of n a }
 {
-    let center = a.center;
-    let contact0 = a.contact0;
-    let contact1 = a.contact1;
-    let u0 = a.uv0.u;
-    let v0 = a.uv0.v;
-    let u1 = a.uv1.u;
-    let v1 = a.uv1.v;
+    let CenterContacts {
+        center,
+        contact0,
+        contact1,
+        uv0,
+        uv1,
+    } = a;
+    let u0 = uv0.u;
+    let v0 = uv0.v;
+    let u1 = uv1.u;
+    let v1 = uv1.v;
     let k = n + 1;
     CenterContactDers {
         center_ders: VectorCurveDerivatives {
@@ -68,14 +68,8 @@ fn ders_of(n: usize, a: CenterContacts) -> CenterContactDers
     }
 }
 
-fn answered(n: usize, a: Result<CenterContacts, Refusal>) -> Result<CenterContactDers, Refusal>
-    requires { n < 20 }
-    ensures { result ≡ answered_contacts n a }
-{
-    Ok(ders_of(n, a?))
-}
-
 // On all floats, finite or not.
+#[tactic(auto, using(calculus::proofs::LoopCut::uncut), unfolding(crate::specs::Center::center_contacts))]
 pub fn center_contacts(
     f: &RollingBallFilletSurface,
     cc: &ContactCircle,
@@ -84,5 +78,6 @@ pub fn center_contacts(
     requires { n < 20 }
     ensures { result ≡ center_contacts f.now cc.now n }
 {
-    answered(n, contacts::center_contacts(placed(f, cc), n))
+    let found = contacts::center_contacts(placed(f, cc), n)?;
+    Ok(ders_of(n, found))
 }

@@ -1,18 +1,23 @@
-// The checks on orders and floats that several functions share.
-ghost use Rattle.std.specs.Prelude.{◌≡◌, ◌&&◌};
-ghost use Rattle.std.specs.Float.Ieee.Scale.{finite};
+// The tests of a rotation's orders and floats.
+ghost use Rattle.std.specs.Prelude.{◌≡◌, cond, Ok, Err};
+ghost use Rattle.refusals.specs.declared.Refusal.TheVariants.{OrderAbove20};
 ghost use Rattle.rolling_ball_fillet.specs.Answers.{served_orders, finite_turn};
 
-use ieee_vectors::{Finite, Vector3};
+use ieee_vectors::Finite;
+use refusals::Refusal;
+use rodrigues::Rotation;
 
-pub fn served(x: usize, y: usize, z: usize, n: usize) -> bool
-    ensures { result ≡ served_orders x y z n }
+pub fn served(x: usize, y: usize, z: usize, n: usize) -> Result<(), Refusal>
+    ensures { result ≡ cond (served_orders x y z n) (Ok tt) (Err OrderAbove20) }
 {
-    x <= 20 && y <= 20 && z <= 20 && n <= 20
+    if 20 < x || 20 < y || 20 < z || 20 < n {
+        return Err(Refusal::OrderAbove20);
+    }
+    Ok(())
 }
 
-pub fn finite_turn(axis: Vector3, s: f64, c: f64) -> bool
-    ensures { result ≡ finite_turn axis s c }
+pub fn finite_turn(turn: Rotation) -> bool
+    ensures { result ≡ finite_turn turn.axis turn.angle.s turn.angle.c }
 {
-    axis.is_finite() && ieee::is_finite(s) && ieee::is_finite(c)
+    turn.axis.is_finite() && ieee::is_finite(turn.angle.s) && ieee::is_finite(turn.angle.c)
 }

@@ -1,9 +1,12 @@
 // The fillet's partial derivatives by v, by u and v, and twice by v, from axis and angle. A NaN or an infinity passes through.
-ghost use Rattle.std.specs.Prelude.{◌≡◌};
-ghost use Rattle.rolling_ball_fillet.specs.Partials.{arm_at, center_at, axis_at, derivative_v, derivative_u_v, derivative_v_v};
+ghost use Rattle.std.specs.Prelude.{◌≡◌, ◌≤◌};
+ghost use Rattle.ieee_vectors.specs.Vectors.{times};
+ghost use Rattle.rolling_ball_fillet.specs.Partials.{arm_at, center_at, axis_at, angle_at, derivative_v, derivative_u_v, derivative_v_v};
 
 use crate::{Share, VderInfo};
 use ieee_vectors::Vector3;
+use partials::Motion;
+use rodrigues::Rotation;
 
 // The centre, the arm from it to contact point 0, and the axis, derived k times.
 fn center(info: &VderInfo, k: usize) -> Vector3
@@ -25,41 +28,66 @@ fn axis(info: &VderInfo, k: usize) -> Vector3
     vector_formulas::vector_at(&info.axis_ders.entries, k)
 }
 
-pub fn derivative_v(info: &VderInfo, at: Share) -> Vector3
-    ensures { result ≡ derivative_v info.now at.u at.s at.c }
+// The rotation by the share of the angle; how it moves, derived k times.
+fn turn(info: &VderInfo, at: Share) -> Rotation
+    ensures axis { result.axis ≡ axis_at info.now 0 }
+    ensures angle { result.angle ≡ at.angle }
 {
-    let t = info.angle_ders.entries[1] * at.u;
-    let a = axis(info, 0);
-    let da = axis(info, 1);
-    let dcenter = center(info, 1);
-    let arm0 = arm(info, 0);
-    let arm1 = arm(info, 1);
-    partials::by_v(a, at.s, at.c, da, t, dcenter, arm0, arm1)
+    Rotation {
+        axis: axis(info, 0),
+        angle: at.angle,
+    }
+}
+
+fn motion(info: &VderInfo, k: usize, u: f64) -> Motion
+    requires { k ≤ 20 }
+    ensures axis { result.axis ≡ axis_at info.now k }
+    ensures angle { result.angle ≡ times (angle_at info.now k) u }
+{
+    Motion {
+        axis: axis(info, k),
+        angle: info.angle_ders.entries[k] * u,
+    }
+}
+
+pub fn derivative_v(info: &VderInfo, at: Share) -> Vector3
+    ensures { result ≡ derivative_v info.now at.u at.angle.s at.angle.c }
+{
+    partials::by_v(
+        turn(info, at),
+        motion(info, 1, at.u),
+        center(info, 1),
+        arm(info, 0),
+        arm(info, 1),
+    )
 }
 
 pub fn derivative_uv(info: &VderInfo, at: Share) -> Vector3
-    ensures { result ≡ derivative_u_v info.now at.u at.s at.c }
+    ensures { result ≡ derivative_u_v info.now at.u at.angle.s at.angle.c }
 {
     let angle = info.angle_ders.entries[0];
     let dangle = info.angle_ders.entries[1];
-    let a = axis(info, 0);
-    let da = axis(info, 1);
-    let arm0 = arm(info, 0);
-    let arm1 = arm(info, 1);
-    partials::by_uv(a, at.s, at.c, da, angle, dangle, at.u, arm0, arm1)
+    partials::by_uv(
+        turn(info, at),
+        axis(info, 1),
+        angle,
+        dangle,
+        at.u,
+        arm(info, 0),
+        arm(info, 1),
+    )
 }
 
 pub fn derivative_vv(info: &VderInfo, at: Share) -> Vector3
-    ensures { result ≡ derivative_v_v info.now at.u at.s at.c }
+    ensures { result ≡ derivative_v_v info.now at.u at.angle.s at.angle.c }
 {
-    let t = info.angle_ders.entries[1] * at.u;
-    let dt = info.angle_ders.entries[2] * at.u;
-    let a = axis(info, 0);
-    let da = axis(info, 1);
-    let dda = axis(info, 2);
-    let ddcenter = center(info, 2);
-    let arm0 = arm(info, 0);
-    let arm1 = arm(info, 1);
-    let arm2 = arm(info, 2);
-    partials::by_vv(a, at.s, at.c, da, t, dda, dt, ddcenter, arm0, arm1, arm2)
+    partials::by_vv(
+        turn(info, at),
+        motion(info, 1, at.u),
+        motion(info, 2, at.u),
+        center(info, 2),
+        arm(info, 0),
+        arm(info, 1),
+        arm(info, 2),
+    )
 }

@@ -4,13 +4,15 @@ ghost use Rattle.calculus.specs.Array.{curve_array};
 ghost use Rattle.ieee_vectors.specs.Vectors.{positive_zero};
 ghost use Rattle.formulas.specs.Numbers.{curve_numbers};
 ghost use Rattle.rolling_ball_fillet.specs.Jets.{cut_ders, contacts_above20, short_contacts};
-ghost use Rattle.derivatives.specs.Answer.{parameters, curves};
-ghost use Rattle.calculus.specs.JetKind.{finite_up_to, cut};
-ghost use Rattle.vector_derivatives.specs.Answer.{vector_curves, vector_surfaces};
+ghost use Rattle.rolling_ball_fillet.specs.Center.{finite_contacts};
+ghost use Rattle.derivatives.specs.Answer.{parameters};
+ghost use Rattle.calculus.specs.JetKind.{cut};
+ghost use Rattle.vector_derivatives.specs.Answer.{vector_curves};
 
 use crate::CenterContactDers;
-use derivatives::{CurveDerivatives, ParameterCurve};
-use vector_derivatives::{VectorCurveDerivatives, VectorSurfaceDerivatives};
+use derivatives::ParameterCurve;
+use derivatives::jets::Jet;
+use vector_derivatives::VectorCurveDerivatives;
 
 // The entries up to the order n, and zeros past them.
 fn cut_numbers(a: &[f64; 21], n: usize) -> [f64; 21]
@@ -55,45 +57,27 @@ pub fn cut_ders(d: &CenterContactDers, n: usize) -> CenterContactDers
 }
 
 // Whether an order of the contacts or their parameters is above 20, or below n.
-pub fn above_20_contacts(d: &CenterContactDers) -> bool
+pub fn above_20(d: &CenterContactDers) -> bool
     ensures { result ≡ contacts_above20 d.now }
 {
     let points = 20 < d.contact0_ders.order || 20 < d.contact1_ders.order;
     points || 20 < d.uv0_ders.order || 20 < d.uv1_ders.order
 }
 
-pub fn short_contacts(d: &CenterContactDers, n: usize) -> bool
+pub fn short(d: &CenterContactDers, n: usize) -> bool
     ensures { result ≡ short_contacts d.now n }
 {
     let points = d.contact0_ders.order < n || d.contact1_ders.order < n;
     points || d.uv0_ders.order < n || d.uv1_ders.order < n
 }
 
-// Whether the entries up to the order n are finite, for each kind of jet that document 01 keeps apart.
-pub fn finite_jet(a: &VectorCurveDerivatives, n: usize) -> bool
-    requires { n ≤ 20 }
-    ensures { result ≡ finite_up_to vector_curves a.now n }
+// Whether the five jets are finite: the centre up to the order n, the others up to n + 1.
+pub fn are_finite(d: &CenterContactDers, n: usize) -> bool
+    requires { n < 20 }
+    ensures { result ≡ finite_contacts d.now n }
 {
-    vector_formulas::finite_vectors(&a.entries, n)
-}
-
-pub fn finite_numbers(a: &CurveDerivatives, n: usize) -> bool
-    requires { n ≤ 20 }
-    ensures { result ≡ finite_up_to curves a.now n }
-{
-    formulas::finite_curve(&a.entries, n)
-}
-
-pub fn finite_parameter(a: &ParameterCurve, n: usize) -> bool
-    requires { n ≤ 20 }
-    ensures { result ≡ finite_up_to parameters a.now n }
-{
-    formulas::finite_curve(&a.u, n) && formulas::finite_curve(&a.v, n)
-}
-
-pub fn finite_surface(a: &VectorSurfaceDerivatives, n: usize) -> bool
-    requires { n ≤ 20 }
-    ensures { result ≡ finite_up_to vector_surfaces a.now n }
-{
-    vector_formulas::finite_surface(&a.entries, n)
+    let k = n + 1;
+    let points = d.contact0_ders.is_finite(k) && d.contact1_ders.is_finite(k);
+    let feet = d.uv0_ders.is_finite(k) && d.uv1_ders.is_finite(k);
+    d.center_ders.is_finite(n) && points && feet
 }

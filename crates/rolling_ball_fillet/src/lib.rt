@@ -3,7 +3,9 @@
 // divisor that is zero, and a returned float that is not finite.
 #![tactic(auto)]
 
-ghost use Rattle.std.specs.Prelude.{◌≡◌};
+ghost use Rattle.std.specs.Prelude.{◌≡◌, ◌&&◌};
+ghost use Rattle.std.specs.Float.Ieee.Scale.{finite};
+ghost use Rattle.rodrigues.specs.Rotation.{pair_of};
 ghost use Rattle.rolling_ball_fillet.specs.Answers.{rotation_answer, finite_contact, finite_circle, derivative_answer};
 ghost use Rattle.rolling_ball_fillet.specs.Center.{center_contact_answer};
 ghost use Rattle.rolling_ball_fillet.specs.Partials.{derivative_v, derivative_u_v, derivative_v_v};
@@ -15,6 +17,8 @@ use ieee_vectors::{Finite, Matrix3, Vector2, Vector3};
 use partials::EdgePartial;
 use refusals::Refusal;
 pub use rodrigues::Pair;
+use rodrigues::Rotation;
+use sub_der::Spot;
 use vector_derivatives::{VectorCurveDerivatives, VectorSurfaceDerivatives};
 
 mod axis_angle;
@@ -83,8 +87,25 @@ pub struct VderInfoWithCosine {
 #[derive(Clone, Copy)]
 struct Share {
     u: f64,
-    s: f64,
-    c: f64,
+    angle: Pair,
+}
+
+impl Share {
+    fn at(u: f64, s: f64, c: f64) -> Share
+        ensures u { result.u ≡ u }
+        ensures angle { result.angle ≡ pair_of s c }
+    {
+        Share {
+            u,
+            angle: Pair { s, c },
+        }
+    }
+
+    fn is_finite(self) -> bool
+        ensures { result ≡ (finite self.u && finite self.angle.s && finite self.angle.c) }
+    {
+        ieee::is_finite(self.u) && ieee::is_finite(self.angle.s) && ieee::is_finite(self.angle.c)
+    }
 }
 
 // Rodrigues' rotation, derived x, y and z times by the axis' components and n times by the angle, whose sine and cosine are s and c.
@@ -99,11 +120,12 @@ pub fn rot_der_n(
 ) -> Result<Matrix3, Refusal>
     ensures { result ≡ rotation_answer x y z n axis s c }
 {
-    if !checks::served(x, y, z, n) {
-        return Err(Refusal::OrderAbove20);
-    }
-    let inputs = checks::finite_turn(axis, s, c);
-    vectors::from_inputs(inputs, rodrigues::rotation(x, y, z, n, axis, s, c))
+    let turn = Rotation {
+        axis,
+        angle: Pair { s, c },
+    };
+    checks::served(x, y, z, n)?;
+    vectors::from_inputs(checks::finite_turn(turn), turn.derived(x, y, z, n))
 }
 
 pub fn from_axis_angle(axis: Vector3, s: f64, c: f64) -> Result<Matrix3, Refusal>
@@ -136,7 +158,7 @@ impl ContactCircle {
             return Err(Refusal::OrderAbove20);
         }
         let inputs = self.is_finite() && ieee::is_finite(s) && ieee::is_finite(c);
-        vectors::from_inputs(inputs, sub_der::along_arc(&self, m, s, c))
+        vectors::from_inputs(inputs, sub_der::along_arc(&self, m, Pair { s, c }))
     }
 }
 
@@ -150,17 +172,16 @@ impl CenterContactDers {
         ensures { result ≡ vder_info_answer self rders angle }
     {
         let n = self.center_ders.order;
-        if 19 < n || jets::above_20_contacts(&self) || 20 < rders.order {
+        if 19 < n || jets::above_20(&self) || 20 < rders.order {
             return Err(Refusal::OrderAbove20);
         }
-        if info::short(&self, &rders, n + 1) {
-            return Err(Refusal::Shape);
-        }
+        info::reach(&self, &rders, n + 1)?;
         if !info::finite_given(&self, &rders, angle, n) {
             return Err(Refusal::InputNotFinite);
         }
         let found = axis_angle::vder_info(&self, &rders.entries, angle, n)?;
-        info::returned(found, n)
+        let finite = info::is_finite(&found.info, n) && ieee::is_finite(found.cosine);
+        finite.then_some(found).ok_or(Refusal::AnswerNotFinite)
     }
 }
 
@@ -169,19 +190,19 @@ impl VderInfo {
     pub fn derivative_v(self, u: f64, s: f64, c: f64) -> Result<Vector3, Refusal>
         ensures { result ≡ partial_answer derivative_v 1 self u s c }
     {
-        sub_der::partial_answer(EdgePartial::V, &self, Share { u, s, c })
+        sub_der::partial_answer(EdgePartial::V, &self, Share::at(u, s, c))
     }
 
     pub fn derivative_uv(self, u: f64, s: f64, c: f64) -> Result<Vector3, Refusal>
         ensures { result ≡ partial_answer derivative_u_v 1 self u s c }
     {
-        sub_der::partial_answer(EdgePartial::Uv, &self, Share { u, s, c })
+        sub_der::partial_answer(EdgePartial::Uv, &self, Share::at(u, s, c))
     }
 
     pub fn derivative_vv(self, u: f64, s: f64, c: f64) -> Result<Vector3, Refusal>
         ensures { result ≡ partial_answer derivative_v_v 2 self u s c }
     {
-        sub_der::partial_answer(EdgePartial::Vv, &self, Share { u, s, c })
+        sub_der::partial_answer(EdgePartial::Vv, &self, Share::at(u, s, c))
     }
 }
 
@@ -194,17 +215,16 @@ impl RollingBallFilletSurface {
     ) -> Result<CenterContactDers, Refusal>
         ensures { result ≡ center_contact_answer self cc n }
     {
-        if 19 < n || inputs::above_20_jets(&self) {
+        if 19 < n || inputs::above_20(&self) {
             return Err(Refusal::OrderAbove20);
         }
-        if inputs::short(&self, n + 1) {
-            return Err(Refusal::Shape);
-        }
+        inputs::reach(&self, n + 1)?;
         if !inputs::finite_given(&self, &cc, n + 1) {
             return Err(Refusal::InputNotFinite);
         }
         let ders = centers::center_contacts(&self, &cc, n)?;
-        inputs::returned(ders, n)
+        let finite = jets::are_finite(&ders, n);
+        finite.then_some(ders).ok_or(Refusal::AnswerNotFinite)
     }
 
     // The fillet's partial derivative, m times by u and n times by v, at the share u of the arc; s and c are the sine and cosine of angle·u.
@@ -220,10 +240,15 @@ impl RollingBallFilletSurface {
     ) -> Result<Vector3, Refusal>
         ensures { result ≡ sub_der_mn self m n u cc angle s c }
     {
-        if 20 < m || 20 < n || inputs::above_20_jets(&self) {
+        if 20 < m || 20 < n || inputs::above_20(&self) {
             return Err(Refusal::OrderAbove20);
         }
-        let d = partials::decide(m, n);
-        sub_der::by_decision(d, m, &self, &cc, angle, Share { u, s, c })
+        let spot = Spot {
+            fillet: &self,
+            circle: &cc,
+            angle,
+            at: Share::at(u, s, c),
+        };
+        spot.by_decision(partials::decide(m, n), m)
     }
 }

@@ -1,10 +1,5 @@
 -- A product or a carry over an array that a formula filled is one over the formula. Assumes nothing.
-use mathlib.Core.Path.{◌≡◌, refl, ◌∙◌}
-use mathlib.Core.List.{List}
-use Prim.Native.Nat.{ℕ, ◌≤◌, ◌<◌, min}
-use native.Mathlib.Nat.{le_refl}
-use native.Mathlib.Omega.{arith}
-use lib.Ieee.{Float}
+use Rattle.std.proofs.Common.{◌≡◌, refl, ◌∙◌, List, ℕ, ◌≤◌, ◌<◌, min, le_refl, arith, Float}
 use Rattle.ieee_vectors.specs.declared.Vector3.{Vector3}
 use Rattle.ieee_vectors.specs.Vectors.{dot, positive_zero}
 use Rattle.calculus.specs.Kind.{regular}
@@ -31,8 +26,8 @@ module _ (m : ℕ) (h : m ≤ 20) where
 
 -- a surface's derivative, worked out up to the order m and carried
 pub along-derived : (m : ℕ) → m < 20 → (u v : ℕ → Float) (s : ℕ → ℕ → Vector3) {e : List Float} {r : Vector3} →
-    e ≡ vector_surface_array s (min m 19) → r ≡ composite_derivative vectors u v (vector_surface_numbers e) (min m 20) → r ≡ composite_derivative vectors u v s m
+    e ≡ vector_surface_array s (min m 19) → r ≡ composite_derivative vectors u v (vector_surface_numbers e) m → r ≡ composite_derivative vectors u v s m
 along-derived m h u v s {e} d c =
     let held = d ∙ uncut (vector_surface_array s) (omega arith) in
-    c ∙ uncut (composite_derivative vectors u v (vector_surface_numbers e)) (omega arith)
+    c
     ∙ composite_derivative-upto vectors m {u = u} {v = v} {x = u} {y = v} (λ i l. refl) (λ i l. refl) (surface-agrees s m (omega arith) held) m (le_refl m)

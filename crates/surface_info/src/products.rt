@@ -11,6 +11,7 @@ ghost use Rattle.vector_formulas.specs.Vector.{vectors, vector_numbers, vector_s
 ghost use Rattle.surface_info.specs.SurfaceInfo.{first_number_only};
 
 use crate::Parameters;
+use float_carry::vectors::Carried;
 use ieee_vectors::Vector3;
 
 // The array of floats with the entry m stored; and with entry 0, and zeros past it. Floats and vectors have functions of their own (document 01).
@@ -59,7 +60,12 @@ pub fn along(s: &[f64; 693], uv: &Parameters, m: usize) -> Vector3
     requires { m ≤ 20 }
     ensures { result ≡ composite_derivative vectors (curve_numbers uv.now.u) (curve_numbers uv.now.v) (vector_surface_numbers s.now) m }
 {
-    float_carry::vectors::derivative(s, &uv.u, &uv.v, m)
+    let carried = Carried {
+        entries: s,
+        u: &uv.u,
+        v: &uv.v,
+    };
+    carried.derivative(m)
 }
 
 pub fn along_u(s: &[f64; 693], uv: &Parameters, m: usize) -> Vector3
@@ -67,7 +73,7 @@ pub fn along_u(s: &[f64; 693], uv: &Parameters, m: usize) -> Vector3
     ensures { result ≡ composite_derivative vectors (curve_numbers uv.now.u) (curve_numbers uv.now.v) (derivative_u (vector_surface_numbers s.now)) m }
 {
     let d = vector_formulas::derivative_u(s, m);
-    float_carry::vectors::derivative(&d, &uv.u, &uv.v, m)
+    along(&d, uv, m)
 }
 
 pub fn along_v(s: &[f64; 693], uv: &Parameters, m: usize) -> Vector3
@@ -75,5 +81,5 @@ pub fn along_v(s: &[f64; 693], uv: &Parameters, m: usize) -> Vector3
     ensures { result ≡ composite_derivative vectors (curve_numbers uv.now.u) (curve_numbers uv.now.v) (derivative_v (vector_surface_numbers s.now)) m }
 {
     let d = vector_formulas::derivative_v(s, m);
-    float_carry::vectors::derivative(&d, &uv.u, &uv.v, m)
+    along(&d, uv, m)
 }

@@ -1,7 +1,6 @@
 -- Arrays of vectors that have been computed, as the jets that are answered. Assumes nothing.
-use Rattle.std.proofs.Common.{◌≡◌, Bool, cond, List, Float, ℕ, suc, ◌≤◌, ◌<◌, min, Result, Ok, Err, sym, ap, ◌∙◌, arith}
+use Rattle.std.proofs.Common.{◌≡◌, Bool, cond, List, Float, ℕ, suc, ◌≤◌, ◌<◌, min, Result, Ok, Err, sym, ap, ◌∙◌, arith, lt-ltb, le-ltb}
 use Rattle.std.specs.Float.{nan}
-use borrow.Author.Tests.{lt-ltb, le-ltb}
 use Rattle.refusals.specs.declared.Refusal.{Refusal}
 use Rattle.refusals.specs.declared.Refusal.TheVariants.{OrderAbove20, AnswerNotFinite}
 use Rattle.ieee_vectors.specs.declared.Vector3.{Vector3}

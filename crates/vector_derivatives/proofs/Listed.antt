@@ -1,6 +1,5 @@
 -- A loop that writes vectors in turn into a list, x, y and z of each. Assumes nothing.
-use Rattle.std.proofs.Common.{◌≡◌, ◌∷◌, List, Float, ℕ, suc, ◌+◌, ◌*◌, ◌<◌, length, set, refl, ap, arith}
-use mathlib.Core.Path.{subst}
+use Rattle.std.proofs.Common.{◌≡◌, ◌∷◌, List, Float, ℕ, suc, ◌+◌, ◌*◌, ◌<◌, length, set, refl, ap, arith, subst}
 use Rattle.ieee_vectors.specs.declared.Vector3.{Vector3}
 use Rattle.calculus.proofs.LoopWriting.{Writing, writing-goes-on}
 use Rattle.vector_formulas.specs.Vector.{put, flat}

@@ -4,6 +4,7 @@ ghost use Rattle.vector_derivatives.specs.Composite.{vector_along_curve_at, vect
 
 use crate::{VectorCurveDerivatives, VectorSurfaceDerivatives};
 use derivatives::{ParameterCurve, jets};
+use float_carry::vectors::Carried;
 use refusals::Refusal;
 use vectors::Vector3;
 
@@ -17,7 +18,12 @@ impl VectorSurfaceDerivatives {
         ensures { result ≡ vector_along_curve_at self curve order }
     {
         let n = jets::asked(&self, &curve, order)?;
-        vectors::returned(float_carry::vectors::derivative(&self.entries, &curve.u, &curve.v, n))
+        let carried = Carried {
+            entries: &self.entries,
+            u: &curve.u,
+            v: &curve.v,
+        };
+        vectors::returned(carried.derivative(n))
     }
 
     // The derivatives of all orders up to `order`, with the entry [0][0] at order 0.
@@ -29,9 +35,14 @@ impl VectorSurfaceDerivatives {
         ensures { result ≡ vector_along_curve self curve order }
     {
         let n = jets::asked(&self, &curve, order)?;
+        let carried = Carried {
+            entries: &self.entries,
+            u: &curve.u,
+            v: &curve.v,
+        };
         jets::returned(VectorCurveDerivatives {
             order: n,
-            entries: float_carry::vectors::derivatives(&self.entries, &curve.u, &curve.v, n),
+            entries: carried.derivatives(n),
         })
     }
 }

@@ -1,6 +1,7 @@
 // Jets of curves of vectors.
-ghost use Rattle.std.specs.Prelude.{◌≡◌, ◌≤◌, List, length, Float, Result, ⊤};
+ghost use Rattle.std.specs.Prelude.{◌≡◌, ◌≤◌, refl, ℕ, List, length, Float, Result, ⊤};
 ghost use Rattle.refusals.specs.declared.Refusal.{Refusal};
+ghost use Rattle.ieee_vectors.specs.declared.Vector3.{Vector3};
 ghost use Rattle.ieee_vectors.specs.Vectors.{quotient, multiple, dot, cross};
 ghost use Rattle.calculus.specs.Kind.{regular};
 ghost use Rattle.calculus.specs.Curve.{derivative, sum as sums, difference as differences, product_by};
@@ -10,9 +11,9 @@ ghost use Rattle.vector_formulas.specs.Vector.{vectors, vector_norm};
 ghost use Rattle.vector_derivatives.specs.Inner.{by_vector_entries, by_weighted_entries};
 ghost use Rattle.vector_derivatives.specs.Answer.{vector_entry_at, by_norm, vector_curves};
 ghost use Rattle.derivatives.specs.Answer.{entry_at, curves, by_division};
-ghost use Rattle.calculus.specs.JetKind.{by_formula, differentiated, finite_up_to, from_list, into_list, on_two};
+ghost use Rattle.calculus.specs.JetKind.{by_formula, differentiated, from_list, into_list, on_two};
 
-use crate::{VectorCurveDerivatives, formula, lists};
+use crate::{VectorCurveDerivatives, formula};
 use derivatives::jets::Jet;
 use derivatives::{CurveDerivatives, jets};
 use refusals::Refusal;
@@ -20,9 +21,11 @@ use vector_formulas::VectorFormula;
 use vectors::Vector3;
 
 impl Jet for VectorCurveDerivatives {
-    ghost order = { vector_curves.order };
+    ghost entries = { ℕ → Vector3 };
 
-    ghost finite = { finite_up_to vector_curves };
+    ghost kind = { vector_curves };
+
+    ghost list_law = { λ l. refl };
 
     fn order(&self) -> usize {
         self.order
@@ -31,27 +34,28 @@ impl Jet for VectorCurveDerivatives {
     fn is_finite(&self, n: usize) -> bool {
         vector_formulas::finite_vectors(&self.entries, n)
     }
-}
 
-// A list has x, y and z of each order.
-pub fn read(n: usize, list: &[f64]) -> VectorCurveDerivatives
-    requires { (n ≤ 20) × (length list.now ≡ vector_curves.count n) }
-    ensures { result ≡ vector_curves.made n (vector_curves.in_list n list.now) }
-{
-    VectorCurveDerivatives {
-        order: n,
-        entries: vector_formulas::read(list, n),
+    fn count(n: usize) -> usize {
+        3 * (n.min(20) + 1)
+    }
+
+    // A list has x, y and z of each order.
+    fn read(n: usize, list: &[f64]) -> VectorCurveDerivatives {
+        VectorCurveDerivatives {
+            order: n,
+            entries: vector_formulas::read(list, n),
+        }
+    }
+
+    fn write(&self, out: &mut [f64])
+        ensures { (self.now.order ≤ 20) × (length out.old ≡ vector_curves.count self.now.order) → out.new ≡ vector_curves.list (vector_curves.numbers self.now) self.now.order }
+    {
+        let k = out.len().min(63);
+        out[..k].copy_from_slice(&self.entries[..k]);
     }
 }
 
-fn write(a: &VectorCurveDerivatives, out: &mut [f64])
-    requires { (a.now.order ≤ 20) × (length out.old ≡ vector_curves.count a.now.order) }
-    ensures { out.new ≡ vector_curves.list (vector_curves.numbers a.now) a.now.order }
-{
-    out.copy_from_slice(&a.entries[..3 * (a.order + 1)]);
-}
-
-// A formula on two jets of vectors, at the smaller order. Curves and surfaces have each their own: document 01 keeps their formulas apart.
+// A formula on two jets of vectors, at the smaller order. Curves and surfaces have each their own, since their formulas differ by a sum more.
 fn on_two(
     f: VectorFormula,
     a: VectorCurveDerivatives,
@@ -89,18 +93,13 @@ impl VectorCurveDerivatives {
     pub fn from_list(order: usize, list: &[f64]) -> Result<VectorCurveDerivatives, Refusal>
         ensures { result ≡ from_list vector_curves order list.now }
     {
-        let a = lists::curve(order, list)?;
-        jets::finite_list(list)?;
-        Ok(a)
+        jets::from_list(order, list)
     }
 
     pub fn into_list(self, out: &mut [f64]) -> Result<(), Refusal>
         ensures { ◌≡◌ {A = Result ⊤ Refusal × List Float} (result, out.new) (into_list vector_curves self out.old) }
     {
-        jets::fits(self.order, out.len(), 3 * (self.order.min(20) + 1))?;
-        jets::one(&self)?;
-        write(&self, out);
-        Ok(())
+        jets::into_list(&self, out)
     }
 
     pub fn sum(self, other: VectorCurveDerivatives) -> Result<VectorCurveDerivatives, Refusal>

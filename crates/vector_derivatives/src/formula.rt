@@ -9,10 +9,7 @@ use vector_formulas::VectorFormula;
 pub fn division_by_zero(f: VectorFormula, y: f64) -> bool
     ensures { result ≡ vector_division_by_zero f y }
 {
-    match f {
-        VectorFormula::Rational => y == 0.0,
-        _ => false,
-    }
+    matches!(f, VectorFormula::Rational) && y == 0.0
 }
 
 // Whether the norm of the order n is divided by q, and that is zero.

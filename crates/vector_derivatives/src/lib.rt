@@ -5,7 +5,6 @@
 mod composite;
 mod curve;
 mod formula;
-pub mod lists;
 mod over_lists;
 mod surface;
 

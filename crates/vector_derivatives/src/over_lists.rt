@@ -4,19 +4,21 @@ ghost use Rattle.refusals.specs.Number.{number_of};
 ghost use Rattle.given.specs.Lists.{input, output};
 ghost use Rattle.vector_derivatives.specs.Answer.{vector_curves, vector_surfaces};
 
-use crate::{VectorCurveDerivatives, VectorSurfaceDerivatives, lists};
-use given::{Lent, Listed, Shape};
+use crate::{VectorCurveDerivatives, VectorSurfaceDerivatives};
+use derivatives::jets;
+use derivatives::jets::Jet;
+use given::{Lent, Listed};
 use refusals::Refusal;
 
 impl Listed<f64> for VectorCurveDerivatives {
     ghost input = { input vector_curves };
 
     fn test(order: usize, length: usize) -> Result<(), Refusal> {
-        given::list(Shape::VectorCurve, order, length)
+        orders::fits(order, length, VectorCurveDerivatives::count(order))
     }
 
     fn read(order: usize, list: &[f64]) -> VectorCurveDerivatives {
-        lists::curve(order, list).unwrap_or(VectorCurveDerivatives {
+        jets::of_list(order, list).unwrap_or(VectorCurveDerivatives {
             order: 0,
             entries: [0.0; 63],
         })
@@ -27,7 +29,7 @@ impl Lent<f64> for VectorCurveDerivatives {
     ghost output = { output vector_curves };
 
     fn due(order: usize, length: usize) -> Result<(), Refusal> {
-        given::list(Shape::VectorCurve, order, length)
+        orders::fits(order, length, VectorCurveDerivatives::count(order))
     }
 
     #[tactic(auto, unfolding(given::specs::Lists::deliver))]
@@ -46,11 +48,11 @@ impl Listed<f64> for VectorSurfaceDerivatives {
     ghost input = { input vector_surfaces };
 
     fn test(order: usize, length: usize) -> Result<(), Refusal> {
-        given::list(Shape::VectorSurface, order, length)
+        orders::fits(order, length, VectorSurfaceDerivatives::count(order))
     }
 
     fn read(order: usize, list: &[f64]) -> VectorSurfaceDerivatives {
-        lists::surface(order, list).unwrap_or(VectorSurfaceDerivatives {
+        jets::of_list(order, list).unwrap_or(VectorSurfaceDerivatives {
             order: 0,
             entries: [0.0; 693],
         })
@@ -61,7 +63,7 @@ impl Lent<f64> for VectorSurfaceDerivatives {
     ghost output = { output vector_surfaces };
 
     fn due(order: usize, length: usize) -> Result<(), Refusal> {
-        given::list(Shape::VectorSurface, order, length)
+        orders::fits(order, length, VectorSurfaceDerivatives::count(order))
     }
 
     #[tactic(auto, unfolding(given::specs::Lists::deliver))]

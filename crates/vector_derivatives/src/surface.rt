@@ -1,20 +1,21 @@
 // Jets of surfaces of vectors.
-ghost use Rattle.std.specs.Prelude.{◌≡◌, ◌≤◌, cond, ltb, List, length, ◌+◌, ◌<◌, Float, Result, ⊤};
+ghost use Rattle.std.specs.Prelude.{◌≡◌, ◌≤◌, refl, ℕ, cond, ltb, List, length, ◌+◌, Float, Result, ⊤};
 ghost use Rattle.refusals.specs.declared.Refusal.{Refusal};
+ghost use Rattle.ieee_vectors.specs.declared.Vector3.{Vector3};
 ghost use Rattle.ieee_vectors.specs.Vectors.{quotient, multiple, dot, cross};
 ghost use Rattle.calculus.specs.Kind.{regular};
 ghost use Rattle.formulas.specs.Real.{real};
-ghost use Rattle.calculus.specs.Surface.{derivative_u, derivative_v, derivative_by, sum as sums, difference as differences, product_by};
+ghost use Rattle.calculus.specs.Surface.{derivative_u, derivative_v, sum as sums, difference as differences, product_by};
 ghost use Rattle.calculus.specs.Rational.{surface_rational};
-ghost use Rattle.vector_formulas.specs.Vector.{vectors, vector_surface_numbers, vector_surface_array};
+ghost use Rattle.vector_formulas.specs.Vector.{vectors, vector_numbers, vector_surface_array};
+ghost use Rattle.calculus.specs.Order.{list_place};
 ghost use Rattle.vector_derivatives.specs.Inner.{by_vector_surface_entries, by_surface_weighted_entries};
 ghost use Rattle.vector_surface_formulas.specs.Formulas.{vector_surface_norm};
 ghost use Rattle.vector_derivatives.specs.Answer.{vector_entry_at, by_norm, vector_surfaces};
 ghost use Rattle.derivatives.specs.Answer.{surfaces, entry_at, by_division};
-ghost use Rattle.calculus.specs.JetKind.{by_formula, differentiated, finite_up_to, from_list, into_list, on_two};
+ghost use Rattle.calculus.specs.JetKind.{by_formula, differentiated, from_list, into_list, on_two};
 
-use crate::{VectorSurfaceDerivatives, formula, lists};
-use calculus::By;
+use crate::{VectorSurfaceDerivatives, formula};
 use derivatives::jets::Jet;
 use derivatives::{SurfaceDerivatives, jets};
 use refusals::Refusal;
@@ -22,9 +23,11 @@ use vector_formulas::VectorFormula;
 use vectors::Vector3;
 
 impl Jet for VectorSurfaceDerivatives {
-    ghost order = { vector_surfaces.order };
+    ghost entries = { ℕ → ℕ → Vector3 };
 
-    ghost finite = { finite_up_to vector_surfaces };
+    ghost kind = { vector_surfaces };
+
+    ghost list_law = { λ l. refl };
 
     fn order(&self) -> usize {
         self.order
@@ -33,10 +36,30 @@ impl Jet for VectorSurfaceDerivatives {
     fn is_finite(&self, n: usize) -> bool {
         vector_formulas::finite_surface(&self.entries, n)
     }
+
+    fn count(n: usize) -> usize {
+        count(n)
+    }
+
+    // In a list [i][j] stands by i rising, then j, with x, y and z of each.
+    fn read(n: usize, list: &[f64]) -> VectorSurfaceDerivatives {
+        VectorSurfaceDerivatives {
+            order: n,
+            entries: array(n.min(20), list),
+        }
+    }
+
+    fn write(&self, out: &mut [f64])
+        ensures { (self.now.order ≤ 20) × (length out.old ≡ vector_surfaces.count self.now.order) → out.new ≡ vector_surfaces.list (vector_surfaces.numbers self.now) self.now.order }
+    {
+        if orders::fits(self.order, out.len(), count(self.order)).is_ok() {
+            written(self, out);
+        }
+    }
 }
 
 // How many floats a list of the order n has: none where the order is above 20.
-pub fn count(n: usize) -> usize
+fn count(n: usize) -> usize
     ensures { result ≡ cond (ltb 20 n) 0 (vector_surfaces.count n) }
 {
     if 20 < n {
@@ -45,10 +68,10 @@ pub fn count(n: usize) -> usize
     3 * calculus::surface_count(n)
 }
 
-// In a list [i][j] stands by i rising, then j, with x, y and z of each.
-pub fn read(n: usize, list: &[f64]) -> VectorSurfaceDerivatives
-    requires { (n ≤ 20) × (length list.now ≡ vector_surfaces.count n) }
-    ensures { result ≡ vector_surfaces.made n (vector_surfaces.in_list n list.now) }
+// The array of a surface's list.
+fn array(n: usize, list: &[f64]) -> [f64; 693]
+    requires { n ≤ 20 }
+    ensures { result ≡ vector_surface_array (λ i j. vector_numbers list.now (list_place n i j)) n }
 {
     let mut entries = [0.0f64; 693];
     let mut l = 0;
@@ -59,10 +82,11 @@ pub fn read(n: usize, list: &[f64]) -> VectorSurfaceDerivatives
             l += 1;
         }
     }
-    VectorSurfaceDerivatives { order: n, entries }
+    entries
 }
 
-fn write(a: &VectorSurfaceDerivatives, out: &mut [f64])
+// A surface into its list.
+fn written(a: &VectorSurfaceDerivatives, out: &mut [f64])
     requires { (a.now.order ≤ 20) × (length out.old ≡ vector_surfaces.count a.now.order) }
     ensures { out.new ≡ vector_surfaces.list (vector_surfaces.numbers a.now) a.now.order }
 {
@@ -76,7 +100,7 @@ fn write(a: &VectorSurfaceDerivatives, out: &mut [f64])
     }
 }
 
-// A formula on two jets of vectors, at the smaller order. Curves and surfaces have each their own: document 01 keeps their formulas apart.
+// A formula on two jets of vectors, at the smaller order. Curves and surfaces have each their own, since their formulas differ by a sum more.
 fn on_two(
     f: VectorFormula,
     a: VectorSurfaceDerivatives,
@@ -110,55 +134,37 @@ fn on_weighted(
     })
 }
 
-// The entries up to the order n of the derivative by u or by v.
-fn shifted(by: By, a: &[f64; 693], n: usize) -> [f64; 693]
-    requires { n < 20 }
-    ensures { result ≡ vector_surface_array (derivative_by by (vector_surface_numbers a.now)) n }
-{
-    match by {
-        By::U => vector_formulas::derivative_u(a, n),
-        By::V => vector_formulas::derivative_v(a, n),
-    }
-}
-
-fn derivative(by: By, a: VectorSurfaceDerivatives) -> Result<VectorSurfaceDerivatives, Refusal>
-    ensures { result ≡ differentiated vector_surfaces (derivative_by by) a }
-{
-    let n = jets::less(&a)?;
-    Ok(VectorSurfaceDerivatives {
-        order: n,
-        entries: shifted(by, &a.entries, n),
-    })
-}
-
 impl VectorSurfaceDerivatives {
     pub fn from_list(order: usize, list: &[f64]) -> Result<VectorSurfaceDerivatives, Refusal>
         ensures { result ≡ from_list vector_surfaces order list.now }
     {
-        let a = lists::surface(order, list)?;
-        jets::finite_list(list)?;
-        Ok(a)
+        jets::from_list(order, list)
     }
 
     pub fn into_list(self, out: &mut [f64]) -> Result<(), Refusal>
         ensures { ◌≡◌ {A = Result ⊤ Refusal × List Float} (result, out.new) (into_list vector_surfaces self out.old) }
     {
-        jets::fits(self.order, out.len(), count(self.order))?;
-        jets::one(&self)?;
-        write(&self, out);
-        Ok(())
+        jets::into_list(&self, out)
     }
 
     pub fn derivative_u(self) -> Result<VectorSurfaceDerivatives, Refusal>
         ensures { result ≡ differentiated vector_surfaces derivative_u self }
     {
-        derivative(By::U, self)
+        let n = jets::less(&self)?;
+        Ok(VectorSurfaceDerivatives {
+            order: n,
+            entries: vector_formulas::derivative_u(&self.entries, n),
+        })
     }
 
     pub fn derivative_v(self) -> Result<VectorSurfaceDerivatives, Refusal>
         ensures { result ≡ differentiated vector_surfaces derivative_v self }
     {
-        derivative(By::V, self)
+        let n = jets::less(&self)?;
+        Ok(VectorSurfaceDerivatives {
+            order: n,
+            entries: vector_formulas::derivative_v(&self.entries, n),
+        })
     }
 
     pub fn sum(self, other: VectorSurfaceDerivatives) -> Result<VectorSurfaceDerivatives, Refusal>

@@ -1,6 +1,5 @@
 -- The definitions at some values, computed, and a small input for each refusal. Assumes nothing.
-use mathlib.Core.Path.{◌≡◌, refl}
-use mathlib.Core.Bool.{true, false}
+use Rattle.std.proofs.Common.{◌≡◌, refl, true, false}
 use lib.Ieee
 use lib.Ieee.{nan, inf, binary64, of_bits, add, sub, mul, div, eq}
 use Rattle.ieee.specs.SquareRoot.{square_root}

@@ -4,6 +4,7 @@
 
 ghost use Rattle.std.specs.Prelude.{◌≡◌, ◌&&◌};
 ghost use Rattle.std.specs.Float.Ieee.Scale.{finite};
+ghost use Rattle.refusals.specs.declared.Refusal.TheVariants.{ZeroDeterminant};
 ghost use Rattle.ieee_vectors.specs.Vectors.{sum, difference, multiple, dot, cross, magnitude};
 ghost use Rattle.ieee_vectors.specs.Matrices.{determinant2, determinant3, image2, image3};
 ghost use Rattle.ieee_vectors.specs.Finite.{finite_vector2, finite_vector, finite_matrix2, finite_matrix3};
@@ -43,6 +44,13 @@ fn divided<T: Finite>(inputs: bool, d: f64, r: Refusal, y: T) -> Result<T, Refus
         return Err(r);
     }
     returned(y)
+}
+
+// The inverse y of the matrix m, whose determinant is d.
+fn inverted<M: Finite>(m: M, d: f64, y: M) -> Result<M, Refusal>
+    ensures { result ≡ divided_from M.finite (M.finite m) d ZeroDeterminant y }
+{
+    divided(m.is_finite(), d, Refusal::ZeroDeterminant, y)
 }
 
 // The root, or a refusal.
@@ -122,21 +130,11 @@ pub fn matrix3_image(m: Matrix3, v: Vector3) -> Result<Vector3, Refusal>
 pub fn matrix2_inverse(m: Matrix2) -> Result<Matrix2, Refusal>
     ensures { result ≡ inverse_answer2 m }
 {
-    divided(
-        m.is_finite(),
-        m.determinant(),
-        Refusal::ZeroDeterminant,
-        m.unchecked_inverse(),
-    )
+    inverted(m, m.determinant(), m.unchecked_inverse())
 }
 
 pub fn matrix3_inverse(m: Matrix3) -> Result<Matrix3, Refusal>
     ensures { result ≡ inverse_answer3 m }
 {
-    divided(
-        m.is_finite(),
-        m.determinant(),
-        Refusal::ZeroDeterminant,
-        m.unchecked_inverse(),
-    )
+    inverted(m, m.determinant(), m.unchecked_inverse())
 }

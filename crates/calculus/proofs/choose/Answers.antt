@@ -1,6 +1,5 @@
 -- `calculus::choose` meets its contract: the table is Pascal's triangle, row by row. Assumes nothing.
-use Rattle.std.proofs.Common.{ℕ, List, ◌+◌, ap, sym, ◌∙◌, get_or}
-use borrow.Author.Tests.{le-ltb}
+use Rattle.std.proofs.Common.{ℕ, List, ◌+◌, ap, sym, ◌∙◌, get_or, le-ltb}
 use Rattle.calculus.specs.Graded.{triangle}
 use Rattle.calculus.proofs.Binom.{binom-above}
 use Rattle.calculus.proofs.LoopPascal.{sums, pascal, whole-table, binomial-at}

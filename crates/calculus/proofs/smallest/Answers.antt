@@ -1,4 +1,4 @@
-use Rattle.std.proofs.Common.{ap, sym, ◌∙◌, ◌≤◌, min, rules, arith}
+use Rattle.std.proofs.Common.{rules, arith}
 use Rattle.calculus.proofs.LoopOrders.{smallest-at, smallest-none, smallest_up_to_20}
 use Rattle.calculus.proofs.smallest.Goals as goal
 

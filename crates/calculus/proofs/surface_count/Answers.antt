@@ -1,6 +1,5 @@
 -- `calculus::surface_count` meets its contract: each arm returns what the test picks. Assumes nothing.
-use native.Mathlib.Omega.{arith}
-use borrow.Author.Tests.{lt-ltb, le-ltb}
+use Rattle.std.proofs.Common.{arith, lt-ltb, le-ltb}
 use Rattle.calculus.proofs.Graded.{count-is, count_fits}
 use Rattle.calculus.proofs.surface_count.Goals as goal
 

@@ -1,10 +1,9 @@
--- `formulas::derivative_v` meets its contract. Assumes nothing.
-use Rattle.std.proofs.Common.{ℕ, Float, ap₂, ◌∙◌}
-use Rattle.calculus.specs.Array.{surface_array}
+-- `formulas::derivative_v` meets its contract: no entry is read past the array's end. Assumes nothing.
+use Rattle.std.proofs.Common.{◌∙◌, min, arith}
+use Rattle.std.specs.Float.{nan}
 use Rattle.ieee_vectors.specs.Vectors.{positive_zero}
-use Rattle.formulas.specs.Numbers.{surface_numbers}
-use Rattle.calculus.proofs.LoopShifts.{v-entries}
+use Rattle.calculus.proofs.LoopBlanks.{v-blanks}
 use Rattle.formulas.proofs.derivative_v.Goals as goal
 
 pub returns : goal.returns
-returns c = c.shifted.ensures ∙ ap₂ (λ (g : ℕ → ℕ → Float) (k : ℕ). surface_array positive_zero g k) (v-entries (surface_numbers c.args.a.now)) c.min.ensures
+returns c = c.derivative_v.ensures ∙ v-blanks positive_zero positive_zero nan c.args.a.now (min c.args.n 19) (omega arith) (omega arith)

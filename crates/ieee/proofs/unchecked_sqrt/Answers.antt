@@ -1,5 +1,5 @@
 -- `unchecked_sqrt` meets its contract, case by case. Assumes nothing.
-use mathlib.Core.Path.{sym, ◌∙◌}
+use Rattle.std.proofs.Common.{sym, ◌∙◌}
 use Rattle.ieee.proofs.Cases.{is_positive, at-infinity, at_zero, below-zero}
 use Rattle.ieee.proofs.unchecked_sqrt.Goals as goal
 

@@ -1,7 +1,5 @@
 -- `axis_angle` meets its contract: either arm answers what the test picks. Assumes nothing.
-use native.Mathlib.Omega.{arith}
-use Prim.Native.Nat.{◌≤◌}
-use mathlib.Core.Path.{sym, ap, ◌∙◌}
+use Rattle.std.proofs.Common.{arith, ◌≤◌, sym, ap, ◌∙◌}
 use Rattle.formulas.specs.Numbers.{curve_numbers}
 use Rattle.partials.specs.AxisAngle.{axis_angle}
 use Rattle.partials.proofs.Turning.{refused, answered}

@@ -1,13 +1,14 @@
-use Rattle.std.proofs.Common.{◌∙◌, ap₂, refl, sym, rules}
-use Rattle.parts_text.specs.Reading.{fed, step}
-use Rattle.parts_text.proofs.Fed.{fed-more}
+-- `parts_text::feed` meets its contract. Assumes nothing.
+use Rattle.std.proofs.Common.{◌∙◌, sym, rules}
+use Rattle.std.proofs.lemmas.Iterator.{YieldsList-from_slice}
+use Rattle.std.proofs.lemmas.Iterator.Consumers.{fold_from_yields_List}
+use Rattle.parts_text.specs.Printed.{kind}
+use Rattle.parts_text.specs.Reading.{step}
+use Rattle.parts_text.proofs.Fed.{fed_fold}
 use Rattle.parts_text.proofs.feed.Goals as goal
 
-pub loop-b-init : goal.loop-b-init
-unfolding fed
-loop-b-init c = refl
-
-pub loop-b-preserved : goal.loop-b-preserved
-loop-b-preserved c =
-    let l = c.loop-b in
-    c.step-s.ensures ∙ ap₂ step l.invariant c.kind_of.ensures ∙ sym (fed-more c.args.state c.args.bytes.now l.b-index (search rules))
+pub returns : goal.returns
+returns c =
+    let a = c.args in
+    fold_from_yields_List _ (λ s b. step s (kind b)) a.state _ c.fold.ensures.ran (YieldsList-from_slice a.bytes.now cc) (λ s b t f k. search rules)
+    ∙ sym (fed_fold a.state a.bytes.now)

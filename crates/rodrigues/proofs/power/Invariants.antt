@@ -3,5 +3,5 @@ use Rattle.std.proofs.Common.{◌≡◌}
 use Rattle.rodrigues.specs.Circle.{power}
 use Rattle.rodrigues.proofs.power.Given as goal
 
-abbrev pub invariant-loop-i : goal.invariant-loop-i
-invariant-loop-i l = l.p ≡ power l.x l.i
+abbrev pub invariant-loop : goal.invariant-loop
+invariant-loop l = l.p ≡ power l.x l.counter

@@ -1,7 +1,5 @@
 -- `next_normal` meets its contract, call by call. Assumes nothing.
-use mathlib.Core.Path.{ap, ap₂, ◌∙◌}
-use mathlib.Core.List.{List}
-use lib.Ieee.{Float}
+use Rattle.std.proofs.Common.{ap, ap₂, ◌∙◌, List, Float}
 use Rattle.ieee_vectors.specs.Vectors.{quotient}
 use Rattle.calculus.specs.Rational.{rational}
 use Rattle.formulas.specs.Numbers.{curve_numbers}

@@ -1,6 +1,5 @@
 -- `vector_formulas::store` meets its contract. Assumes nothing.
-use Rattle.std.proofs.Common.{sym, ◌∙◌, ◌+◌, ◌*◌, arith, length, Bool, cond, ap}
-use borrow.Author.Tests.{le-ltb}
+use Rattle.std.proofs.Common.{sym, ◌∙◌, ◌+◌, ◌*◌, arith, length, Bool, cond, ap, le-ltb}
 use Rattle.vector_formulas.specs.Vector.{put}
 use Rattle.vector_formulas.proofs.Vectors.{stored-put}
 use Rattle.vector_formulas.proofs.store.Goals as goal

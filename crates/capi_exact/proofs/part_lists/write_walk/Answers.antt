@@ -1,8 +1,7 @@
 -- `capi_exact::part_lists::write_walk` meets its contract. Assumes nothing.
-use Rattle.std.proofs.Common.{Bool, true, false, cond, ◌≡◌, List, [], ◌∷◌, ◌++◌, ℕ, ◌-◌, length, set, take, drop, refl, ap, ◌∙◌, arith, length-drop, rules}
+use Rattle.std.proofs.Common.{Bool, true, false, cond, ◌≡◌, List, [], ◌∷◌, ◌++◌, ℕ, ◌-◌, length, set, take, drop, refl, ap, ◌∙◌, arith, length-drop, rules, append-nil}
 use Rattle.std.proofs.Math.ListN.{drop_of_length-le}
 use Rattle.std.specs.Int.{from_bool}
-use mathlib.Core.List.{append-nil}
 use Rattle.calculus.proofs.LoopWriting.{Writing, writing_begins, writing-goes-on}
 use Rattle.capi_exact.specs.PartLists.{walk_numbers}
 use Rattle.capi_exact.proofs.part_lists.write_walk.Goals as goal

@@ -1,5 +1,5 @@
--- `capi_roads::recipe_steps::read_steps` meets its contract. Assumes nothing.
-use Rattle.std.specs.Prelude.{List, ◌≡◌, ℕ, ◌/◌, min, length}
+-- `capi_roads::recipe_steps::read_steps` meets its contract. The invariant: the steps passed are stored, and the iterator has the rest. Assumes nothing.
+use Rattle.std.specs.Prelude.{List, ◌≡◌, ℕ, ◌+◌, ◌*◌, ◌≤◌, length, drop}
 use Rattle.calculus.proofs.LoopFilling.{CurveStored}
 use Rattle.roads.specs.declared.Step.{Step}
 use Rattle.capi_roads.specs.Recipes.{step_at, blank_step}
@@ -10,4 +10,8 @@ abbrev pub Entry : List ℕ → ℕ → Step → Type 0
 Entry steps k v = v ≡ step_at steps k
 
 abbrev pub invariant-loop-i : goal.invariant-loop-i
-invariant-loop-i l = (l.count ≡ min (length l.steps / 3) 12) × CurveStored 12 blank_step blank_step (Entry l.steps) l.i l.program
+invariant-loop-i l =
+    let left = l.i-iterator in
+    let done = left.count in
+    (left.iter.n + done ≡ 12) × (3 * done ≤ length l.steps) × (left.iter.iter.size ≡ 3) × (left.iter.iter.rest.now ≡ drop (3 * done) l.steps)
+    × CurveStored 12 blank_step blank_step (Entry l.steps) done l.program

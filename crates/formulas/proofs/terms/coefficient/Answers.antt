@@ -1,6 +1,6 @@
 -- `formulas::terms::coefficient` meets its contract: a product of two coefficients whose orders total at most 20 fits 32 bits. Assumes nothing.
 use Rattle.std.proofs.Common.{◌*◌, ap, ap₂, arith}
-use Rattle.calculus.proofs.LoopTerms.{small_product}
+use Rattle.calculus.proofs.LoopTable.{small_product}
 use Rattle.formulas.specs.Real.{real}
 use Rattle.formulas.proofs.Coefficients.{chosen}
 use Rattle.formulas.proofs.terms.coefficient.Goals as goal

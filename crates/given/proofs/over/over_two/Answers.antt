@@ -5,16 +5,16 @@ use Rattle.given.specs.Given.{first}
 use Rattle.given.proofs.Admission.{both, two-refused, two-worked, answered-0, refused-not_0}
 use Rattle.given.proofs.over.over_two.Goals as goal
 
-pub returns-in_err-tested : goal.returns-in_err-tested
-returns-in_err-tested g c op h =
+pub returns-in_err-tested-clause-value : goal.returns-in_err-tested-clause-value
+returns-in_err-tested-clause-value g c op h =
     let a = c.args in
     let O = g.C.Lent.output in
     let t = c.first-tested.ensures ∙ ap₂ first c.test-2.ensures (c.first-rest.ensures ∙ ap₂ first c.test.ensures (c.due.ensures ∙ ap (λ (k : ℕ). O.test k (length a.out.now)) c.smaller-k.ensures)) in
     let e : c.from_residual.result ≡ c.first-tested.result = search rules in
     two-refused g.A.Listed.input g.B.Listed.input O op a.m a.a.now a.n a.b.now a.out.now (ap number_of e ∙ t) (λ z. refused-not_0 c.in_err-tested.was (ap number_of (sym e) ∙ z))
 
-pub returns : goal.returns
-returns g c op h =
+pub returns-clause-value : goal.returns-clause-value
+returns-clause-value g c op h =
     let a = c.args in
     let O = g.C.Lent.output in
     let t = c.first-tested.ensures ∙ ap₂ first c.test-2.ensures (c.first-rest.ensures ∙ ap₂ first c.test.ensures (c.due.ensures ∙ ap (λ (k : ℕ). O.test k (length a.out.now)) c.smaller-k.ensures)) in

@@ -5,15 +5,15 @@ use Rattle.given.specs.Given.{first}
 use Rattle.given.proofs.Admission.{both, two-refused-at, two-worked-at, answered-0, refused-not_0}
 use Rattle.given.proofs.over.over_two_at.Goals as goal
 
-pub returns-in_err-tested : goal.returns-in_err-tested
-returns-in_err-tested g c op h =
+pub returns-in_err-tested-clause-value : goal.returns-in_err-tested-clause-value
+returns-in_err-tested-clause-value g c op h =
     let a = c.args in
     let t = c.first-tested.ensures ∙ ap₂ first c.test-2.ensures (c.first-rest.ensures ∙ ap₂ first c.test.ensures (c.first-last.ensures ∙ ap₂ first c.order.ensures c.due.ensures)) in
     let e : c.from_residual.result ≡ c.first-tested.result = search rules in
     two-refused-at g.A.Listed.input g.B.Listed.input g.C.Lent.output op a.m a.a.now a.n a.b.now a.out.now a.k (ap number_of e ∙ t) (λ z. refused-not_0 c.in_err-tested.was (ap number_of (sym e) ∙ z))
 
-pub returns : goal.returns
-returns g c op h =
+pub returns-clause-value : goal.returns-clause-value
+returns-clause-value g c op h =
     let a = c.args in
     let t = c.first-tested.ensures ∙ ap₂ first c.test-2.ensures (c.first-rest.ensures ∙ ap₂ first c.test.ensures (c.first-last.ensures ∙ ap₂ first c.order.ensures c.due.ensures)) in
     two-worked-at g.A.Listed.input g.B.Listed.input g.C.Lent.output op a.m a.a.now a.n a.b.now a.out.now a.k t (answered-0 c.in_ok-tested.was) c.read.ensures c.read-2.ensures (h c.read.result c.read-2.result c.work.result c.work.ensures) (both c.write.ensures.number c.write.ensures.list)

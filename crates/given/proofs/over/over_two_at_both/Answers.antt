@@ -1,19 +1,17 @@
 -- `given::over_two_at_both` meets its contract. Assumes nothing.
-use Rattle.std.proofs.Common.{◌≡◌, ◌+◌, ap, ap₂, sym, ◌∙◌, rules}
+use Rattle.std.proofs.Common.{◌≡◌, ◌+◌, ℕ, ap, sym, ◌∙◌}
 use Rattle.refusals.specs.Number.{number_of}
-use Rattle.given.specs.Given.{first}
-use Rattle.given.proofs.Admission.{both, two-refused-at, two-worked-at, answered-0, refused-not_0}
+use Rattle.given.proofs.Admission.{pair, given-sum, over-sum}
 use Rattle.given.proofs.over.over_two_at_both.Goals as goal
 
-pub returns-in_err-tested : goal.returns-in_err-tested
-returns-in_err-tested g c op h =
+pub returns-clause-tested : goal.returns-clause-tested
+returns-clause-tested g c h =
     let a = c.args in
-    let t = c.first-tested.ensures ∙ ap₂ first c.test-2.ensures (c.first-rest.ensures ∙ ap₂ first c.test.ensures (c.due_at_both-last.ensures)) in
-    let e : c.from_residual.result ≡ c.first-tested.result = search rules in
-    two-refused-at g.A.Listed.input g.B.Listed.input g.C.Lent.output op a.m a.a.now a.n a.b.now a.out.now (a.i + a.j) (ap number_of e ∙ t) (λ z. refused-not_0 c.in_err-tested.was (ap number_of (sym e) ∙ z))
+    let e = given-sum g.A.Listed.input g.B.Listed.input g.C.Lent.output (a.i + a.j) a.m a.a.now a.n a.b.now a.out.now c.saturating_add.ensures in
+    c.over_two_at.ensures.tested (λ z. h (sym e ∙ z)) ∙ ap (λ (t : ℕ). pair t a.out.now) e
 
-pub returns : goal.returns
-returns g c op h =
+pub returns-clause-value : goal.returns-clause-value
+returns-clause-value g c op h =
     let a = c.args in
-    let t = c.first-tested.ensures ∙ ap₂ first c.test-2.ensures (c.first-rest.ensures ∙ ap₂ first c.test.ensures (c.due_at_both-last.ensures)) in
-    two-worked-at g.A.Listed.input g.B.Listed.input g.C.Lent.output op a.m a.a.now a.n a.b.now a.out.now (a.i + a.j) t (answered-0 c.in_ok-tested.was) c.read.ensures c.read-2.ensures (h c.read.result c.read-2.result c.work.result c.work.ensures) (both c.write.ensures.number c.write.ensures.list)
+    c.over_two_at.ensures.value op h
+    ∙ over-sum g.A.Listed.input g.B.Listed.input g.C.Lent.output (a.i + a.j) a.m a.a.now a.n a.b.now a.out.now c.saturating_add.ensures op

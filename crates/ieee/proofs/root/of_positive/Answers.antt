@@ -1,9 +1,5 @@
 -- `root::of_positive` meets its contract: the fields of the bits give the float as a count of the smallest values. Assumes nothing.
-use mathlib.Core.Path.{◌≡◌, sym, ◌∙◌, subst}
-use mathlib.Core.Bool.{true, false}
-use Prim.Native.Nat.{◌+◌, ◌-◌, ◌*◌, ◌/◌, ◌%◌, ◌^◌}
-use native.Mathlib.Omega.{arith}
-use lib.Dec.{T}
+use Rattle.std.proofs.Common.{◌≡◌, sym, ◌∙◌, subst, true, false, ◌+◌, ◌-◌, ◌*◌, ◌/◌, ◌%◌, ◌^◌, arith, T}
 use lib.Ieee.{Float, binary64, fits, to_bits}
 use lib.Ieee.Positive.{positive}
 use Rattle.ieee.proofs.Fields.{Read, read, root-at, no_nan}

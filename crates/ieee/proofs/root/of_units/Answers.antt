@@ -1,7 +1,5 @@
 -- `root::of_units` meets its contract: the bits that it puts together are those of the defined root. Assumes nothing.
-use mathlib.Core.Path.{◌≡◌, sym, ap, ◌∙◌, subst}
-use Prim.Native.Nat.{ℕ, ◌+◌, ◌*◌, ◌%◌, ◌^◌, ◌≤◌, ◌<◌}
-use native.Mathlib.Omega.{arith}
+use Rattle.std.proofs.Common.{◌≡◌, sym, ap, ◌∙◌, subst, ℕ, ◌+◌, ◌*◌, ◌%◌, ◌^◌, ◌≤◌, ◌<◌, arith}
 use lib.Count.{count_leading_zeros, leading_le}
 use lib.Ieee.{binary64, of_bits}
 use Rattle.ieee.proofs.Scaled.{Place, place, dropped, shift, shift-room, shift-high}

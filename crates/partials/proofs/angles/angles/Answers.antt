@@ -8,9 +8,7 @@ use Rattle.calculus.proofs.Same.{filled-same}
 use Rattle.calculus.specs.Array.{curve_array}
 use Rattle.calculus.proofs.LoopCut.{uncut}
 use Rattle.partials.proofs.Turning.{turns-upto, angles-upto}
-use native.Mathlib.Omega.{arith}
-use Prim.Native.Nat.{suc, ◌≤◌}
-use mathlib.Core.Path.{refl, ◌∙◌}
+use Rattle.std.proofs.Common.{arith, suc, ◌≤◌, refl, ◌∙◌}
 use Rattle.partials.proofs.angles.angles.Goals as goal
 
 pub returns : goal.returns

@@ -2,9 +2,7 @@ use Rattle.formulas.proofs.Curves.{numbers-none, numbers_more, numbers-all}
 use Rattle.formulas.specs.Numbers.{curve_numbers}
 use Rattle.partials.specs.AxisAngle.{rates}
 use Rattle.partials.proofs.Turning.{rate-formed}
-use native.Mathlib.Omega.{arith}
-use Prim.Native.Nat.{suc}
-use mathlib.Core.Path.{sym, ◌∙◌}
+use Rattle.std.proofs.Common.{arith, suc, sym, ◌∙◌}
 use Rattle.partials.proofs.angles.rates.Goals as goal
 
 pub loop-m-init : goal.loop-m-init
@@ -15,7 +13,7 @@ loop-m-preserved c =
     let s = c.args in
     let l = c.loop-m in
     let f = rates (curve_numbers s.r.now) in
-    numbers_more f c.rate-e.result l.invariant (omega arith) (rate-formed (curve_numbers s.r.now) l.invariant (omega arith) ∙ sym c.rate-e.ensures)
+    numbers_more f c.rate.result l.invariant (omega arith) (rate-formed (curve_numbers s.r.now) l.invariant (omega arith) ∙ sym c.rate.ensures)
 
 pub returns : goal.returns
 returns c =

@@ -2,8 +2,7 @@ use Rattle.formulas.proofs.Curves.{numbers-none, numbers_more, numbers-all}
 use Rattle.formulas.specs.Numbers.{curve_numbers}
 use Rattle.partials.specs.AxisAngle.{turns}
 use Rattle.partials.proofs.Turning.{turn-formed}
-use native.Mathlib.Omega.{arith}
-use mathlib.Core.Path.{sym, ◌∙◌}
+use Rattle.std.proofs.Common.{arith, sym, ◌∙◌}
 use Rattle.partials.proofs.angles.turns.Goals as goal
 
 pub loop-m-init : goal.loop-m-init
@@ -18,7 +17,7 @@ loop-m-preserved c =
     let rate = curve_numbers s.rate.now in
     let dot = curve_numbers s.dot.now in
     let length = curve_numbers s.length.now in
-    numbers_more (turns rate dot length) c.turn-e.result l.invariant (omega arith) (turn-formed rate dot length l.invariant (omega arith) ∙ sym c.turn-e.ensures)
+    numbers_more (turns rate dot length) c.turn.result l.invariant (omega arith) (turn-formed rate dot length l.invariant (omega arith) ∙ sym c.turn.ensures)
 
 pub returns : goal.returns
 returns c =

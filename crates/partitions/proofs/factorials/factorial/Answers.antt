@@ -1,20 +1,11 @@
 -- `partitions::factorials::factorial` meets its contract: its 21 cases by one argument, and no number up to 20 is left to the last. Assumes nothing.
-use Rattle.std.proofs.Common.{◌≡◌, refl, sym, ap, ◌∙◌, ℕ, zero, suc, ◌≤◌, arith}
+use Rattle.std.proofs.Common.{◌≡◌, refl, sym, ap, ◌∙◌, ℕ}
 use Rattle.partitions.specs.Parts.{fact}
 use Rattle.partitions.proofs.factorials.factorial.Goals as goal
 
 -- the argument: the number x that the case k has is k!, which is computed where this is cited, and n is k
 is-fact : {x k n : ℕ} → x ≡ fact k → n ≡ k → x ≡ fact n
 is-fact computed e = computed ∙ ap fact (sym e)
-
--- n is none of 0, 1, .., k - 1
-abbrev NoneBelow : ℕ → ℕ → Type 0
-NoneBelow zero n = Unit {0}
-NoneBelow (suc k) n = NoneBelow k n × (n ≡ k → ⊥)
-
-past : (k n : ℕ) → NoneBelow k n → k ≤ n
-past zero n h = omega arith
-past (suc k) n h = let below = past k n h.0 in omega (arith, h.1)
 
 pub returns-in-0 : goal.returns-in-0
 unfolding fact
@@ -99,6 +90,3 @@ returns-in-19 c = is-fact refl c.in-19.is
 pub returns-in-20 : goal.returns-in-20
 unfolding fact
 returns-in-20 c = is-fact refl c.in-20.is
-
-pub returns-in_default : goal.returns-in_default
-returns-in_default c = absurd (let above = past 21 c.args.n c.in_default.in_default-own.rest in omega arith)

@@ -1,12 +1,10 @@
-use Rattle.std.proofs.Common.{arith, rules}
-use Rattle.partitions.proofs.Slices.{total-at, nothing-past}
+-- `partitions::inner::total` meets its contract. Assumes nothing.
+use Rattle.std.proofs.Common.{◌≡◌, ◌∙◌, ◌+◌, lit<, min, rules}
+use Rattle.std.specs.List.{fold}
+use Rattle.partitions.proofs.Slices.{kept}
 use Rattle.partitions.proofs.inner.total.Goals as goal
 
-pub returns-then-sum-a : goal.returns-then-sum-a
-returns-then-sum-a c = omega (arith, total-at c.args.list.now c.loop-a.a-index (search rules))
-
-pub loop-a-preserved : goal.loop-a-preserved
-loop-a-preserved c = let e = total-at c.args.list.now c.loop-a.a-index (search rules) in (omega arith, omega arith)
-
 pub returns : goal.returns
-returns c = omega (arith, nothing-past c.args.list.now c.loop-a.a-index (search rules))
+returns c =
+    let is : c.fold-sum.result ≡ fold (λ s a. min (s + a) 18446744073709551615) 0 c.args.list.now = search rules in
+    c.then_some.ensures ∙ kept 18446744073709551615 c.args.list.now (lit< tt) is

@@ -1,6 +1,4 @@
-use Rattle.std.specs.Prelude.{ℕ, ◌+◌, drop}
-use mathlib.Core.Path.{sym, ap, ◌∙◌}
-use native.Mathlib.Nat.{add_assoc}
+use Rattle.std.proofs.Common.{ℕ, ◌+◌, drop, sym, ap, ◌∙◌, add_assoc}
 use Rattle.roads.specs.Recipe.{names_earlier}
 use Rattle.roads.proofs.Tests.{names-left, names-right, names-later, names-none}
 use Rattle.roads.proofs.checks.names_earlier.Goals as goal

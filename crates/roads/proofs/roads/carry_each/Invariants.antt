@@ -5,4 +5,4 @@ use Rattle.roads.proofs.Carrying.{Carrying}
 use Rattle.roads.proofs.roads.carry_each.Given as goal
 
 abbrev pub invariant-loop-i : goal.invariant-loop-i
-invariant-loop-i l = Carrying (λ s. along_curve s l.curve l.order) surface_steps.blank l.jets l.count l.curves l.i
+invariant-loop-i l = Carrying (λ s. along_curve s l.curve l.order) surface_steps.blank l.given l.curves l.i

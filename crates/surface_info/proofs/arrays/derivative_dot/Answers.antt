@@ -1,7 +1,5 @@
 -- `surface_info::arrays::derivative_dot` meets its contract: the product reads only what the derivative's array holds. Assumes nothing.
-use native.Mathlib.Omega.{arith}
-use mathlib.Core.Path.{ap, ◌∙◌}
-use Prim.Native.Nat.{◌≤◌}
+use Rattle.std.proofs.Common.{arith, ap, ◌∙◌, ◌≤◌}
 use Rattle.ieee_vectors.specs.Vectors.{dot}
 use Rattle.calculus.specs.Kind.{regular}
 use Rattle.calculus.specs.Curve.{derivative, product_by}

@@ -1,7 +1,5 @@
 -- `surface_info::arrays::dot_difference` meets its contract: the product reads only what the difference's array holds. Assumes nothing.
-use native.Mathlib.Omega.{arith}
-use mathlib.Core.Path.{◌∙◌}
-use Prim.Native.Nat.{◌≤◌, min}
+use Rattle.std.proofs.Common.{arith, ◌∙◌, ◌≤◌, min}
 use Rattle.calculus.specs.Curve.{difference}
 use Rattle.vector_formulas.specs.Vector.{vectors, vector_numbers}
 use Rattle.surface_info.proofs.Entries.{dot-right}

@@ -9,4 +9,4 @@ pub returns : goal.returns
 returns c =
     let a = c.args in
     along-derived a.m c.requires (curve_numbers a.uv.now.u) (curve_numbers a.uv.now.v) (derivative_v (vector_surface_numbers a.s.now))
-    c.derivative_v-d.ensures c.derivative.ensures
+    c.derivative_v-d.ensures c.along.ensures

@@ -1,7 +1,5 @@
 -- `derivative_product` meets its contract: the product reads only what the derivative's array holds. Assumes nothing.
-use native.Mathlib.Omega.{arith}
-use mathlib.Core.Path.{◌∙◌}
-use Prim.Native.Nat.{◌≤◌}
+use Rattle.std.proofs.Common.{arith, ◌∙◌, ◌≤◌}
 use Rattle.calculus.specs.Array.{curve_array}
 use Rattle.calculus.specs.Curve.{derivative, product}
 use Rattle.ieee_vectors.specs.Vectors.{positive_zero}

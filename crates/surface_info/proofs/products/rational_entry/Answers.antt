@@ -1,8 +1,5 @@
 -- `rational_entry` meets its contract: the entry that the array holds. Assumes nothing.
-use native.Mathlib.Omega.{arith}
-use mathlib.Core.Path.{◌∙◌}
-use Prim.Native.Nat.{◌≤◌}
-use native.Mathlib.Nat.{le_refl}
+use Rattle.std.proofs.Common.{arith, ◌∙◌, ◌≤◌, le_refl}
 use Rattle.ieee_vectors.specs.Vectors.{quotient}
 use Rattle.calculus.specs.Rational.{rational}
 use Rattle.formulas.specs.Numbers.{curve_numbers}

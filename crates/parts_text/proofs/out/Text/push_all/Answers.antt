@@ -1,6 +1,7 @@
 use Rattle.std.proofs.Common.{◌∙◌, ap, sym, take, get_or, rules}
+use Rattle.std.proofs.lemmas.List.{take_more}
 use Rattle.parts_text.specs.Inner.{puts}
-use Rattle.parts_text.proofs.Puts.{puts_none, after_byte, take_more}
+use Rattle.parts_text.proofs.Puts.{puts_none, after_byte}
 use Rattle.parts_text.proofs.out.Text.push_all.Goals as goal
 
 pub loop-b-init : goal.loop-b-init
@@ -11,4 +12,4 @@ loop-b-preserved c =
     let l = c.loop-b in
     let a = c.args in
     after_byte a.self.now (take l.b-index a.bytes.now) (get_or a.bytes.now l.b-index 0) l.invariant c.push.ensures
-    ∙ ap (puts a.self.now) (sym (take_more a.bytes.now l.b-index (search rules)))
+    ∙ ap (puts a.self.now) (sym (take_more a.bytes.now l.b-index 0 (search rules)))

@@ -2,5 +2,5 @@
 use Rattle.std.proofs.Common.{◌≤◌, length}
 use Rattle.replay_text.proofs.calls.Lists.next.Given as goal
 
-abbrev pub invariant-loop-i : goal.invariant-loop-i
-invariant-loop-i g l = l.at ≤ length l.places
+abbrev pub invariant-loop-end : goal.invariant-loop-end
+invariant-loop-end g l = l.at ≤ length l.places

@@ -13,4 +13,4 @@ or_none (Ok a) = refl
 or_none (Err c) = refl
 
 pub returns : goal.returns
-returns c = c.unwrap_or.ensures ∙ or_none c.surface.result ∙ ap (jet_of vector_surfaces) c.surface.ensures
+returns c = c.unwrap_or.ensures ∙ or_none c.of_list.result ∙ ap (jet_of vector_surfaces) c.of_list.ensures

@@ -1,9 +1,0 @@
--- A curve's entries are written: they are copied. Assumes nothing.
-use Rattle.std.proofs.Common.{suc, arith, add-one}
-use Rattle.derivatives.proofs.Listed.{listed-take}
-use Rattle.derivatives.proofs.curve.write.Goals as goal
-
-pub returns : goal.returns
-returns c =
-    let s = c.args.a.now in
-    rw (c.copy_from_slice.ensures.after, add-one s.order) (listed-take (suc s.order) s.entries (omega arith))

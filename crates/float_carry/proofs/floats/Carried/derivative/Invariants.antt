@@ -1,0 +1,10 @@
+-- `float_carry::floats::Carried::derivative` meets its contract. The invariant: the total is that of the lens passed. Assumes nothing.
+use Rattle.std.proofs.Common.{◌≡◌, ◌-◌}
+use Rattle.calculus.specs.Kind.{regular}
+use Rattle.formulas.specs.Real.{real}
+use Rattle.formulas.specs.Numbers.{surface_numbers}
+use Rattle.float_carry.proofs.Carries.{through}
+use Rattle.float_carry.proofs.floats.Carried.derivative.Given as goal
+
+abbrev pub invariant-loop-len : goal.invariant-loop-len
+invariant-loop-len l = l.total ≡ through (regular real) (surface_numbers l.self.entries.now) l.self.u.now l.self.v.now l.n (l.len - 1)

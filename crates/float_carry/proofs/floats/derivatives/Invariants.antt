@@ -1,7 +1,0 @@
--- `float_carry::floats::derivatives` meets its contract. The invariant: the entries passed stand in the array. Assumes nothing.
-use Rattle.formulas.proofs.Curves.{CurveFilled}
-use Rattle.float_carry.proofs.Carries.{carried_jet}
-use Rattle.float_carry.proofs.floats.derivatives.Given as goal
-
-abbrev pub invariant-loop-m : goal.invariant-loop-m
-invariant-loop-m l = CurveFilled (carried_jet l.entries l.u l.v) l.m l.r

@@ -1,8 +1,0 @@
--- `float_carry::vectors::derivative` meets its contract. The invariant: the total is that of the lens passed. Assumes nothing.
-use Rattle.std.proofs.Common.{◌≡◌, ◌-◌}
-use Rattle.vector_formulas.specs.Vector.{vectors, vector_surface_numbers}
-use Rattle.float_carry.proofs.Carries.{through}
-use Rattle.float_carry.proofs.vectors.derivative.Given as goal
-
-abbrev pub invariant-loop-len : goal.invariant-loop-len
-invariant-loop-len l = l.total ≡ through vectors (vector_surface_numbers l.entries) l.u l.v l.n (l.len - 1)
