@@ -137,9 +137,9 @@ static const struct {
 } families[] = {
     {"whole numbers", whole_numbers, 4000, 4000},
     {"part lists", part_lists, 4000, 4000},
-    {"exact jets", exact_jets, 24000, 32000},
-    {"recipes", recipes, 92000, 102000},
-    {"roads", roads, 92000, 102000},
+    {"exact jets", exact_jets, 24000, 24000},
+    {"recipes", recipes, 92000, 120000},
+    {"roads", roads, 92000, 120000},
     {"single floats, vectors, matrices", single_values, 4000, 4000},
     {"jets of floats, curves", float_curves, 22000, 26000},
     {"jets of floats, surfaces", float_surfaces, 22000, 26000},
@@ -147,7 +147,7 @@ static const struct {
     {"jets of vectors, surfaces", vector_surfaces, 70000, 82000},
     {"rotations, circle", rotations, 4000, 4000},
     {"centre and contacts", centre, 120000, 120000},
-    {"axis and angle", axis_and_angle, 20000, 22000},
+    {"axis and angle", axis_and_angle, 20000, 20000},
     {"partials of given jets", partial_of_jets, 20000, 20000},
     {"partials of the fillet", partial_of_the_fillet, 130000, 130000},
 };
