@@ -1,6 +1,6 @@
 -- The multiplicity of a part list: each single division leaves no remainder; and what it needs of the factorials.
 -- Assumes nothing.
-use Rattle.std.proofs.Common.{◌≡◌, refl, sym, ◌∙◌, ap, subst, true, List, [], ◌∷◌, ◌++◌, ℕ, zero, suc, ◌*◌, ◌/◌, ◌%◌, ◌^◌, ◌≤◌, ◌<◌, arith, mul-div_cancel, mul-le-mul, mul_assoc, le_refl, le_trans, div-le_self, lt_of_le_of_lt, lit<, length}
+use Rattle.std.proofs.Common.{◌≡◌, refl, sym, ◌∙◌, ap, subst, true, List, [], ◌∷◌, ◌++◌, ℕ, zero, suc, ◌*◌, ◌/◌, ◌%◌, ◌≤◌, arith, mul-div_cancel, mul-le-mul, mul_assoc, le_refl, le_trans, div-le_self, length}
 use native.Mathlib.Nat.{mul-mod_left}
 use Rattle.partitions.specs.Parts.{total, fact, divide, runs, multiplicity}
 use Rattle.partitions.specs.Count.{is_list}
@@ -16,10 +16,6 @@ unfolding fact
 fact-most zero b h = fact-pos b
 fact-most (suc a) zero h = absurd (omega arith)
 fact-most (suc a) (suc b) h = mul-le-mul h (fact-most a b (omega arith))
-
-pub fact-fits : (n : ℕ) → n ≤ 20 → fact n < 2 ^ 64
-unfolding fact
-fact-fits n h = lt_of_le_of_lt (fact-most n 20 h) (lit< {m = fact 20} {n = 2 ^ 64} tt)
 
 -- ---- n divided by the factorial of each number in turn: each leaves no remainder
 unfoldable pub Exactly : ℕ → List ℕ → Type 0

@@ -1,5 +1,5 @@
 -- What the functions over a slice of parts use: sums, and a test, the divisions and the runs one part further. Assumes nothing.
-use Rattle.std.proofs.Common.{◌≡◌, refl, sym, ap, ◌∙◌, true, false, cond, Option, Some, None, List, [], ◌∷◌, ◌⊎◌, inl, inr, ℕ, suc, ◌+◌, ◌-◌, ◌*◌, ◌/◌, ◌≤◌, ◌<◌, mul_comm, add-one, min, arith, eqb, ltb, leb, length, length-drop, get_or, get_or-take, take, drop, drop_of_length-le, drop-cons, eq-eqb, ne_eqb, lt-ltb, le-ltb}
+use Rattle.std.proofs.Common.{◌≡◌, refl, sym, ap, ◌∙◌, true, false, cond, Option, Some, None, List, [], ◌∷◌, ◌⊎◌, inl, inr, ℕ, suc, ◌+◌, ◌-◌, ◌/◌, ◌≤◌, ◌<◌, add-one, min, arith, eqb, ltb, leb, length, length-drop, get_or, get_or-take, take, drop, drop_of_length-le, drop-cons, eq-eqb, ne_eqb, lt-ltb, le-ltb}
 use Rattle.std.specs.List.{sum, fold}
 use Rattle.std.specs.Bool.{then_some}
 use Rattle.partitions.proofs.Tests.{by-leb}
@@ -113,7 +113,3 @@ divide-one x k = refl
 pub divide-past : (x : ℕ) (l : List ℕ) (i : ℕ) → length l ≤ i → divide x (drop i l) ≡ x
 unfolding divide
 divide-past x l i h = ap (divide x) (drop_of_length-le l h)
-
-pub fact-next : (i : ℕ) → fact i * (i + 1) ≡ fact (i + 1)
-unfolding fact
-fact-next i = rw add-one (mul_comm (fact i) (suc i))

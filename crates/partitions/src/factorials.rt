@@ -2,6 +2,7 @@
 ghost use Rattle.std.specs.Prelude.{◌≡◌, ◌≤◌};
 ghost use Rattle.partitions.specs.Parts.{fact};
 
+#[tactic(auto, unfolding(crate::specs::Parts::fact))]
 pub fn factorial(n: usize) -> u64
     requires { n ≤ 20 }
     ensures { result ≡ fact n }
@@ -28,7 +29,7 @@ pub fn factorial(n: usize) -> u64
         18 => 6402373705728000,
         19 => 121645100408832000,
         20 => 2432902008176640000,
-        // Never met: n is at most 20, and 21! would be above 64 bits.
-        _ => 1,
+        // n is at most 20: never met.
+        _ => unreachable!(),
     }
 }

@@ -84,18 +84,6 @@ pub fn next(array: &mut [usize]) -> bool
     }
 }
 
-// The product in a loop; what is answered are the cases of `factorials`.
-pub fn factorial(n: usize) -> u64
-    requires { n ≤ 20 }
-    ensures { result ≡ fact n }
-{
-    let mut f: u64 = 1;
-    for i in 0..n {
-        f *= i as u64 + 1;
-    }
-    f
-}
-
 // Divides by the factorial of each part.
 pub fn over_parts(x: u64, list: &[usize]) -> u64
     requires { sum list.now ≤ 20 }
