@@ -31,7 +31,7 @@ BORDER = ARCHIVED
 ARITHMETIC = ["refusals", "calculus", "orders", "exact_formulas", "exact_carry", "ieee", "ieee_vectors", "formulas", "vector_formulas", "vector_surface_formulas", "float_carry",
               "rodrigues", "surface_info", "contacts", "partials"]
 BORDER_PARTS = ["given", "exact_lists", "fillet_lists"]  # what the crates of the border share
-REFUSING_NUMBERS = ["whole", "partitions", "part_counts"]  # entries that arithmetic may stand on: they refuse by what is formed
+REFUSING_NUMBERS = ["whole", "partitions", "part_counts"]  # entries that arithmetic may stand on: they refuse by what is formed, or are asked for their theorems alone
 NO_CODE = ["float_lists", "figures"]
 
 # What the crates of entries expose beside answers, and why it has no number to give.
