@@ -82,6 +82,8 @@ uint8_t sugamdely_multiplicity(const size_t *list, size_t list_len, uint64_t *ou
 uint8_t sugamdely_factorial(size_t n, uint64_t *out, size_t out_len);
 /* The Stirling number of the second kind, len 0 to order: out of 1. Refusal 3 where len is above order. */
 uint8_t sugamdely_stirling_number(size_t order, size_t len, uint64_t *out, size_t out_len);
+/* The multiplicities of all lists of an order and a len, added: out of 1. Read from a table: nothing is walked. Refusal 3 where there is no such list. */
+uint8_t sugamdely_total_multiplicity(size_t order, size_t len, uint64_t *out, size_t out_len);
 
 /* ---- Exact jets of curves: entries are signed 64-bit numbers. Refusal 9, for a quotient 7 and 8 too. */
 

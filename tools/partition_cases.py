@@ -9,6 +9,7 @@ an item is its refusal, whether the walk has ended, and its array. A count is 0 
 4  a list; its multiplicity
 5  a number; its factorial
 6  order, len; the Stirling number of the second kind
+7  order, len; the total of the multiplicities of their lists
 """
 from math import factorial
 
@@ -73,6 +74,11 @@ def stirling_of(order, size):
     if order > 20:
         return [1, 0]
     return [3, 0] if size > order else [0, stirling(order, size)]
+
+
+def total_of(order, size):
+    number = out_of_range(order, size)
+    return [number, 0] if number else [0, sum(map(multiplicity, part_lists(order, size)))]
 
 
 # ---- the cases
@@ -140,6 +146,8 @@ def lines():
         yield cases.sizes(5, n, *factorial_of(n))
     for order, size in [(n, k) for n in range(21) for k in range(n + 1)] + [(20, 21), (0, 1), (21, 1), (21, 22), (TOP, TOP), (5, TOP), (TOP, 0)]:
         yield cases.sizes(6, order, size, *stirling_of(order, size))
+    for order, size in [(n, k) for n in range(23) for k in range(23)] + [(TOP, TOP), (5, TOP), (TOP, 0), (0, TOP)]:
+        yield cases.sizes(7, order, size, *total_of(order, size))
 
 
 def groups():

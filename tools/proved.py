@@ -24,15 +24,15 @@ CALLABLE = re.compile(r"\s*\w+\.IsAlwaysCallable \w+\s*")  # that these may be c
 TEST_TOOLS = "replay_"
 OF_THE_KIT = ["std", "core", "io", "libc"]
 
-ENTRIES = ["whole", "partitions", "exact", "roads", "vectors", "derivatives", "vector_derivatives", "rolling_ball_fillet", "parts_text"]
+ENTRIES = ["whole", "partitions", "part_counts", "exact", "roads", "vectors", "derivatives", "vector_derivatives", "rolling_ball_fillet", "parts_text"]
 ARCHIVED = ["capi_exact", "capi_roads", "capi_floats", "capi_vectors", "capi_fillet", "bench_carry"]
 ARCHIVES = [f"{name}_c" for name in ARCHIVED]  # static libraries that say no more than these, so the page has no list of theirs
 BORDER = ARCHIVED
 ARITHMETIC = ["refusals", "calculus", "orders", "exact_formulas", "exact_carry", "ieee", "ieee_vectors", "formulas", "vector_formulas", "vector_surface_formulas", "float_carry",
               "rodrigues", "surface_info", "contacts", "partials"]
 BORDER_PARTS = ["given", "exact_lists", "fillet_lists"]  # what the crates of the border share
-REFUSING_NUMBERS = ["whole", "partitions"]  # entries that arithmetic may stand on: they refuse by what is formed
-NO_CODE = ["part_counts", "float_lists", "figures"]
+REFUSING_NUMBERS = ["whole", "partitions", "part_counts"]  # entries that arithmetic may stand on: they refuse by what is formed, or are asked for their theorems alone
+NO_CODE = ["float_lists", "figures"]
 
 # What the crates of entries expose beside answers, and why it has no number to give.
 NUMBERLESS = {

@@ -451,6 +451,12 @@ def parts(name):
                 ('order 0', 0, 0, 0, 1), ('order 1', 0, 1, 1, 1), ('order 20', 0, 20, 2, 1), ('1', 1, 21, 2, 1), ('2 lent', 2, 4, 2, 2),
                 ('3 len above', 3, 2, 3, 1), ('1 + 2 lent', 1, 21, 2, 0), ('1 + 3 len above', 1, 21, 22, 1), ('2 lent + 3 len above', 2, 2, 3, 2)]:
             one(label, met, [order, length], [], [[fill] * places])
+    if name == 'total_multiplicity':
+        for label, met, order, length, places in [
+                ('order 1', 0, 1, 1, 1), ('order 20', 0, 20, 2, 1), ('1', 1, 21, 2, 1), ('2 lent', 2, 4, 2, 2), ('2 no place lent', 2, 4, 2, 0), ('3 len 0', 3, 4, 0, 1),
+                ('3 len above', 3, 2, 3, 1), ('3 order 0', 3, 0, 0, 1), ('1 + 2 lent', 1, 21, 2, 0), ('1 + 3 len 0', 1, 21, 0, 1), ('1 + 3 len above', 1, 21, 22, 1),
+                ('2 lent + 3 len 0', 2, 4, 0, 2), ('2 lent + 3 len above', 2, 2, 3, 2)]:
+            one(label, met, [order, length], [], [[fill] * places])
 
 
 # The fillet: cases that are stored are taken as they are, and faults are added to them.

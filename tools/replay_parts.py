@@ -32,9 +32,10 @@ def settled(given):
 
 CASES = [(b"4 2", b"4 3 1\n3 2 2\ntotal 7\n")]
 
-# every pair of some orders
-for order in [1, 2, 3, 4, 5, 6, 10, 20]:
-    CASES += [(b"%d %d\n" % (order, k), text(order, k)) for k in range(1, order + 1)]
+# every pair of orders and lens to 22
+for order in range(23):
+    for k in range(23):
+        CASES.append((b"%d %d\n" % (order, k), refused(1) if order > 20 else text(order, k) if 1 <= k <= order else refused(3)))
 
 # the same pair, spelt otherwise
 for spelt in [b"4 2\n", b"4\n2\n", b"4\r\n2\r\n", b"4\r2", b"  4 2", b"\r\n 4   2  \n\n", b"004 0002", b"0" * 10000 + b"4 2"]:

@@ -433,6 +433,10 @@ pub fn ours(name: &str) -> Option<Work> {
             let (order, len) = (reader.whole(), reader.whole());
             count(|out| ffi::stirling_number(order, len, out))
         }),
+        "total_multiplicity" => numbered(|reader| {
+            let (order, len) = (reader.whole(), reader.whole());
+            count(|out| ffi::total_multiplicity(order, len, out))
+        }),
 
         "curve_sum" => of_two(curves, ffi::curve_sum),
         "curve_difference" => of_two(curves, ffi::curve_difference),

@@ -43,6 +43,7 @@ functions! {
     fn multiplicity(list: &[usize], out: &mut [u64]);
     fn factorial(n: usize, out: &mut [u64]);
     fn stirling_number(order: usize, len: usize, out: &mut [u64]);
+    fn total_multiplicity(order: usize, len: usize, out: &mut [u64]);
 
     // Exact curves.
     fn exact_curve_sum(a_order: usize, a: &[i64], b_order: usize, b: &[i64], out: &mut [i64]);

@@ -77,7 +77,7 @@ pub fn factorial(n: usize) -> Result<u64, Refusal> {
     count(ffi::factorial(n, &mut out), out)
 }
 
-/// The Stirling number of the second kind: the multiplicities of one `len` in total.
+/// The Stirling number of the second kind, `len` 0 included. Refused where `order` is above 20, and where `len` is above it.
 ///
 /// ```
 /// assert_eq!(sugamdely::partitions::stirling_number(20, 2), Ok(524_287));
@@ -85,4 +85,23 @@ pub fn factorial(n: usize) -> Result<u64, Refusal> {
 pub fn stirling_number(order: usize, len: usize) -> Result<u64, Refusal> {
     let mut out = [0];
     count(ffi::stirling_number(order, len, &mut out), out)
+}
+
+/// The multiplicities of all lists of an order and a `len`, added. It is read from a table: nothing is walked. Refused where the walk is: where `order` is
+/// above 20, and where `len` is 0 or above `order`.
+///
+/// ```
+/// use sugamdely::partitions::{multiplicity, total_multiplicity, CompositionIter};
+/// use sugamdely::Refusal;
+///
+/// let walked = CompositionIter::try_new(4, 2)?.map(|list| multiplicity(&list)).sum::<Result<u64, _>>()?;
+/// assert_eq!(walked, 7);
+/// assert_eq!(total_multiplicity(4, 2)?, walked);
+/// assert_eq!(total_multiplicity(4, 0), Err(Refusal::NoPartList));
+/// assert_eq!(total_multiplicity(21, 0), Err(Refusal::OrderAbove20));
+/// # Ok::<(), Refusal>(())
+/// ```
+pub fn total_multiplicity(order: usize, len: usize) -> Result<u64, Refusal> {
+    let mut out = [0];
+    count(ffi::total_multiplicity(order, len, &mut out), out)
 }

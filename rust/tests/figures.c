@@ -26,6 +26,8 @@ static void part_lists(void) {
         lists++, total += count;
     }
     expect(lists == 2 && total == 7, "(3,1) and (2,2), in total 7");
+    uint64_t unwalked;
+    expect(sugamdely_total_multiplicity(4, 2, &unwalked, 1) == 0 && unwalked == total, "the same total without the walk");
     expect(sugamdely_walk_start(20, 21, walk, 23) == 3, "order 20, len 21 is refused 3");
     uint64_t stirling;
     expect(sugamdely_stirling_number(20, 2, &stirling, 1) == 0 && stirling == 524287, "S(20,2) is 524287");

@@ -38,7 +38,7 @@ fn the_header_says_what_the_declarations_say() {
             format!("{} {name}", c(kind))
         })
     });
-    assert_eq!(header.len(), 91);
+    assert_eq!(header.len(), 92);
     assert_eq!(header, ours);
 }
 

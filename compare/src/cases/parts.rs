@@ -216,7 +216,14 @@ fn stirling_number(order: usize, len: usize) -> u64 {
     }
 }
 
+/// The Rust's own walk, each list's multiplicity added.
+fn walked_total(order: usize, len: usize) -> u64 {
+    let lists = oracle::part_lists(order, len).expect("the Rust walks these lists");
+    lists.iter().map(|list| oracle::multiplicity(list).expect("the Rust counts a list that it hands out") as u64).sum()
+}
+
 pub(super) fn added() -> Vec<Operation> {
+    let totals = (0..=22).flat_map(|order| (0..=22).map(move |len| vec![Whole(order), Whole(len)])).collect();
     let pairs = (0..=21).flat_map(|order| (0..=order + 1).map(move |len| vec![Whole(order), Whole(len)])).collect();
     vec![
         number("factorial", false, (0..=22).map(|n| vec![Whole(n)]).collect(), |n, _| if n > 20 { Err(1) } else { Ok((1..=n as u64).product()) }),
@@ -228,6 +235,10 @@ pub(super) fn added() -> Vec<Operation> {
             } else {
                 Ok(stirling_number(order, len))
             }
+        }),
+        number("total_multiplicity", true, totals, |order, len| match first(&[(1, order > 20), (3, len == 0 || len > order)]) {
+            0 => Ok(walked_total(order, len)),
+            refusal => Err(refusal),
         }),
         walk_next(),
     ]

@@ -1,7 +1,8 @@
-// Part lists: walks, multiplicities, factorials and Stirling numbers. A walk is 23 numbers: its order, its len, 1 where it has ended and 0 else, and 20 parts.
+// Part lists: walks, multiplicities and their totals, factorials and Stirling numbers. A walk is 23 numbers: its order, its len, 1 where it has ended and 0 else, and 20 parts.
 ghost use Rattle.std.specs.Prelude.{◌≡◌, List, ℕ, length};
 ghost use Rattle.refusals.specs.Number.{number_of};
 ghost use Rattle.partitions.specs.Count.{counted, factorial_of, stirling_of};
+ghost use Rattle.part_counts.specs.Total.{total_of};
 ghost use Rattle.exact_lists.specs.Delivery.{deliver_count};
 ghost use Rattle.capi_exact.specs.PartLists.{flag_given, walk_given, walk_of, walk_numbers, walk_started, walk_stepped};
 
@@ -28,6 +29,13 @@ pub extern "C" fn sugamdely_stirling_number(order: usize, len: usize, out: &mut 
     ensures { ◌≡◌ {A = ℕ × List ℕ} (result, out.new) (deliver_count (stirling_of order len) out.old) }
 {
     number_of(deliver::count(partitions::stirling_number(order, len), out))
+}
+
+#[unsafe(no_mangle)]
+pub extern "C" fn sugamdely_total_multiplicity(order: usize, len: usize, out: &mut [u64]) -> u8
+    ensures { ◌≡◌ {A = ℕ × List ℕ} (result, out.new) (deliver_count (total_of order len) out.old) }
+{
+    number_of(deliver::count(part_counts::total_multiplicity(order, len), out))
 }
 
 #[tactic(auto, unfolding(crate::specs::PartLists::walk_numbers))]

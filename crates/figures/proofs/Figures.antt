@@ -2,7 +2,8 @@
 use Rattle.std.proofs.Common.{◌≡◌, refl, false, List, [], ◌∷◌, ◌++◌, map, ℕ, ◌^◌, ◌+◌, ◌-◌, ℤ, pos, take, replicate}
 use lib.Ieee.{of_bits, of_int, add, sub, mul, div, neg, eq}
 use Rattle.partitions.specs.Parts.{total, fact, parts, divide, runs_from, runs, multiplicity}
-use Rattle.partitions.specs.Count.{counted, falls, stirling, stirling_of}
+use Rattle.partitions.specs.Count.{counted, falls, stirling, stirling_of, total_count}
+use Rattle.part_counts.specs.Total.{total_of}
 use Rattle.partitions.specs.Walk.{same, from, padded, started, remaining, stepped}
 use Rattle.partitions.specs.declared.CompositionIter.{CompositionIter}
 use Rattle.partitions.proofs.Walked.{Item, items}
@@ -38,7 +39,7 @@ use Rattle.vector_formulas.specs.Vector.{vector_norm}
 use Rattle.vector_derivatives.specs.Answer.{by_norm, vector_curves}
 use Rattle.derivatives.specs.Answer.{curves}
 
--- ---- part lists: `CompositionIter::{try_new, step}`, `multiplicity`, `stirling_number`
+-- ---- part lists: `CompositionIter::{try_new, step}`, `multiplicity`, `stirling_number`, `total_multiplicity`
 
 -- `items n w` is what n steps of the walk w hand out, one after the other: each a list, with zeros past it, or that the walk has ended
 abbrev hands_out : List ℕ → Item
@@ -94,6 +95,10 @@ total-5-2 = refl
 pub stirling-5-2 : stirling_of 5 2 ≡ Ok 15
 unfolding stirling_of stirling
 stirling-5-2 = refl
+
+pub total-of-5-2 : total_of 5 2 ≡ Ok 15
+unfolding total_of total_count parts multiplicity divide runs runs_from total fact
+total-of-5-2 = refl
 
 -- order 4, len 3: (2,1,1) counts 6
 pub start-4-3 : number_of (started 4 3) ≡ 0

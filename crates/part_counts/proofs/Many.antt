@@ -1,7 +1,7 @@
 -- How many part lists an order to 20 can have of each len. Assumes nothing.
 use Rattle.std.proofs.Common.{sym, subst, Bool, List, [], ◌∷◌, ℕ, ◌≤◌, arith, T, leb, leb→le, length, get_or}
 use Rattle.partitions.specs.Parts.{lists}
-use Rattle.part_counts.proofs.Below.{below, below_at}
+use Rattle.partitions.proofs.Below.{below, below_at}
 use Rattle.part_counts.proofs.Pruned.{pruned, pruned-is}
 
 -- the most lists of the len 0, 1, ..: from 1 on, those of order 20

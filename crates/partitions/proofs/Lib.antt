@@ -11,8 +11,9 @@ pub mod Runs
 pub mod Exact
 pub mod FactorialProduct
 pub mod Triangle
--- what the functions need: cases on a test, slices, an array's tail that is lent, and what a start and a step find
+-- what the functions need: cases on a test, tests of all numbers below a bound, slices, an array's tail that is lent, and what a start and a step find
 pub mod Tests
+pub mod Below
 pub mod Slices
 pub mod Tail
 pub mod Moves

@@ -4,13 +4,16 @@ use Rattle.std.proofs.Common.{◌≡◌, refl, sym, ◌∙◌, ap, subst, Bool, 
 use mathlib.Core.List.{nil≢cons}
 use Rattle.refusals.specs.declared.Refusal.{Refusal}
 use Rattle.refusals.specs.declared.Refusal.TheVariants.{OrderAbove20, NoPartList}
-use Rattle.partitions.specs.Parts.{lists}
+use Rattle.partitions.specs.Parts.{lists, multiplicity}
+use Rattle.partitions.specs.Count.{counted}
 use Rattle.partitions.specs.Walk.{from, padded, tested, started, started_by, started_at, stepped, stepped_by, refused, at_end, remaining, moved, handed}
 use Rattle.partitions.specs.Inner.{greatest, has_next, next_of}
 use Rattle.partitions.specs.declared.CompositionIter.{CompositionIter}
 use Rattle.partitions.specs.declared.Stepped.{Stepped}
 use Rattle.partitions.proofs.Tests.{by-leb, by_eqb}
-use Rattle.partitions.proofs.Member.{from_is, from-head, from-here}
+use Rattle.partitions.proofs.Lists.{Is}
+use Rattle.partitions.proofs.Member.{from_is, from-head, from-here, down-list}
+use Rattle.partitions.proofs.Counted.{counted-by}
 use Rattle.partitions.proofs.Successor.{first, greatest-length, by_next, next-is}
 
 -- ---- the range
@@ -72,6 +75,24 @@ holds w l ls e =
     not_end : (b : Bool) (xs : List (List ℕ)) → cond b [] xs ≡ l ∷ ls → (b ≡ false) × (xs ≡ l ∷ ls)
     not_end true xs e = absurd (nil≢cons e)
     not_end false xs e = (refl, e)
+
+-- the first is one of the lists of the walk's order and len, and it is counted as it stands in what is handed out
+pub first-is : (w : CompositionIter) (l : List ℕ) (ls : List (List ℕ)) → remaining w ≡ l ∷ ls → Is w.len w.order w.order l
+first-is w l ls e = from_is w.len w.order w.order l l ls (holds w l ls e).2
+
+pub first-shown : (w : CompositionIter) (l : List ℕ) (ls : List (List ℕ)) → remaining w ≡ l ∷ ls → take w.len (padded l) ≡ l
+first-shown w l ls e = take_at l (replicate (20 - length l) 0) w.len (first-is w l ls e).long
+
+pub first-counted : (w : CompositionIter) (l : List ℕ) (ls : List (List ℕ)) → tested w.order w.len ≡ Ok tt → remaining w ≡ l ∷ ls →
+    counted (take w.len (padded l)) ≡ Ok (multiplicity l)
+first-counted w l ls t e = ap counted (first-shown w l ls e) ∙ go l (first-is w l ls e)
+  where
+    h : InRange w.order w.len
+    h = range-of w.order w.len t
+
+    go : (l : List ℕ) → Is w.len w.order w.order l → counted l ≡ Ok (multiplicity l)
+    go [] i = absurd (omega (arith, i.long, h.0))
+    go (a ∷ l) i = counted-by (a ∷ l) true (omega (arith, i.sums, h.2)) (down-list i.down)
 
 -- what remains after the first is handed out
 pub moved-remains : (w : CompositionIter) (l : List ℕ) (ls : List (List ℕ)) → remaining w ≡ l ∷ ls → remaining (moved w ls) ≡ ls
@@ -208,6 +229,12 @@ started-remains order len e =
     ∙ from-here (greatest len order order) f.0
     ∙ sym f.1
 
+-- and there are some
+pub some-list : (order len : ℕ) → tested order len ≡ Ok tt → ¬ (lists order len ≡ [])
+some-list order len e f =
+    let h = range-of order len e in
+    nil≢cons (sym f ∙ (first len order order h.1 (least-times order len h.0)).1)
+
 -- the walk after n steps, and what these hand out
 unfoldable pub walked : ℕ → CompositionIter → CompositionIter
 walked zero w = w
@@ -217,7 +244,7 @@ unfoldable pub items : ℕ → CompositionIter → List Item
 items zero w = []
 items (suc n) w = (stepped w).item ∷ items n (stepped w).walk
 
-moved-range : (w : CompositionIter) (ls : List (List ℕ)) → tested w.order w.len ≡ Ok tt → tested (moved w ls).order (moved w ls).len ≡ Ok tt
+pub moved-range : (w : CompositionIter) (ls : List (List ℕ)) → tested w.order w.len ≡ Ok tt → tested (moved w ls).order (moved w ls).len ≡ Ok tt
 moved-range w [] e = e
 moved-range w (l ∷ ls) e = e
 
@@ -259,10 +286,7 @@ module _ (order len : ℕ) (w : CompositionIter) (e : started order len ≡ Ok w
 
   through : (items (length (lists order len)) w ≡ map answer (lists order len))
       × (stepped (walked (length (lists order len)) w) ≡ at_end (walked (length (lists order len)) w))
-  through =
-      let h = range-of order len (started-range order len w e) in
-      let f = first len order order h.1 (least-times order len h.0) in
-      whole w (lists order len) walk-range all-remain (λ z. absurd (nil≢cons (sym z ∙ f.1)))
+  through = whole w (lists order len) walk-range all-remain (λ z. absurd (some-list order len (started-range order len w e) z))
 
   pub walk-gives : items (length (lists order len)) w ≡ map answer (lists order len)
   walk-gives = through.0

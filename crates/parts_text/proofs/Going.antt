@@ -1,7 +1,5 @@
--- The walk over the lists of a pair, as their lines are written: what has been written is the lines of the lists handed out, and the sum is their
--- total. Assumes nothing.
-use Rattle.std.proofs.Common.{◌⊎◌, inl, inr, ◌≡◌, refl, sym, ◌∙◌, ap, ap₂, subst, true, List, [], ◌∷◌, ◌++◌, append_assoc, append-nil, ℕ, ◌+◌, ◌-◌, ◌^◌, ◌<◌, arith, add_assoc, add-zero, length, take, replicate, take_at, Some, None, Result, Ok, Err}
-use mathlib.Core.List.{nil≢cons}
+-- The walk over the lists of a pair, as their lines are written: what has been written is the lines of the lists handed out. Assumes nothing.
+use Rattle.std.proofs.Common.{◌⊎◌, inl, inr, ◌≡◌, refl, sym, ◌∙◌, ap, ap₂, true, List, [], ◌∷◌, ◌++◌, append_assoc, append-nil, ℕ, ◌<◌, arith, length, take, Some, None, Result, Ok, Err}
 use Rattle.partitions.specs.Parts.{lists, multiplicity}
 use Rattle.partitions.specs.Count.{counted, total_count}
 use Rattle.refusals.specs.declared.Refusal.{Refusal}
@@ -9,12 +7,9 @@ use Rattle.refusals.specs.Number.{number}
 use Rattle.partitions.specs.Walk.{tested, started, started_by, stepped, remaining, moved}
 use Rattle.partitions.specs.declared.CompositionIter.{CompositionIter}
 use Rattle.partitions.specs.declared.Stepped.{Stepped}
-use Rattle.partitions.proofs.Lists.{Is}
-use Rattle.partitions.proofs.Member.{from_is, down-list}
-use Rattle.partitions.proofs.Successor.{first}
-use Rattle.partitions.proofs.Walked.{range-of, least-times, started-is, started-range, is-first, all-remain, holds, moved-remains, moved-end, stepped-first, stepped-end, step_gives, step-ends}
-use Rattle.partitions.proofs.Counted.{counted-by}
-use Rattle.part_counts.proofs.Stirling.{count-below}
+use Rattle.partitions.proofs.Walked.{started-is, started-range, is-first, all-remain, moved-remains, moved-end, some-list, first-shown, first-counted, stepped-first, stepped-end, step_gives, step-ends}
+use Rattle.part_counts.specs.Total.{total_of}
+use Rattle.part_counts.proofs.Total.{total-listed}
 use Rattle.parts_text.specs.declared.out.Text.{Text}
 use Rattle.parts_text.specs.declared.Reading.{Reading}
 use Rattle.parts_text.specs.declared.Reading.TheVariants.{Before, InOrder, AfterOrder, InLen, AfterLen, Malformed}
@@ -48,18 +43,8 @@ no-pair (InLen v w) f g = absurd (f v w refl)
 no-pair (AfterLen v w) f g = absurd (g v w refl)
 no-pair Malformed f g = refl
 
--- ---- totals
-total-append : (ls ms : List (List ℕ)) → total_count (ls ++ ms) ≡ total_count ls + total_count ms
-unfolding total_count
-total-append [] ms = omega arith
-total-append (l ∷ ls) ms = ap (λ (n : ℕ). multiplicity l + n) (total-append ls ms) ∙ sym (add_assoc (multiplicity l) (total_count ls) (total_count ms))
-
-total-one : (l : List ℕ) → total_count (l ∷ []) ≡ multiplicity l
-unfolding total_count
-total-one l = add-zero (multiplicity l)
-
 -- ---- the walk of the pair, its lines written after what stood in p₀
-pub record Going (order len : ℕ) (p₀ : Text) (w : CompositionIter) (p : Text) (sum : ℕ) : Type 0 where
+pub record Going (order len : ℕ) (p₀ : Text) (w : CompositionIter) (p : Text) : Type 0 where
   pub done : List (List ℕ)
   pub range : tested order len ≡ Ok tt
   pub order_is : w.order ≡ order
@@ -67,12 +52,6 @@ pub record Going (order len : ℕ) (p₀ : Text) (w : CompositionIter) (p : Text
   pub at-end : remaining w ≡ [] → w.end ≡ true
   pub split : lists order len ≡ done ++ remaining w
   pub wrote : p ≡ puts p₀ (joined line done)
-  pub totals : sum ≡ total_count done
-
-some-list : (order len : ℕ) → tested order len ≡ Ok tt → lists order len ≡ [] → ⊥
-some-list order len e f =
-    let h = range-of order len e in
-    nil≢cons (sym f ∙ (first len order order h.1 (least-times order len h.0)).1)
 
 -- where the pair is refused, nothing is written
 pub start-refused : (order len : ℕ) (p : Text) (r : Refusal) → started order len ≡ Err r → (Err r ≡ tested order len) × (p ≡ puts p (listed order len))
@@ -86,8 +65,8 @@ start-refused order len p r e = by (tested order len) refl
         let z : Err r ≡ tested order len = cc in
         (z, puts_none p ∙ ap (λ t. puts p (or_nothing t (text (lists order len)))) (sym f))
 
-pub going_start : (order len : ℕ) (p : Text) (w : CompositionIter) → started order len ≡ Ok w → Going order len p w p 0
-unfolding joined total_count
+pub going_start : (order len : ℕ) (p : Text) (w : CompositionIter) → started order len ≡ Ok w → Going order len p w p
+unfolding joined
 going_start order len p w e =
     let s = is-first order len w e in
     let r = all-remain order len w e in
@@ -99,10 +78,9 @@ going_start order len p w e =
       at-end = λ g. absurd (some-list order len (started-range order len w e) (sym r ∙ g));
       split = sym r;
       wrote = puts_none p;
-      totals = refl;
     }
 
-module _ {order len : ℕ} {p₀ : Text} {w : CompositionIter} {p : Text} {sum : ℕ} (g : Going order len p₀ w p sum) where
+module _ {order len : ℕ} {p₀ : Text} {w : CompositionIter} {p : Text} (g : Going order len p₀ w p) where
   walk-range : tested w.order w.len ≡ Ok tt
   walk-range = ap₂ tested g.order_is g.len_is ∙ g.range
 
@@ -114,23 +92,19 @@ module _ {order len : ℕ} {p₀ : Text} {w : CompositionIter} {p : Text} {sum :
       go [] f = let s = ap (λ (x : Stepped). x.item) (stepped-end w walk-range (g.at-end f)) in cc
       go (l ∷ ls) f = let s = ap (λ (x : Stepped). x.item) (stepped-first w l ls walk-range f) in cc
 
-  -- the end: all the lines are written, and the total is theirs
-  pub going_end : {p' : Text} → (stepped w).item ≡ Ok None → p' ≡ puts p (total_line sum) → p' ≡ puts p₀ (listed order len)
+  -- the total is answered
+  pub totalled : (r : Refusal) → total_of order len ≡ Err r → ⊥
+  totalled r e = let t = total-listed order len g.range in cc
+
+  -- the end: all the lines are written, and then the total
+  pub going_end : {p' : Text} {n : ℕ} → (stepped w).item ≡ Ok None → total_of order len ≡ Ok n → p' ≡ puts p (total_line n) → p' ≡ puts p₀ (listed order len)
   unfolding listed
-  going_end e t =
+  going_end {n = n} e a t =
+      let total : n ≡ total_count (lists order len) = let s = total-listed order len g.range in cc in
       let d : g.done ≡ lists order len = sym (append-nil g.done) ∙ ap (λ (x : List (List ℕ)). g.done ++ x) (sym (step-ends w e)) ∙ sym g.split in
-      after p₀ (joined line g.done) (total_line sum) g.wrote t
-      ∙ ap (puts p₀) (ap₂ (λ (ls : List (List ℕ)) (n : ℕ). joined line ls ++ total_line n) d (g.totals ∙ ap total_count d)
+      after p₀ (joined line g.done) (total_line n) g.wrote t
+      ∙ ap (puts p₀) (ap₂ (λ (ls : List (List ℕ)) (n : ℕ). joined line ls ++ total_line n) d total
       ∙ ap (λ t. or_nothing t (text (lists order len))) (sym g.range))
-
-  long : (l : List ℕ) (ls : List (List ℕ)) → remaining w ≡ l ∷ ls → Is len order order l
-  long l ls e =
-      let i = from_is w.len w.order w.order l l ls (holds w l ls e).2 in
-      subst (λ (n : ℕ). Is n order order l) g.len_is (subst (λ (n : ℕ). Is w.len n n l) g.order_is i)
-
-  one_list : (l : List ℕ) → Is len order order l → counted l ≡ Ok (multiplicity l)
-  one_list [] i = let h = range-of order len g.range in absurd (omega (arith, i.long))
-  one_list (a ∷ l) i = let h = range-of order len g.range in counted-by (a ∷ l) true (omega (arith, i.sums)) (down-list i.down)
 
   -- the list that the step hands out, and the others
   pub record Next (parts : List ℕ) (v : CompositionIter) : Type 0 where
@@ -144,16 +118,14 @@ module _ {order len : ℕ} {p₀ : Text} {w : CompositionIter} {p : Text} {sum :
   pub next : {parts : List ℕ} {v : CompositionIter} → (stepped w).item ≡ Ok (Some parts) → v ≡ (stepped w).walk → Next parts v
   next {parts = parts} e f =
       let h = step_gives w parts e in
-      let l = h.0 in
-      let i = long l h.1 h.2.first in
-      let front : take len parts ≡ l = ap (take len) (sym h.2.parts) ∙ take_at l (replicate (20 - length l) 0) len i.long in
+      let same = ap₂ (λ k (l : List ℕ). take k l) (sym g.len_is) (sym h.2.parts) in
       record {
-        list = l;
+        list = h.0;
         others = h.1;
         remain = h.2.first;
-        moves = f ∙ ap (λ (x : Stepped). x.walk) (stepped-first w l h.1 walk-range h.2.first);
-        front = front;
-        count = ap counted front ∙ one_list l i;
+        moves = f ∙ ap (λ (x : Stepped). x.walk) (stepped-first w h.0 h.1 walk-range h.2.first);
+        front = same ∙ first-shown w h.0 h.1 h.2.first;
+        count = ap counted same ∙ first-counted w h.0 h.1 walk-range h.2.first;
       }
 
   module _ {parts : List ℕ} {v : CompositionIter} (x : Next parts v) where
@@ -181,18 +153,8 @@ module _ {order len : ℕ} {p₀ : Text} {w : CompositionIter} {p : Text} {sum :
     whole : lists order len ≡ (g.done ++ (x.list ∷ [])) ++ x.others
     whole = g.split ∙ ap (λ (ls : List (List ℕ)). g.done ++ ls) x.remain ∙ sym (append_assoc g.done (x.list ∷ []) x.others)
 
-    more : total_count (g.done ++ (x.list ∷ [])) ≡ sum + multiplicity x.list
-    more = total-append g.done (x.list ∷ []) ∙ ap₂ ◌+◌ (sym g.totals) (total-one x.list)
-
-    pub sum_fits : (n : ℕ) → counted (take len parts) ≡ Ok n → sum + n < 2 ^ 64
-    sum_fits n e =
-        let h = range-of order len g.range in
-        let t = count-below order len h.2 h.1 in
-        let a = ap total_count whole ∙ total-append (g.done ++ (x.list ∷ [])) x.others in
-        omega (arith, more, counts n e)
-
     pub going_on : {p' : Text} {n : ℕ} → counted (take len parts) ≡ Ok n → p' ≡ puts p (decimal n ++ joined spaced (take len parts) ++ newline) →
-        Going order len p₀ v p' (sum + n)
+        Going order len p₀ v p'
     going_on {n = n} e t = record {
       done = g.done ++ (x.list ∷ []);
       range = g.range;
@@ -203,5 +165,4 @@ module _ {order len : ℕ} {p₀ : Text} {w : CompositionIter} {p : Text} {sum :
       wrote =
           after p₀ (joined line g.done) (line x.list) g.wrote (t ∙ ap (puts p) (ap₂ (λ (n : ℕ) (l : List ℕ). decimal n ++ joined spaced l ++ newline) (counts n e) x.front))
           ∙ ap (puts p₀) (ap (λ (y : List ℕ). joined line g.done ++ y) (sym (joined-one line x.list)) ∙ sym (joined-append line g.done (x.list ∷ [])));
-      totals = ap (λ (m : ℕ). sum + m) (counts n e) ∙ sym more;
     }

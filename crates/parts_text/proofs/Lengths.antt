@@ -5,7 +5,7 @@ use Rattle.partitions.specs.Count.{total_count}
 use Rattle.partitions.proofs.Down.{Down, none, one}
 use Rattle.partitions.proofs.Lists.{Every, nil, and, Is, sound}
 use Rattle.partitions.proofs.Exact.{fact-most, divide-most}
-use Rattle.part_counts.proofs.Below.{below, below_at}
+use Rattle.partitions.proofs.Below.{below, below_at}
 use Rattle.part_counts.proofs.Stirling.{count-below}
 use Rattle.part_counts.proofs.Many.{most, lists-few}
 use Rattle.parts_text.specs.Text.{digits, decimal, joined, newline, spaced, line, total_line, text}

@@ -89,13 +89,12 @@ impl Text {
         ensures { (result ≡ tested order len) × (self.new ≡ puts self.old (listed order len)) }
     {
         let mut walk = CompositionIter::try_new(order, len)?;
-        let mut total = 0;
         while let Some(parts) = walk.next()? {
             let list = &parts[..len];
             let count = partitions::multiplicity(list)?;
             self.push_line(count, list);
-            total += count;
         }
+        let total = part_counts::total_multiplicity(order, len)?;
         self.push_last(b"total", total);
         Ok(())
     }

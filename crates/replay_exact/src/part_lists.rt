@@ -23,6 +23,7 @@ pub fn count(operation: u64, case: &Call<u64>, out: &mut [u64]) -> Option<u8> {
         0xa03 => part_lists::sugamdely_multiplicity(case.sizes(0), out),
         0xa04 => part_lists::sugamdely_factorial(order, out),
         0xa05 => part_lists::sugamdely_stirling_number(order, len, out),
+        0xa06 => part_lists::sugamdely_total_multiplicity(order, len, out),
         _ => return None,
     })
 }

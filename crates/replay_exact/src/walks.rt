@@ -1,5 +1,5 @@
 // Part lists: every walk of the orders 1 to 20, by value and lent, each list with its multiplicity; starts and records with their refusals;
-// multiplicities, factorials and Stirling numbers (tools/partition_cases.py makes the cases, and says what each kind gives and wants).
+// multiplicities and their totals, factorials and Stirling numbers (tools/partition_cases.py makes the cases, and says what each kind gives and wants).
 ghost use Rattle.std.specs.Prelude.{◌≡◌};
 ghost use Rattle.partitions.specs.Walk.{stepped};
 
@@ -111,6 +111,12 @@ fn stirling_case(input: &mut impl Read) -> bool {
     number_met(input, partitions::stirling_number(order, len))
 }
 
+fn total_case(input: &mut impl Read) -> bool {
+    let order = next(input);
+    let len = next(input);
+    number_met(input, part_counts::total_multiplicity(order, len))
+}
+
 pub fn next_case(input: &mut impl Read) -> bool {
     let kind: u64 = next(input);
     match kind {
@@ -119,6 +125,7 @@ pub fn next_case(input: &mut impl Read) -> bool {
         3 => record_case(input),
         4 => multiplicity_case(input),
         5 => factorial_case(input),
-        _ => stirling_case(input),
+        6 => stirling_case(input),
+        _ => total_case(input),
     }
 }

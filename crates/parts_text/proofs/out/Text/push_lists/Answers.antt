@@ -1,6 +1,6 @@
 use Rattle.std.proofs.Common.{◌∙◌, ap, sym, Ok}
 use Rattle.std.proofs.lemmas.Result.{err_from_is_err_and}
-use Rattle.parts_text.proofs.Going.{start-refused, going_start, Next, taken, going_end, next, falls, list_counts, sum_fits, going_on}
+use Rattle.parts_text.proofs.Going.{start-refused, going_start, Next, taken, totalled, going_end, next, falls, list_counts, going_on}
 use Rattle.parts_text.proofs.out.Text.push_lists.Goals as goal
 use Rattle.parts_text.proofs.out.Text.push_lists.Goals.{In-Some}
 
@@ -24,10 +24,6 @@ pub returns-in_err-count : goal.returns-in_err-count
 returns-in_err-count c =
     absurd (list_counts c.loop-parts.invariant (handed (goal.at.returns-in_err-count c).In-Some) _ (sym c.multiplicity.ensures ∙ c.in_err-count.was))
 
-pub overflow_add-total : goal.overflow_add-total
-overflow_add-total c =
-    record { fits = sum_fits c.loop-parts.invariant (handed (goal.at.overflow_add-total c).In-Some) c.in_ok-count.count (sym c.multiplicity.ensures ∙ c.in_ok-count.was) }
-
 pub loop-parts-smaller : goal.loop-parts-smaller
 loop-parts-smaller c =
     falls c.loop-parts.invariant (handed (goal.at.loop-parts-smaller c).In-Some)
@@ -36,7 +32,10 @@ pub loop-parts-preserved : goal.loop-parts-preserved
 loop-parts-preserved c =
     going_on c.loop-parts.invariant (handed (goal.at.loop-parts-preserved c).In-Some) (sym c.multiplicity.ensures ∙ c.in_ok-count.was) c.push_line.ensures
 
+pub returns-in_err-total : goal.returns-in_err-total
+returns-in_err-total c = absurd (totalled c.loop-parts.invariant _ (sym c.total_multiplicity.ensures ∙ c.in_err-total.was))
+
 pub returns : goal.returns
 returns c =
     let g = c.loop-parts.invariant in
-    (sym g.range, going_end g (sym c.next.ensures.0 ∙ c.in_ok-parts.was ∙ ap Ok c.in_default.is) c.push_last.ensures)
+    (sym g.range, going_end g (sym c.next.ensures.0 ∙ c.in_ok-parts.was ∙ ap Ok c.in_default.is) (sym c.total_multiplicity.ensures ∙ c.in_ok-total.was) c.push_last.ensures)
