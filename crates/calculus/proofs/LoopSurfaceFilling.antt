@@ -1,11 +1,11 @@
 -- A loop that stores the entries of a surface's jet of order N, i rising, then j, at their graded places in an array of w. Assumes nothing.
-use Rattle.std.proofs.Common.{◌≡◌, refl, sym, ap, ap₂, ◌∙◌, subst₂, Bool, cond, List, ◌⊎◌, inl, inr, ⊎_elim, ℕ, suc, ◌+◌, ◌<◌, ◌≤◌, not-suc-le-zero, arith, ltb, get_or, set, replicate, lt-ltb}
+use Rattle.std.proofs.Common.{◌≡◌, refl, sym, ap, ap₂, ◌∙◌, subst₂, Bool, cond, List, ◌⊎◌, inl, inr, ⊎_elim, ℕ, suc, ◌+◌, ◌<◌, ◌≤◌, not-suc-le-zero, lt_irrefl, arith, ltb, get_or, set, replicate, lt-ltb, le-ltb}
 use native.Mathlib.Decide.{ℕ_discrete, dec_lt}
 use Rattle.calculus.specs.Rising.{before_entry, rising_rows}
 use Rattle.calculus.specs.Graded.{triangle, index, place, graded}
 use Rattle.calculus.specs.Array.{filled, surface_array}
 use Rattle.calculus.proofs.Rising.{earlier-row, same_row, later-row, later-entry}
-use Rattle.calculus.proofs.Graded.{index_below, index-231, index-place, place-first, place-second, place-order}
+use Rattle.calculus.proofs.Graded.{index_below, index-only, index-231, index-place, place-first, place-second, place-order}
 use Rattle.calculus.proofs.LoopFilling.{Stored, stored-none, stored_more, stored-as, stored-all, filled_at}
 
 -- the entries up to the order N that come before [m][n]
@@ -108,3 +108,12 @@ module _ {X : Type 0} (d blank : X) (s : ℕ → ℕ → X) (n i j : ℕ) where
   pub array_at : n ≤ 20 → i + j ≤ n → get_or (surface_array blank s n) (index i j) d ≡ s i j
   array_at h l =
       array-entry (index-231 i j (omega arith)) ∙ ap (λ (t : Bool). cond t (s i j) blank) (lt-ltb (index i j) (triangle (suc n)) (index_below n i j l))
+
+  pub array-past : i + j ≤ 20 → n < i + j → get_or (surface_array blank s n) (index i j) d ≡ blank
+  array-past h l =
+      array-entry (index-231 i j h)
+      ∙ ap (λ (t : Bool). cond t (s i j) blank) (le-ltb (index i j) (triangle (suc n)) (past (dec_lt (index i j) (triangle (suc n)))))
+    where
+      past : Dec (index i j < triangle (suc n)) → triangle (suc n) ≤ index i j
+      past (yes b) = absurd (lt_irrefl n (omega (arith, index-only n i j b)))
+      past (no b) = omega arith

@@ -175,7 +175,7 @@ module _ (orders : List ℕ) (entries : List ℤ) (steps : List ℕ) (m : ℕ) (
   unfolding deliver
   asked (Ok j) h =
       let o = h j refl in
-      delivered curves n (Ok j) out (record { order = o.0; low = o.1; finite = refl }) (g.lent o.1)
+      delivered curves n (Ok j) out (record { order = o.0; low = o.1; finite = refl }) (λ _ _. g.lent o.1)
   asked (Err c) h = refl
 
   road-handed : (road : Recipe SurfaceDerivatives → ParameterCurve → ℕ → Result CurveDerivatives Refusal) →
@@ -202,7 +202,7 @@ module _ (orders : List ℕ) (entries : List ℤ) (steps : List ℕ) (out : List
   unfolding deliver
   smallest-handed K finite lent (Ok j) h =
       let o = h j refl in
-      delivered K (smallest orders) (Ok j) out (record { order = o.1; low = smallest-20 orders; finite = finite (K.numbers j) (smallest orders) }) (lent o.0)
+      delivered K (smallest orders) (Ok j) out (record { order = o.1; low = smallest-20 orders; finite = finite (K.numbers j) (smallest orders) }) (λ _ _. lent o.0)
   smallest-handed K finite lent (Err c) h = refl
 
   pub recipe-surfaces-is : ListsOfRecipe surface_size orders entries steps out →

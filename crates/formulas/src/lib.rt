@@ -91,6 +91,14 @@ pub fn coefficient(m: usize, i: usize) -> f64
     calculus::choose(m, i) as f64
 }
 
+// The i-th binomial coefficient of the order m: m is cut to 20, and i to m.
+pub fn binomial(m: usize, i: usize) -> u32
+    ensures { result ≡ choose (min m 20) (min i (min m 20)) }
+{
+    let k = m.min(20);
+    calculus::choose(k, i.min(k))
+}
+
 // That of the term [i][j] at [m][n], with m and n cut as an index is.
 pub fn surface_coefficient(m: usize, n: usize, i: usize, j: usize) -> f64
     ensures { result ≡ real.of_nat (choose (min m 20) i * choose (min n (20 - min m 20)) j) }

@@ -47,7 +47,7 @@ module _ {X E J : Type 0} (K : JetKind X E J) (s : Made K) where
     entries-answered = ap (K.list (K.numbers (K.made n x))) (s.read.order n x) ∙ s.list n h x
 
     pub answered-delivered : K.finite x n ≡ true → (out : List X) → length out ≡ K.count n → deliver K (answered K n x) out ≡ pair 0 (K.list x n)
-    answered-delivered p out e = delivered K n (answered K n x) out (fit-answered p) e ∙ ap (pair 0) entries-answered
+    answered-delivered p out e = delivered K n (answered K n x) out (fit-answered p) (λ _ _. e) ∙ ap (pair 0) entries-answered
 
   -- a derivative, of one order less
   pub fit-less : (d : E → E) → ((x : E) (n : ℕ) → ¬ (n ≡ 0) → K.finite x n ≡ true → K.finite (d x) (n - 1) ≡ true) → (a : J) →

@@ -85,11 +85,11 @@ module _ {X E J : Type 0} (K : JetKind X E J) where
   Fit n (Ok a) = FitJet n a
   Fit n (Err c) = ⊤
 
-  pub delivered : (n : ℕ) (a : Result J Refusal) (out : List X) → Fit n a → length out ≡ K.count n → deliver K a out ≡ written a out
+  pub delivered : (n : ℕ) (a : Result J Refusal) (out : List X) → Fit n a → ((j : J) → a ≡ Ok j → length out ≡ K.count n) → deliver K a out ≡ written a out
   unfolding deliver
   delivered n (Ok a) out f e =
       let low : K.order a ≤ 20 = subst (λ (k : ℕ). k ≤ 20) (sym f.order) f.low in
-      ap numbered (sym (into-worked K a out low refl (e ∙ ap K.count (sym f.order)) refl (ap not (ap (K.finite (K.numbers a)) f.order ∙ f.finite))))
+      ap numbered (sym (into-worked K a out low refl (e a refl ∙ ap K.count (sym f.order)) refl (ap not (ap (K.finite (K.numbers a)) f.order ∙ f.finite))))
   delivered n (Err c) out f e = refl
 
 -- ---- functions over lists, of whatever is read off them: what they leave
@@ -144,7 +144,7 @@ module _ {X E J F L G H : Type 0} (K : JetKind X E J) (M : JetKind X F L) (R : J
             let q = list-fits M.count n (length b) (one-fits (list_given M.count n (length b)) (list_given R.count (min m n) (length out)) z') in
             let o = list-fits R.count (min m n) (length out) (rest-fits (list_given M.count n (length b)) (list_given R.count (min m n) (length out)) z') in
             let f = subst (λ (k : ℕ). Fit R k r) (ap₂ min (list-order K rk m a p.0 p.1) (list-order M rm n b q.0 q.1)) (fit (jet_of_list K m a) (jet_of_list M n b)) in
-            ap (admitted test out) (delivered R (min m n) r out f o.1)
+            ap (admitted test out) (delivered R (min m n) r out f (λ _ _. o.1))
         go (no z) = rw (ne_eqb test 0 z)
 
   -- at an order k that is asked
@@ -170,7 +170,7 @@ module _ {X E J F L G H : Type 0} (K : JetKind X E J) (M : JetKind X F L) (R : J
             let z1 = rest-fits (list_given K.count m (length a)) rest z in
             let z2 = rest-fits (list_given M.count n (length b)) asked z1 in
             let o = list-fits R.count k (length out) (rest-fits (order_given k) (list_given R.count k (length out)) z2) in
-            ap (admitted test out) (delivered R k r out (fit (jet_of_list K m a) (jet_of_list M n b)) o.1)
+            ap (admitted test out) (delivered R k r out (fit (jet_of_list K m a) (jet_of_list M n b)) (λ _ _. o.1))
         go (no z) = rw (ne_eqb test 0 z)
 
 -- one jet of the order n, to an answer of the order k
@@ -190,5 +190,5 @@ module _ {X E J G H : Type 0} (K : JetKind X E J) (R : JetKind X G H) (rk : Read
       go (yes z) =
           let p = list-fits K.count n (length a) (one-fits (list_given K.count n (length a)) (list_given R.count k (length out)) z) in
           let o = list-fits R.count k (length out) (rest-fits (list_given K.count n (length a)) (list_given R.count k (length out)) z) in
-          ap (admitted test out) (delivered R k r out (fit (jet_of_list K n a) (list-order K rk n a p.0 p.1)) o.1)
+          ap (admitted test out) (delivered R k r out (fit (jet_of_list K n a) (list-order K rk n a p.0 p.1)) (λ _ _. o.1))
       go (no z) = rw (ne_eqb test 0 z)

@@ -1,6 +1,6 @@
 -- The multiplicity of a part list: each single division leaves no remainder; and what it needs of the factorials.
 -- Assumes nothing.
-use Rattle.std.proofs.Common.{◌≡◌, refl, sym, ◌∙◌, ap, subst, true, List, [], ◌∷◌, ◌++◌, ℕ, zero, suc, ◌*◌, ◌/◌, ◌%◌, ◌≤◌, arith, mul-div_cancel, mul-le-mul, mul_assoc, le_refl, le_trans, div-le_self, length}
+use Rattle.std.proofs.Common.{◌≡◌, refl, sym, ◌∙◌, ap, subst, true, List, [], ◌∷◌, ◌++◌, ℕ, zero, suc, ◌*◌, ◌/◌, ◌%◌, ◌≤◌, arith, mul-div_cancel, mul-le-mul, mul_assoc, le_refl, le_trans, div-le_self, length, get_or}
 use native.Mathlib.Nat.{mul-mod_left}
 use Rattle.partitions.specs.Parts.{total, fact, divide, runs, multiplicity}
 use Rattle.partitions.specs.Count.{is_list}
@@ -8,7 +8,7 @@ use Rattle.partitions.proofs.Down.{Down, long}
 use Rattle.partitions.proofs.Member.{list-down}
 use Rattle.partitions.proofs.Out.{fact-pos, weight, weight-pos, down_pos}
 use Rattle.partitions.proofs.Mult.{weight-divides}
-use Rattle.partitions.proofs.Runs.{facts, facts-weight}
+use Rattle.partitions.proofs.Runs.{facts, facts-weight, run-most}
 
 -- ---- factorials
 pub fact-most : (a b : ℕ) → a ≤ b → fact a ≤ fact b
@@ -88,6 +88,9 @@ list-exactly l e = down-exactly (list-down l e)
 pub list-exact : (l : List ℕ) → is_list l ≡ true → multiplicity l * facts (l ++ runs l) ≡ fact (total l)
 list-exact l e = down-exact (list-down l e)
 
--- ---- there are at most as many parts as the sum
+-- ---- the numbers whose factorials are taken are at most the sum
 pub list-long : (l : List ℕ) → is_list l ≡ true → length l ≤ total l
 list-long l e = long (list-down l e)
+
+pub list-run : (l : List ℕ) (i : ℕ) → is_list l ≡ true → get_or (runs l) i 0 ≤ total l
+list-run l i e = le_trans (run-most l i) (list-long l e)

@@ -1,6 +1,6 @@
--- The factorials of the parts and of the runs of equal parts make the weight, at nonincreasing lists.
+-- The factorials of the parts and of the runs of equal parts make the weight, at nonincreasing lists; and the runs' bounds.
 -- Assumes nothing.
-use Rattle.std.proofs.Common.{◌≡◌, refl, sym, ◌∙◌, ap, ap₂, subst, cond, List, [], ◌∷◌, ℕ, suc, ◌+◌, ◌*◌, ◌<◌, arith, one-add, add-zero, ne_eqb}
+use Rattle.std.proofs.Common.{◌≡◌, refl, sym, ◌∙◌, ap, ap₂, subst, cond, List, [], ◌∷◌, ℕ, zero, suc, ◌+◌, ◌*◌, ◌≤◌, ◌<◌, arith, length, get_or, one-add, add-zero, ne_eqb}
 use native.Mathlib.Nat.{eq_of_mul-eq-mul_right}
 use Rattle.partitions.specs.Parts.{fact, runs_from, runs}
 use Rattle.partitions.proofs.Tests.{by_eqb}
@@ -64,3 +64,34 @@ runs-is (one {a = a} {l = l} h d) = first_run (facts (runs_from (suc a) 1 l)) (c
 
 pub facts-weight : {m : ℕ} {l : List ℕ} → Down m l → facts l * facts (runs l) ≡ weight l
 facts-weight {m} {l} d = ap (λ x. facts l * x) (runs-is d) ∙ weight_is l
+
+-- ---- no run is longer than the list, and there are no more runs than parts
+run-from-most : (a k : ℕ) (l : List ℕ) (i : ℕ) → 1 ≤ k → get_or (runs_from a k l) i 0 ≤ k + length l
+unfolding runs_from
+run-from-most a k [] zero h = omega arith
+run-from-most a k [] (suc i) h = omega arith
+run-from-most a k (b ∷ l) i h =
+    by_eqb b a (λ t. get_or (cond t (runs_from a (suc k) l) (k ∷ runs_from b 1 l)) i 0 ≤ k + suc (length l))
+    (λ _. omega (arith, run-from-most a (suc k) l i (omega arith)))
+    (λ _. other i (λ j. run-from-most b 1 l j (omega arith)))
+  where
+    other : (i : ℕ) → ((j : ℕ) → get_or (runs_from b 1 l) j 0 ≤ 1 + length l) → get_or (k ∷ runs_from b 1 l) i 0 ≤ k + suc (length l)
+    other zero f = omega arith
+    other (suc i) f = omega (arith, f i)
+
+pub run-most : (l : List ℕ) (i : ℕ) → get_or (runs l) i 0 ≤ length l
+unfolding runs
+run-most [] i = omega arith
+run-most (a ∷ l) i = omega (arith, run-from-most a 1 l i (omega arith))
+
+runs-from-few : (a k : ℕ) (l : List ℕ) → length (runs_from a k l) ≤ suc (length l)
+unfolding runs_from
+runs-from-few a k [] = omega arith
+runs-from-few a k (b ∷ l) =
+    by_eqb b a (λ t. length (cond t (runs_from a (suc k) l) (k ∷ runs_from b 1 l)) ≤ suc (suc (length l)))
+    (λ _. omega (arith, runs-from-few a (suc k) l)) (λ _. omega (arith, runs-from-few b 1 l))
+
+pub runs-few : (l : List ℕ) → length (runs l) ≤ length l
+unfolding runs
+runs-few [] = omega arith
+runs-few (a ∷ l) = runs-from-few a 1 l

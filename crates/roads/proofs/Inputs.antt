@@ -4,8 +4,10 @@ use native.Mathlib.Nat.{min-le_left, min-le_right, min-eq_left, le-min}
 use borrow.Author.Tests.{eqb-false}
 use Rattle.refusals.specs.declared.Refusal.{Refusal}
 use Rattle.refusals.specs.declared.Refusal.TheVariants.{OutOfRange}
+use Rattle.refusals.specs.Number.{number_of}
 use Rattle.whole.specs.Checked.{in_range}
 use Rattle.whole.specs.History.{numbers, every}
+use Rattle.whole.proofs.History.{both_true}
 use Rattle.whole.proofs.Range.{never}
 use Rattle.exact.specs.declared.CurveDerivatives.{CurveDerivatives}
 use Rattle.exact.specs.declared.SurfaceDerivatives.{SurfaceDerivatives}
@@ -103,6 +105,28 @@ module _ (c : ParameterCurve) (k n : ℕ) (hc : c.order ≤ 20) (lc : n ≤ c.or
       by true true = refl
       by true false = refl
       by false u = refl
+
+  -- the first refusal's number is 9, where a number formed is out of range
+  pub inputs-refusal : (l : List SurfaceDerivatives) → some_above20 (map surfaces.order l) ≡ false → n ≤ smallest (map surfaces.order l) →
+      number_of (every_answer (map along l)) ≡ cond (every in_range (numbers (carries_take c n l))) 0 9
+  inputs-refusal l h b = ap (λ (a : Result (List CurveDerivatives) Refusal). number_of a) (inputs-carried l h b) ∙ by (every in_range (numbers (carries_take c n l)))
+    where
+      by : (t : Bool) → number_of {A = List CurveDerivatives} (cond t (Ok (map (along_jet c k n) l)) (Err OutOfRange)) ≡ cond t 0 9
+      by true = refl
+      by false = refl
+
+  -- and where none is, each call answers, and the jets are those of the integers
+  pub inputs-jets : (l : List SurfaceDerivatives) → some_above20 (map surfaces.order l) ≡ false → n ≤ smallest (map surfaces.order l) → every in_range (numbers (carries_take c n l)) ≡ true →
+      map along l ≡ map (λ s. Ok (along_jet c k n s)) l
+  unfolding carries_take some_above20 smallest
+  inputs-jets [] h b e = refl
+  inputs-jets (s ∷ l) h b e =
+      let low = then-true (ltb 20 s.order) _ h in
+      let t = both_true (every in_range (numbers (formed_by (carried_with c s) n))) (every in_range (numbers (carries_take c n l))) (sym (every_two (formed_by (carried_with c s) n) (carries_take c n l)) ∙ e) in
+      ap₂ (λ (a : Result CurveDerivatives Refusal) (r : List (Result CurveDerivatives Refusal)). a ∷ r)
+      (along-within c k n s (ltb-false 20 s.order low.0) hc (omega (arith, b, min-le_left s.order (smallest (map surfaces.order l)))) lc
+      ∙ ap (λ (x : Bool). cond {A = Result CurveDerivatives Refusal} x (Ok (along_jet c k n s)) (Err OutOfRange)) t.0)
+      (inputs-jets l low.1 (omega (arith, b, min-le_right s.order (smallest (map surfaces.order l)))) t.1)
 
   -- the carried jets have the order n
   module _ (small : n ≤ 20) where
