@@ -1,7 +1,6 @@
 -- What the functions over a slice of parts use: sums, and a test, the divisions and the runs one part further. Assumes nothing.
-use Rattle.std.proofs.Common.{◌≡◌, refl, sym, ap, ◌∙◌, true, false, cond, Option, Some, None, List, [], ◌∷◌, ◌⊎◌, inl, inr, ℕ, suc, ◌+◌, ◌-◌, ◌/◌, ◌≤◌, ◌<◌, add-one, min, arith, eqb, ltb, leb, length, length-drop, get_or, get_or-take, take, drop, drop_of_length-le, drop-cons, eq-eqb, ne_eqb, lt-ltb, le-ltb}
-use Rattle.std.specs.List.{sum, fold}
-use Rattle.std.specs.Bool.{then_some}
+use Rattle.std.proofs.Common.{◌≡◌, refl, sym, ap, ◌∙◌, true, false, cond, Option, Some, None, List, [], ◌∷◌, ◌⊎◌, inl, inr, ℕ, suc, ◌+◌, ◌-◌, ◌/◌, ◌≤◌, ◌<◌, add-one, arith, eqb, ltb, length, length-drop, get_or, get_or-take, take, drop, drop_of_length-le, drop-cons, eq-eqb, ne_eqb, lt-ltb, le-ltb}
+use Rattle.std.specs.List.{sum}
 use Rattle.partitions.proofs.Tests.{by-leb}
 use Rattle.std.proofs.lemmas.List.Sums.{sum_by_from}
 use Rattle.partitions.specs.Parts.{total, fact, divide, runs_from, runs}
@@ -16,20 +15,16 @@ unfolding total
 sum-total [] = refl
 sum-total (a ∷ l) = omega (arith, sum_by_from (λ x. x) (0 + a) l, sum-total l)
 
--- sums as the code has them: in numbers up to m, and at most 20 or none
-saturates : (m s : ℕ) (l : List ℕ) → s ≤ m → fold (λ s a. min (s + a) m) s l ≡ min (s + total l) m
+-- the sum of the parts from a place on
+pub total-at : (l : List ℕ) (i : ℕ) → i < length l → total (drop i l) ≡ get_or l i 0 + total (drop (i + 1) l)
 unfolding total
-saturates m s [] h = omega arith
-saturates m s (a ∷ l) h = saturates m (min (s + a) m) l (omega arith) ∙ omega arith
+total-at l i h = ap total (drop_at l i h)
 
-pub kept : (m : ℕ) (l : List ℕ) {s : ℕ} → 20 < m → s ≡ fold (λ s a. min (s + a) m) 0 l → then_some (leb s 20) s ≡ cond (ltb 20 (total l)) None (Some (total l))
-kept m l {s} h e =
-    let f = e ∙ saturates m 0 l (omega arith) in
-    by-leb s 20 (λ b. then_some b s ≡ cond (ltb 20 (total l)) None (Some (total l)))
-    (λ g. let is : s ≡ total l = omega (arith, f) in rw is (rw (le-ltb 20 (total l) (omega arith)) refl))
-    (λ g. rw (lt-ltb 20 (total l) (omega (arith, f))) refl)
+pub nothing-past : (l : List ℕ) (i : ℕ) → length l ≤ i → total (drop i l) ≡ 0
+unfolding total
+nothing-past l i h = ap total (drop_of_length-le l h)
 
--- what such a sum says
+-- what a sum that is at most 20, or none, says
 module _ {s : Option ℕ} (t : ℕ) (e : s ≡ cond (ltb 20 t) None (Some t)) where
   pub sum_is : (n : ℕ) → s ≡ Some n → (t ≡ n) × (n ≤ 20)
   sum_is n h = by-leb 21 t (λ b. cond b None (Some t) ≡ Some n → (t ≡ n) × (n ≤ 20)) (λ _ f. cc) (λ g f. let is : t ≡ n = cc in (is, omega arith)) (sym e ∙ h)

@@ -7,12 +7,18 @@ ghost use Rattle.partitions.specs.Inner.{can_init, greatest, has_next, next_of};
 
 use crate::factorials;
 
-// The sum of the parts, or none where it is greater than 20.
+// The sum of the parts, or none where it is greater than 20: the parts after that are not read, however many there are.
 pub fn total(list: &[usize]) -> Option<usize>
     ensures { result ≡ cond (ltb 20 (sum list.now)) None (Some (sum list.now)) }
 {
-    let sum = list.iter().fold(0usize, |sum, a| sum.saturating_add(*a));
-    (sum <= 20).then_some(sum)
+    let mut sum = 0usize;
+    for a in list {
+        sum = sum.saturating_add(*a);
+        if 20 < sum {
+            return None;
+        }
+    }
+    Some(sum)
 }
 
 // Whether the parts are positive and none is greater than the one before it, the first at most max.
