@@ -46,8 +46,6 @@ NUMBERLESS = {
     "roads::Jet::cut": "the same jet at another order",
     "derivatives::jets::Jet::order": "a jet's order, as it stands",
     "derivatives::jets::Jet::count": "a count, for `orders::fits`",
-    "derivatives::jets::Jet::read": "what a kind of jet says for itself; `jets::of_list` tests before it",
-    "derivatives::jets::Jet::write": "the same, for `jets::into_list`",
 }
 
 

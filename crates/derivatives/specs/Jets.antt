@@ -1,7 +1,7 @@
 -- What the tests before the work answer: the order at which it is done, or a refusal. Assumes nothing.
-use Rattle.std.specs.Prelude.{Bool, false, ◌&&◌, ◌||◌, ℕ, ◌-◌, min, ltb, eqb, Result, Ok, Err}
+use Rattle.std.specs.Prelude.{Bool, true, false, not, ◌&&◌, ◌||◌, ℕ, ◌-◌, min, ltb, eqb, List, length, Result, Ok, Err, ⊤}
 use Rattle.refusals.specs.declared.Refusal.{Refusal}
-use Rattle.calculus.specs.JetKind.{tested, above20}
+use Rattle.calculus.specs.JetKind.{JetKind, tested, above20}
 
 -- on one jet, of the order n, and its derivative's order; f tells whether the entries up to an order are finite
 abbrev pub one_at : ℕ → (ℕ → Bool) → Result ℕ Refusal
@@ -18,3 +18,9 @@ both_at m n f g =
 
 abbrev pub asked_at : ℕ → ℕ → ℕ → (ℕ → Bool) → (ℕ → Bool) → Result ℕ Refusal
 asked_at m n k f g = tested Err (above20 m n || ltb 20 k) (ltb (min m n) k) (f k && g k) (Ok k)
+
+-- a jet into a list, its entries as they stand
+abbrev pub copied_into : {X E J : Type 0} → JetKind X E J → J → List X → Result ⊤ Refusal × List X
+copied_into K a out =
+    let n = K.order a in
+    tested (λ (c : Refusal). (Err c, out)) (ltb 20 n) (not (eqb (length out) (K.count n))) true (Ok tt, K.list (K.numbers a) n)

@@ -1,5 +1,5 @@
 // Jets of curves.
-ghost use Rattle.std.specs.Prelude.{◌≡◌, ◌≤◌, refl, ℕ, List, length, Float, Result, ⊤};
+ghost use Rattle.std.specs.Prelude.{◌≡◌, refl, ℕ, List, Float, Result, ⊤};
 ghost use Rattle.refusals.specs.declared.Refusal.{Refusal};
 ghost use Rattle.calculus.specs.Kind.{regular};
 ghost use Rattle.calculus.specs.Curve.{derivative, sum as sums, difference as differences, product};
@@ -8,6 +8,7 @@ ghost use Rattle.formulas.specs.Real.{real};
 ghost use Rattle.derivatives.specs.Answer.{entry_at, curves, by_division};
 ghost use Rattle.calculus.specs.JetKind.{by_formula, differentiated, from_list, into_list, on_two};
 ghost use Rattle.derivatives.specs.Inner.{by_curve_entries};
+ghost use Rattle.derivatives.specs.Jets.{copied_into};
 
 use crate::jets::Jet;
 use crate::{CurveDerivatives, formula, jets};
@@ -34,18 +35,21 @@ impl Jet for CurveDerivatives {
     }
 
     // A list has one entry for each order.
-    fn read(n: usize, list: &[f64]) -> CurveDerivatives {
+    fn read(n: usize, list: &[f64]) -> Result<CurveDerivatives, Refusal> {
+        orders::fits(n, list.len(), CurveDerivatives::count(n))?;
         let mut entries = [0.0f64; 21];
         let k = list.len().min(21);
         entries[..k].copy_from_slice(&list[..k]);
-        CurveDerivatives { order: n, entries }
+        Ok(CurveDerivatives { order: n, entries })
     }
 
-    fn write(&self, out: &mut [f64])
-        ensures { (self.now.order ≤ 20) × (length out.old ≡ curves.count self.now.order) → out.new ≡ curves.list (curves.numbers self.now) self.now.order }
+    fn write(&self, out: &mut [f64]) -> Result<(), Refusal>
+        ensures { ◌≡◌ {A = Result ⊤ Refusal × List Float} (result, out.new) (copied_into curves self.now out.old) }
     {
+        orders::fits(self.order, out.len(), CurveDerivatives::count(self.order))?;
         let k = out.len().min(21);
         out[..k].copy_from_slice(&self.entries[..k]);
+        Ok(())
     }
 }
 

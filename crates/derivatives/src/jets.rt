@@ -1,10 +1,10 @@
 // What the kinds of jet share: the tests before the work, each answering the order at which it is done, and lists.
-ghost use Rattle.std.specs.Prelude.{◌≡◌, ◌≤◌, List, length, Float, cond, min, Result, Ok, Err, ⊤};
+ghost use Rattle.std.specs.Prelude.{◌≡◌, List, Float, cond, min, Result, Ok, Err, ⊤};
 ghost use Rattle.refusals.specs.declared.Refusal.{Refusal};
 ghost use Rattle.refusals.specs.declared.Refusal.TheVariants.{InputNotFinite};
 ghost use Rattle.calculus.specs.JetKind.{JetKind, finite_up_to, from_list, into_list, of_list, returned_jet};
 ghost use Rattle.formulas.specs.Numbers.{finite_list};
-ghost use Rattle.derivatives.specs.Jets.{one_at, less_at, both_at, asked_at};
+ghost use Rattle.derivatives.specs.Jets.{one_at, less_at, both_at, asked_at, copied_into};
 
 use refusals::Refusal;
 
@@ -25,16 +25,17 @@ pub trait Jet: Copy {
     fn is_finite(&self, n: usize) -> bool
         ensures { result ≡ finite_up_to kind self.now (min n 20) };
 
-    // How many floats a list of the order n has.
+    // How many floats a list of the order n has; above 20, how many one of the order 20 has.
     fn count(n: usize) -> usize
-        ensures { n ≤ 20 → result ≡ kind.count n };
+        ensures { result ≡ kind.count (min n 20) };
 
-    // The jet of such a list, and into one. With a list of another length nothing traps, and nothing is said.
-    fn read(n: usize, list: &[f64]) -> Self
-        ensures { (n ≤ 20) × (length list.now ≡ kind.count n) → result ≡ kind.made n (kind.in_list n list.now) };
+    // The jet of a list, and into one, whose floats are not tested: 1 where the order is above 20, and 2 where the count of floats is not that of the
+    // order.
+    fn read(n: usize, list: &[f64]) -> Result<Self, Refusal>
+        ensures { result ≡ of_list kind n list.now };
 
-    fn write(&self, out: &mut [f64])
-        ensures { (kind.order self.now ≤ 20) × (length out.old ≡ kind.count (kind.order self.now)) → out.new ≡ kind.list (kind.numbers self.now) (kind.order self.now) };
+    fn write(&self, out: &mut [f64]) -> Result<(), Refusal>
+        ensures { ◌≡◌ {A = Result ⊤ Refusal × List Float} (result, out.new) (copied_into kind self.now out.old) };
 }
 
 // One jet, at its order: 1 where that is above 20, and 5 where the jet is not finite.
@@ -106,13 +107,11 @@ pub fn finite_list(list: &[f64]) -> Result<(), Refusal>
     Ok(())
 }
 
-// The jet of a list whose floats are not tested: each function on jets tests those that it reads. 1 where the order is above 20, and 2 where the count
-// of floats is not that of the order.
+// The jet of a list whose floats are not tested: each function on jets tests those that it reads.
 pub fn of_list<J: Jet>(order: usize, list: &[f64]) -> Result<J, Refusal>
     ensures { result ≡ of_list J.kind order list.now }
 {
-    orders::fits(order, list.len(), J::count(order))?;
-    Ok(J::read(order, list))
+    J::read(order, list)
 }
 
 // The same, and 5 where a float is not finite.
@@ -130,6 +129,5 @@ pub fn into_list<J: Jet>(a: &J, out: &mut [f64]) -> Result<(), Refusal>
     let n = a.order();
     orders::fits(n, out.len(), J::count(n))?;
     one(a)?;
-    a.write(out);
-    Ok(())
+    a.write(out)
 }

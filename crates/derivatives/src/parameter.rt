@@ -1,8 +1,9 @@
 // Jets of curves in the parameters of a surface.
-ghost use Rattle.std.specs.Prelude.{◌≡◌, ◌≤◌, refl, ℕ, List, length, Float, Result, ⊤};
+ghost use Rattle.std.specs.Prelude.{◌≡◌, refl, ℕ, List, Float, Result, ⊤};
 ghost use Rattle.refusals.specs.declared.Refusal.{Refusal};
 ghost use Rattle.calculus.specs.JetKind.{from_list, into_list};
 ghost use Rattle.derivatives.specs.Answer.{parameters};
+ghost use Rattle.derivatives.specs.Jets.{copied_into};
 
 use crate::jets::Jet;
 use crate::{ParameterCurve, jets};
@@ -29,15 +30,18 @@ impl Jet for ParameterCurve {
     }
 
     // In a list u and v stand side by side.
-    fn read(n: usize, list: &[f64]) -> ParameterCurve {
+    fn read(n: usize, list: &[f64]) -> Result<ParameterCurve, Refusal> {
+        orders::fits(n, list.len(), ParameterCurve::count(n))?;
         let (u, v) = places::pairs_read(list, n, 0.0);
-        ParameterCurve { order: n, u, v }
+        Ok(ParameterCurve { order: n, u, v })
     }
 
-    fn write(&self, out: &mut [f64])
-        ensures { (self.now.order ≤ 20) × (length out.old ≡ parameters.count self.now.order) → out.new ≡ parameters.list (parameters.numbers self.now) self.now.order }
+    fn write(&self, out: &mut [f64]) -> Result<(), Refusal>
+        ensures { ◌≡◌ {A = Result ⊤ Refusal × List Float} (result, out.new) (copied_into parameters self.now out.old) }
     {
+        orders::fits(self.order, out.len(), ParameterCurve::count(self.order))?;
         places::pairs_write(&self.u, &self.v, self.order, 0.0, out);
+        Ok(())
     }
 }
 

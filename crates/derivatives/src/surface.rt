@@ -1,5 +1,5 @@
 // Jets of surfaces.
-ghost use Rattle.std.specs.Prelude.{◌≡◌, ◌≤◌, refl, ℕ, List, length, ◌+◌, Float, Result, ⊤};
+ghost use Rattle.std.specs.Prelude.{◌≡◌, refl, ℕ, List, ◌+◌, Float, Result, ⊤};
 ghost use Rattle.refusals.specs.declared.Refusal.{Refusal};
 ghost use Rattle.calculus.specs.Kind.{regular};
 ghost use Rattle.calculus.specs.Surface.{derivative_u, derivative_v, sum as sums, difference as differences, product};
@@ -7,6 +7,7 @@ ghost use Rattle.calculus.specs.Rational.{surface_rational};
 ghost use Rattle.formulas.specs.Real.{real};
 ghost use Rattle.derivatives.specs.Answer.{surfaces, entry_at, by_division};
 ghost use Rattle.derivatives.specs.Inner.{by_surface_entries};
+ghost use Rattle.derivatives.specs.Jets.{copied_into};
 ghost use Rattle.calculus.specs.JetKind.{by_formula, differentiated, from_list, into_list, on_two};
 
 use crate::jets::Jet;
@@ -30,21 +31,24 @@ impl Jet for SurfaceDerivatives {
     }
 
     fn count(n: usize) -> usize {
-        calculus::surface_count(n)
+        calculus::surface_count(n.min(20))
     }
 
     // In a list [i][j] stands by i rising, then j.
-    fn read(n: usize, list: &[f64]) -> SurfaceDerivatives {
-        SurfaceDerivatives {
+    fn read(n: usize, list: &[f64]) -> Result<SurfaceDerivatives, Refusal> {
+        orders::fits(n, list.len(), SurfaceDerivatives::count(n))?;
+        Ok(SurfaceDerivatives {
             order: n,
             entries: places::surface_read(list, n, 0.0),
-        }
+        })
     }
 
-    fn write(&self, out: &mut [f64])
-        ensures { (self.now.order ≤ 20) × (length out.old ≡ surfaces.count self.now.order) → out.new ≡ surfaces.list (surfaces.numbers self.now) self.now.order }
+    fn write(&self, out: &mut [f64]) -> Result<(), Refusal>
+        ensures { ◌≡◌ {A = Result ⊤ Refusal × List Float} (result, out.new) (copied_into surfaces self.now out.old) }
     {
+        orders::fits(self.order, out.len(), SurfaceDerivatives::count(self.order))?;
         places::surface_write(&self.entries, self.order, 0.0, out);
+        Ok(())
     }
 }
 

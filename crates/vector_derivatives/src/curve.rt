@@ -1,5 +1,5 @@
 // Jets of curves of vectors.
-ghost use Rattle.std.specs.Prelude.{◌≡◌, ◌≤◌, refl, ℕ, List, length, Float, Result, ⊤};
+ghost use Rattle.std.specs.Prelude.{◌≡◌, refl, ℕ, List, Float, Result, ⊤};
 ghost use Rattle.refusals.specs.declared.Refusal.{Refusal};
 ghost use Rattle.ieee_vectors.specs.declared.Vector3.{Vector3};
 ghost use Rattle.ieee_vectors.specs.Vectors.{quotient, multiple, dot, cross};
@@ -11,6 +11,7 @@ ghost use Rattle.vector_formulas.specs.Vector.{vectors, vector_norm};
 ghost use Rattle.vector_derivatives.specs.Inner.{by_vector_entries, by_weighted_entries};
 ghost use Rattle.vector_derivatives.specs.Answer.{vector_entry_at, by_norm, vector_curves};
 ghost use Rattle.derivatives.specs.Answer.{entry_at, curves, by_division};
+ghost use Rattle.derivatives.specs.Jets.{copied_into};
 ghost use Rattle.calculus.specs.JetKind.{by_formula, differentiated, from_list, into_list, on_two};
 
 use crate::{VectorCurveDerivatives, formula};
@@ -40,18 +41,25 @@ impl Jet for VectorCurveDerivatives {
     }
 
     // A list has x, y and z of each order.
-    fn read(n: usize, list: &[f64]) -> VectorCurveDerivatives {
-        VectorCurveDerivatives {
+    fn read(n: usize, list: &[f64]) -> Result<VectorCurveDerivatives, Refusal> {
+        orders::fits(n, list.len(), VectorCurveDerivatives::count(n))?;
+        Ok(VectorCurveDerivatives {
             order: n,
             entries: vector_formulas::read(list, n),
-        }
+        })
     }
 
-    fn write(&self, out: &mut [f64])
-        ensures { (self.now.order ≤ 20) × (length out.old ≡ vector_curves.count self.now.order) → out.new ≡ vector_curves.list (vector_curves.numbers self.now) self.now.order }
+    fn write(&self, out: &mut [f64]) -> Result<(), Refusal>
+        ensures { ◌≡◌ {A = Result ⊤ Refusal × List Float} (result, out.new) (copied_into vector_curves self.now out.old) }
     {
+        orders::fits(
+            self.order,
+            out.len(),
+            VectorCurveDerivatives::count(self.order),
+        )?;
         let k = out.len().min(63);
         out[..k].copy_from_slice(&self.entries[..k]);
+        Ok(())
     }
 }
 

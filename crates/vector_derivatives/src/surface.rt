@@ -13,6 +13,7 @@ ghost use Rattle.vector_derivatives.specs.Inner.{by_vector_surface_entries, by_s
 ghost use Rattle.vector_surface_formulas.specs.Formulas.{vector_surface_norm};
 ghost use Rattle.vector_derivatives.specs.Answer.{vector_entry_at, by_norm, vector_surfaces};
 ghost use Rattle.derivatives.specs.Answer.{surfaces, entry_at, by_division};
+ghost use Rattle.derivatives.specs.Jets.{copied_into};
 ghost use Rattle.calculus.specs.JetKind.{by_formula, differentiated, from_list, into_list, on_two};
 
 use crate::{VectorSurfaceDerivatives, formula};
@@ -38,34 +39,29 @@ impl Jet for VectorSurfaceDerivatives {
     }
 
     fn count(n: usize) -> usize {
-        count(n)
+        3 * calculus::surface_count(n.min(20))
     }
 
     // In a list [i][j] stands by i rising, then j, with x, y and z of each.
-    fn read(n: usize, list: &[f64]) -> VectorSurfaceDerivatives {
-        VectorSurfaceDerivatives {
+    fn read(n: usize, list: &[f64]) -> Result<VectorSurfaceDerivatives, Refusal> {
+        orders::fits(n, list.len(), VectorSurfaceDerivatives::count(n))?;
+        Ok(VectorSurfaceDerivatives {
             order: n,
             entries: array(n.min(20), list),
-        }
+        })
     }
 
-    fn write(&self, out: &mut [f64])
-        ensures { (self.now.order ≤ 20) × (length out.old ≡ vector_surfaces.count self.now.order) → out.new ≡ vector_surfaces.list (vector_surfaces.numbers self.now) self.now.order }
+    fn write(&self, out: &mut [f64]) -> Result<(), Refusal>
+        ensures { ◌≡◌ {A = Result ⊤ Refusal × List Float} (result, out.new) (copied_into vector_surfaces self.now out.old) }
     {
-        if orders::fits(self.order, out.len(), count(self.order)).is_ok() {
-            written(self, out);
-        }
+        orders::fits(
+            self.order,
+            out.len(),
+            VectorSurfaceDerivatives::count(self.order),
+        )?;
+        written(self, out);
+        Ok(())
     }
-}
-
-// How many floats a list of the order n has: none where the order is above 20.
-fn count(n: usize) -> usize
-    ensures { result ≡ cond (ltb 20 n) 0 (vector_surfaces.count n) }
-{
-    if 20 < n {
-        return 0;
-    }
-    3 * calculus::surface_count(n)
 }
 
 // The array of a surface's list.

@@ -1,15 +1,21 @@
 -- A curve's entries are written: they are copied. Assumes nothing.
-use Rattle.std.proofs.Common.{◌≡◌, ℕ, suc, ◌*◌, take, drop, ◌++◌, ap, ◌∙◌, arith}
+use Rattle.std.proofs.Common.{◌≡◌, List, Float, ℕ, suc, ◌*◌, length, ltb, eqb, take, drop, ◌++◌, Ok, ap, sym, ◌∙◌, arith, ltb-false, eqb-true, eq-eqb}
+use Rattle.calculus.proofs.Passed.{fitting}
 use Rattle.formulas.specs.Numbers.{curve_numbers}
 use Rattle.vector_formulas.proofs.Vectors.{flat-listed}
 use Rattle.derivatives.proofs.Listed.{listed-over}
 use Rattle.vector_derivatives.proofs.curve.VectorCurveDerivativesJet.write.Goals as goal
 
 pub returns : goal.returns
-returns c h =
+returns c =
     let s = c.args.self.now in
+    let n = s.order in
     let out = c.args.out.now in
-    let e : c.min-k.result ≡ 3 * suc s.order = c.min-k.ensures ∙ omega (arith, h.0, h.1) in
-    rw c.copy_from_slice.ensures.after
-    (ap (λ (k : ℕ). take k s.entries ++ drop k out) e ∙ listed-over (3 * suc s.order) s.entries out (omega (arith, h.0)) h.1
-    ∙ flat-listed (curve_numbers s.entries) 0 (suc s.order))
+    let t = fitting (ltb 20 n) (eqb (length out) c.count.result) (sym c.fits.ensures ∙ c.in_ok-fits.was) in
+    let b = ltb-false 20 n t.0 in
+    let e : length out ≡ 3 * suc n = omega (arith, b, eqb-true (length out) c.count.result t.1, c.count.ensures) in
+    let k : c.min-k.result ≡ 3 * suc n = omega (arith, b, e, c.min-k.ensures) in
+    rw (c.copy_from_slice.ensures.after, t.0, eq-eqb (length out) (3 * suc n) e)
+    (ap (λ (x : List Float). (Ok tt, x)) (ap (λ (k : ℕ). take k s.entries ++ drop k out) k
+    ∙ listed-over (3 * suc n) s.entries out (omega (arith, b)) e
+    ∙ flat-listed (curve_numbers s.entries) 0 (suc n)))
