@@ -50,7 +50,7 @@
    THREADS. No call keeps anything from one to the next, so any number of threads may call at once, each with outputs of its own.
 
    STACK. No call was seen to take more than this, in bytes, of archives that rattle-kit-13f built (in brackets: the kit before; bench/stack.c measures it): partials of the fillet
-   130,000; centre and contacts 120,000; recipes and roads 120,000 (92,000); jets of vectors 82,000 (70,000); exact jets 24,000; jets of floats 26,000 (22,000); axis and
+   130,000; centre and contacts 120,000; recipes and roads 102,000 (92,000); jets of vectors 82,000 (70,000); exact jets 24,000; jets of floats 26,000 (22,000); axis and
    angle 20,000; partials of given jets 20,000; the rest 4,000 or less. */
 #ifndef SUGAMDELY_H
 #define SUGAMDELY_H

@@ -12,6 +12,9 @@ use refusals::Refusal;
 pub trait Jet: Copy {
     ghost kind: { RecipeKind Self };
 
+    // In the places of a recipe that no jet has come to. A constant: sixteen copies of a jet would stand on the stack twice.
+    const ZERO: Self;
+
     fn order(&self) -> usize
         ensures { result ≡ kind.order self.now };
 
@@ -29,6 +32,11 @@ pub trait Jet: Copy {
 
 impl Jet for CurveDerivatives {
     ghost kind = { curve_steps };
+
+    const ZERO: CurveDerivatives = CurveDerivatives {
+        order: 0,
+        entries: [0; 21],
+    };
 
     ghost small = { Prim.search rules };
 
@@ -56,6 +64,11 @@ impl Jet for CurveDerivatives {
 
 impl Jet for SurfaceDerivatives {
     ghost kind = { surface_steps };
+
+    const ZERO: SurfaceDerivatives = SurfaceDerivatives {
+        order: 0,
+        entries: [0; 231],
+    };
 
     ghost small = { Prim.search rules };
 

@@ -14,10 +14,10 @@ fn orders<J: Jet>(jets: &[J; 4]) -> [usize; 4]
 
 // The jets given, at the order of work.
 fn cut<J: Jet>(given: &[J], order: usize) -> [J; 16]
-    requires { (0 < length given.now) × (length given.now ≤ 4) }
+    requires { length given.now ≤ 4 }
     ensures { (i : ℕ) → i < length given.now → get_or result i J.kind.blank ≡ J.kind.cut order (get_or given.now i J.kind.blank) }
 {
-    let mut jet_of = [given[0]; 16];
+    let mut jet_of = [J::ZERO; 16];
     for (i, jet) in given.iter().enumerate() {
         jet_of[i] = jet.cut(order);
     }
@@ -25,11 +25,10 @@ fn cut<J: Jet>(given: &[J], order: usize) -> [J; 16]
 }
 
 // The steps in turn, on the jets by their numbers; the last number's jet is the result.
-fn work<J: Jet>(start: [J; 16], inputs: usize, program: &[Step]) -> Result<J, Refusal>
+fn work<J: Jet>(mut jet_of: [J; 16], inputs: usize, program: &[Step]) -> Result<J, Refusal>
     requires { (0 < inputs) × (inputs ≤ 4) × (length program.now ≤ 12) × (names_earlier inputs program.now ≡ true) }
-    ensures { result ≡ worked J.kind (λ i. get_or start i J.kind.blank) inputs program.now }
+    ensures { result ≡ worked J.kind (λ i. get_or jet_of i J.kind.blank) inputs program.now }
 {
-    let mut jet_of = start;
     for (i, step) in program.iter().enumerate() {
         let jet = J::apply(step.operation, jet_of[step.left], jet_of[step.right])?;
         jet_of[inputs + i] = jet;
