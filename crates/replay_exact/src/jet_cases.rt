@@ -110,7 +110,7 @@ pub fn next_case<I: Read>(input: &mut I) -> bool {
         35 => into_list(input, |i, out| next_surface(i).into_list(out)),
         36 => into_list(input, |i, out| next_parameter(i).into_list(out)),
         41 => recipes::of_curves(input),
-        42 => recipes::both_roads(input),
-        _ => false,
+        // 42, or any other.
+        _ => recipes::both_roads(input),
     }
 }

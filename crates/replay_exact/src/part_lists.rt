@@ -1,6 +1,6 @@
 // Part lists. The operation's number stands here alone, beside its function's name.
 use capi_exact::part_lists;
-use replay_text::{Call, Fill};
+use replay_text::{Call, Fill, same};
 
 // The walk is lent as it is given, and so is a list for the parts handed out.
 pub fn walk_met(operation: u64, case: &Call<usize>) -> bool {
@@ -13,12 +13,13 @@ pub fn walk_met(operation: u64, case: &Call<usize>) -> bool {
         0xa01 => part_lists::sugamdely_walk_start(case.order(0), case.order(1), &mut walk[..n]),
         _ => part_lists::sugamdely_walk_next(&mut walk[..n], case.lent(1, &mut parts)),
     };
-    case.met(Some(number), case.holds(0, &walk) && case.holds(1, &parts))
+    let walked = same(&walk[..n], case.held(0));
+    case.met(Some(number), walked && case.holds(1, &parts))
 }
 
 pub fn count(operation: u64, case: &Call<u64>, out: &mut [u64]) -> Option<u8> {
-    let order = case.order(0);
-    let len = case.order(1);
+    let order = case.size_at(0, 0);
+    let len = case.size_at(0, 1);
     Some(match operation {
         0xa03 => part_lists::sugamdely_multiplicity(case.sizes(0), out),
         0xa04 => part_lists::sugamdely_factorial(order, out),

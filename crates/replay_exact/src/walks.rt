@@ -70,12 +70,15 @@ fn walk_case(input: &mut impl Read) -> bool {
     let (_, mut walk) = numbered(CompositionIter::try_new(order, len), NO_WALK);
     let mut other = walk;
     let lists: usize = next(input);
+    if 100 < lists {
+        return false;
+    }
     let mut all = true;
-    for _ in 0..lists.min(100) {
+    for _ in 0..lists {
         let list: [usize; 20] = next_array(input);
         let by_value = CompositionIter::step(walk);
         let by_loan = lent(other);
-        let count = partitions::multiplicity(&list[..len.min(20)]);
+        let count = partitions::multiplicity(list.get(..len).unwrap_or(&[]));
         all &= handed_out(by_value.item, &list) && handed_out(by_loan.item, &list);
         all &= number_met(input, count);
         walk = by_value.walk;
@@ -125,7 +128,8 @@ pub fn next_case(input: &mut impl Read) -> bool {
         3 => record_case(input),
         4 => multiplicity_case(input),
         5 => factorial_case(input),
-        6 => stirling_case(input),
-        _ => total_case(input),
+        7 => total_case(input),
+        // 6, or any other.
+        _ => stirling_case(input),
     }
 }

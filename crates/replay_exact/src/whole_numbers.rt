@@ -4,8 +4,8 @@ use replay_text::Call;
 
 // The operation's number stands here alone, beside its function's name.
 pub fn call(operation: u64, case: &Call<i64>, out: &mut [i64]) -> Option<u8> {
-    let a = case.given_at(0, 0);
-    let b = case.given_at(0, 1);
+    let a = case.operand(0);
+    let b = case.operand(1);
     Some(match operation {
         0x901 => whole_numbers::sugamdely_whole_sum(a, b, out),
         0x902 => whole_numbers::sugamdely_whole_difference(a, b, out),

@@ -1,9 +1,9 @@
 // Fillets whose shape is known in closed form: what is answered lies within a tolerance of what is wanted.
-use crate::inputs::{next_circle, next_fillet};
+use crate::inputs::{NO_VECTOR_CURVE, next_circle, next_fillet};
 use derivatives::ParameterCurve;
 use ieee_vectors::Vector3;
 use refusals::Refusal;
-use replay_text::{met, next, next_array, refusal_met};
+use replay_text::{met, next, next_array, numbered, refusal_met};
 use rolling_ball_fillet::CenterContactDers;
 use std::io::Read;
 use vector_derivatives::VectorCurveDerivatives;
@@ -34,16 +34,28 @@ fn near_contacts(input: &mut impl Read, ders: CenterContactDers, tolerance: f64)
         & near_parameters(input, ders.uv1_ders, tolerance)
 }
 
-// No case wants a refusal: where one is answered, the cases after this one are read out of step and differ too.
+const NO_PARAMETER: ParameterCurve = ParameterCurve {
+    order: 0,
+    u: [0.0; 21],
+    v: [0.0; 21],
+};
+
+const NO_CONTACTS: CenterContactDers = CenterContactDers {
+    center_ders: NO_VECTOR_CURVE,
+    contact0_ders: NO_VECTOR_CURVE,
+    contact1_ders: NO_VECTOR_CURVE,
+    uv0_ders: NO_PARAMETER,
+    uv1_ders: NO_PARAMETER,
+};
+
+// A refusal stands beside zero jets of order 0.
 fn contacts_case(input: &mut impl Read) -> bool {
     let tolerance = next(input);
     let n = next(input);
     let circle = next_circle(input);
     let fillet = next_fillet(input);
-    match fillet.and_then(|f| f.sub_center_contacts_ders(circle, n)) {
-        Ok(ders) => refusal_met(input, 0) & near_contacts(input, ders, tolerance),
-        Err(_) => false,
-    }
+    let (number, ders) = numbered(fillet.sub_center_contacts_ders(circle, n), NO_CONTACTS);
+    refusal_met(input, number) & near_contacts(input, ders, tolerance)
 }
 
 fn near_vector(input: &mut impl Read, answer: Result<Vector3, Refusal>, tolerance: f64) -> bool {
@@ -63,7 +75,7 @@ fn partial_case(input: &mut impl Read) -> bool {
     let c = next(input);
     let circle = next_circle(input);
     let fillet = next_fillet(input);
-    let answer = fillet.and_then(|f| f.sub_der_mn(m, n, u, circle, angle, s, c));
+    let answer = fillet.sub_der_mn(m, n, u, circle, angle, s, c);
     near_vector(input, answer, tolerance)
 }
 

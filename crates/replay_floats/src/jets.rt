@@ -122,10 +122,10 @@ pub fn next_case<I: Read>(input: &mut I) -> bool {
             input,
             |i, a, c, m| number_met(i, a.composite_derivative(c, m)),
         ),
-        22 => along(
+        // 22, or any other.
+        _ => along(
             input,
             |i, a, c, m| curve_met(i, a.composite_derivatives(c, m)),
         ),
-        _ => false,
     }
 }

@@ -6,22 +6,33 @@ use std::io::Read;
 pub trait Fill: Word {
     // In each place before the call, and still there after a refusal.
     const FILL: Self;
+
+    // Room for the members of a call's lists, those given and those lent.
+    const MOST: usize;
 }
 
 impl Fill for u64 {
     const FILL: u64 = 1234;
+
+    const MOST: usize = 64;
 }
 
 impl Fill for usize {
     const FILL: usize = 1234;
+
+    const MOST: usize = 64;
 }
 
 impl Fill for i64 {
     const FILL: i64 = 1234;
+
+    const MOST: usize = 2048;
 }
 
 impl Fill for f64 {
     const FILL: f64 = 1234.5;
+
+    const MOST: usize = 2048;
 }
 
 // Up to 11 lists after each other, in N places: the list at i stands from ends[i] to ends[i + 1].
@@ -32,16 +43,24 @@ pub struct Lists<T, const N: usize> {
 }
 
 impl<T: Word, const N: usize> Lists<T, N> {
-    // How many lists there are, and these.
+    // How many lists there are, and these. A twelfth is read after them, and is none of them.
     pub fn next(input: &mut impl Read) -> Self {
+        Lists::next_within(input, N)
+    }
+
+    // The same, in the first `most` of the places.
+    fn next_within(input: &mut impl Read, most: usize) -> Self {
         let mut members = [T::of_word(0); N];
         let mut ends = [0usize; 12];
-        let places = &mut members[..];
+        let places = &mut members[..most.min(N)];
         let mut at = 0usize;
-        let n = 11usize.min(next(input));
-        for end in ends[1..=n].iter_mut() {
+        let n: usize = next(input);
+        for end in ends[1..=n.min(11)].iter_mut() {
             at += next_list(input, &mut places[at..]);
             *end = at;
+        }
+        if 11 < n {
+            next_list(input, &mut places[at..]);
         }
         Lists { members, ends }
     }
@@ -60,7 +79,15 @@ impl<T: Word, const N: usize> Lists<T, N> {
     pub fn member(&self, i: usize, k: usize) -> T {
         self.list(i).get(k).copied().unwrap_or(T::of_word(0))
     }
+
+    // The member at k of all that was read, one list after the other; 0 where there is none.
+    pub fn member_of_all(&self, k: usize) -> T {
+        self.members.get(k).copied().unwrap_or(T::of_word(0))
+    }
 }
+
+// Met where no operation has the number of a call.
+const UNKNOWN: u8 = 255;
 
 // How a call is to end.
 #[derive(Clone, Copy)]
@@ -80,8 +107,8 @@ impl From<u64> for Wanted {
     }
 }
 
-// A call as a case gives it: how it is to end, lists of sizes (the first has the orders), the lists given, and what the lists lent for the answer hold
-// at the end.
+// A call as a case gives it: how it is to end, lists of sizes (the orders come first in them), the lists given, and what the lists lent for the answer
+// hold at the end.
 #[derive(Drop)]
 pub struct Call<T> {
     wanted: Wanted,
@@ -96,17 +123,22 @@ impl<T: Fill> Call<T> {
         Call {
             wanted: Wanted::from(w),
             sizes: Lists::next(input),
-            given: Lists::next(input),
-            held: Lists::next(input),
+            given: Lists::next_within(input, T::MOST),
+            held: Lists::next_within(input, T::MOST),
         }
     }
 
+    // Whichever list of sizes it stands in.
     pub fn order(&self, k: usize) -> usize {
-        self.sizes.member(0, k)
+        self.sizes.member_of_all(k)
     }
 
     pub fn sizes(&self, i: usize) -> &[usize] {
         self.sizes.list(i)
+    }
+
+    pub fn size_at(&self, i: usize, k: usize) -> usize {
+        self.sizes.member(i, k)
     }
 
     pub fn given(&self, i: usize) -> &[T] {
@@ -117,9 +149,22 @@ impl<T: Fill> Call<T> {
         self.given.member(i, k)
     }
 
-    // The places of a list lent for an answer that is to hold what the list at i does: as many as that has.
+    // A number given, whichever list it stands in.
+    pub fn operand(&self, k: usize) -> T {
+        self.given.member_of_all(k)
+    }
+
+    // What a list lent for the answer is to hold.
+    pub fn held(&self, i: usize) -> &[T] {
+        self.held.list(i)
+    }
+
+    // The places of a list lent for an answer that is to hold what the list at i does: as many as that has, and none where there are not so many.
     pub fn lent<'a>(&self, i: usize, places: &'a mut [T]) -> &'a mut [T] {
-        let n = places.len().min(self.held.list(i).len());
+        let n = self.held.list(i).len();
+        if places.len() < n {
+            return &mut places[..0];
+        }
         &mut places[..n]
     }
 
@@ -132,10 +177,10 @@ impl<T: Fill> Call<T> {
 
     // Whether the call ended as it was to: with this number, `None` where no operation is called so, and with the lists lent as they are to be, or not.
     pub fn met(&self, number: Option<u8>, held: bool) -> bool {
-        match (self.wanted, number) {
-            (Wanted::Answered, Some(n)) => n == 0,
-            (Wanted::Number(w), Some(n)) => u64::from(n) == w && held,
-            (_, None) => false,
+        let n = number.unwrap_or(UNKNOWN);
+        match self.wanted {
+            Wanted::Answered => n == 0,
+            Wanted::Number(w) => u64::from(n) == w && held,
         }
     }
 

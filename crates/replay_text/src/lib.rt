@@ -84,10 +84,22 @@ pub fn fill(input: &mut impl Read, out: &mut [u8]) -> usize
     at
 }
 
-// The number that the first 16 bytes of a word are; 0 where they are none.
+// The value of a hexadecimal digit; 0 of any other byte, a capital letter too.
+fn digit(byte: u8) -> u8 {
+    match byte {
+        b'0'..=b'9' => byte - b'0',
+        b'a'..=b'f' => byte - b'a' + 10,
+        _ => 0,
+    }
+}
+
+// The number whose digits the first 16 bytes of a word are. A word that the input's end cuts off keeps its digits in their places.
 fn number(word: &[u8; 17]) -> u64 {
-    let digits = str::from_utf8(&word[..16]).unwrap_or("");
-    u64::from_str_radix(digits, 16).unwrap_or(0)
+    let mut n = 0u64;
+    for byte in &word[..16] {
+        n = (n << 4) | u64::from(digit(*byte));
+    }
+    n
 }
 
 // The number in the next word of the input; that of the word 0 where there is none.
@@ -142,13 +154,17 @@ pub fn met<T: Word>(input: &mut impl Read, x: T) -> bool {
     wanted == x.word()
 }
 
-// Whether the next list of the input is l, with zeros past the members there.
+// Whether the next list of the input, of 256 members at most, begins with l, with zeros past the members there.
 pub fn list_met<T: Word>(input: &mut impl Read, l: &[T]) -> bool {
-    let n = l.len().min(next(input));
-    let (members, rest) = l.split_at(n);
+    let n = 256usize.min(next(input));
+    let (members, rest) = l.split_at(l.len().min(n));
     let mut same = true;
     for x in members {
-        same &= met(input, *x);
+        let wanted: T = next(input);
+        same &= wanted.word() == x.word();
+    }
+    for _ in members.len()..n {
+        let _past: u64 = next(input);
     }
     same & rest.iter().all(|x| x.word() == 0)
 }

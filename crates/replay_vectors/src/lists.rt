@@ -90,17 +90,22 @@ fn all_are(l: &[f64], x: f64) -> bool {
     l.iter().all(|y| *y == x)
 }
 
+// How many of 800 places are handed over where a case says so many: none where there are not so many.
+fn places(count: usize) -> usize {
+    if 800 < count { 0 } else { count }
+}
+
 // Before the call each place holds 7, and so it stays past the list lent.
 fn lent_case(input: &mut impl Read, kind: Kind, order: usize, count: usize, at: usize) -> bool {
     let mut l = [7.0f64; 800];
-    let (lent, rest) = l.split_at_mut(count.min(800));
+    let (lent, rest) = l.split_at_mut(places(count));
     let answer = into_list(kind, order, at, lent);
     refusal_met(input, number_of(answer)) & all_are(lent, next(input)) & all_are(rest, 7.0)
 }
 
 fn given_case(input: &mut impl Read, kind: Kind, order: usize, count: usize, at: usize) -> bool {
     let list: [f64; 800] = spoilt(at);
-    let answer = from_list(kind, order, &list[..count.min(800)]);
+    let answer = from_list(kind, order, &list[..places(count)]);
     refusal_met(input, number_of(answer))
 }
 
