@@ -1,9 +1,9 @@
 -- `given::first` meets its contract. Assumes nothing.
-use Rattle.std.proofs.Common.{◌≡◌, false, ap, sym, ◌∙◌, min, eqb, arith}
+use Rattle.std.proofs.Common.{◌≡◌, false, sym, ◌∙◌, min, eqb, arith}
 use borrow.Author.Tests.{ne_eqb}
 use Rattle.refusals.specs.declared.Refusal.{Refusal}
 use Rattle.refusals.specs.Number.{number}
-use Rattle.refusals.proofs.Numbers.{number-pos, number-min}
+use Rattle.refusals.proofs.Numbers.{number-pos}
 use Rattle.given.specs.Given.{first}
 use Rattle.given.proofs.first.Goals.{in_default-via-in-Err+in_default, in_default-via-in_default}
 use Rattle.given.proofs.first.Goals as goal
@@ -16,10 +16,17 @@ two : (x y : Refusal) → first (number x) (number y) ≡ min (number x) (number
 unfolding first
 two x y = rw (not_0 x, not_0 y)
 
-pub returns-in-Err-Err : goal.returns-in-Err-Err
-returns-in-Err-Err c =
+pub returns-then-number : goal.returns-then-number
+returns-then-number c =
     let w = c.in-Err-Err in
-    ap number c.min.ensures ∙ number-min w.x w.y ∙ sym (rw (w.is-0, w.is-1) (two w.x w.y))
+    let m : number w.y ≡ min (number w.x) (number w.y) = omega (arith, c.if-number.true, c.number.ensures, c.number-in-Err-Err.ensures) in
+    rw (w.is-0, w.is-1) (m ∙ sym (two w.x w.y))
+
+pub returns-else-number : goal.returns-else-number
+returns-else-number c =
+    let w = c.in-Err-Err in
+    let m : number w.x ≡ min (number w.x) (number w.y) = omega (arith, c.if-number.false, c.number.ensures, c.number-in-Err-Err.ensures) in
+    rw (w.is-0, w.is-1) (m ∙ sym (two w.x w.y))
 
 pub returns-in_default : goal.returns-in_default
 unfolding first
