@@ -1,6 +1,8 @@
 // Jets of floats and of vectors from lists, and back into a list that is lent: each refusal, pairs of faults, and the orders 0, 1 and 20.
 // A case is five words: from a list (0) or into one (1); the kind of jet; its order; the list's length; the place of a float that is not finite.
 // Then the refusal, and what each place of the list lent holds after the call (tools/list_cases.py says what is wanted).
+ghost use Rattle.std.specs.Prelude.{◌≤◌};
+
 use derivatives::{CurveDerivatives, ParameterCurve, SurfaceDerivatives};
 use refusals::{Refusal, number_of};
 use replay_text::{next, refusal_met};
@@ -91,7 +93,9 @@ fn all_are(l: &[f64], x: f64) -> bool {
 }
 
 // How many of 800 places are handed over where a case says so many: none where there are not so many.
-fn places(count: usize) -> usize {
+fn places(count: usize) -> usize
+    ensures { result ≤ 800 }
+{
     if 800 < count { 0 } else { count }
 }
 
