@@ -12,12 +12,27 @@ fn call(operation: u64, case: &Call<i64>, out: &mut [i64]) -> Option<u8> {
     }
 }
 
+// Each kind of call by itself, so that a case does not clear the places of another kind's.
+fn next_walk(input: &mut impl Read, operation: u64) -> bool {
+    part_lists::walk_met(operation, Call::NONE.read(input))
+}
+
+fn next_count(input: &mut impl Read, operation: u64) -> bool {
+    Call::NONE
+        .read(input)
+        .answered(|case, out| part_lists::count(operation, case, out))
+}
+
+fn next_answer(input: &mut impl Read, operation: u64) -> bool {
+    Call::NONE
+        .read(input)
+        .answered(|case, out| call(operation, case, out))
+}
+
 pub fn next_case(input: &mut impl Read, operation: u64) -> bool {
     match operation {
-        0xa01..=0xa02 => part_lists::walk_met(operation, &Call::next(input)),
-        0xa03..=0xaff => {
-            Call::next(input).answered(|case, out| part_lists::count(operation, case, out))
-        }
-        _ => Call::next(input).answered(|case, out| call(operation, case, out)),
+        0xa01..=0xa02 => next_walk(input, operation),
+        0xa03..=0xaff => next_count(input, operation),
+        _ => next_answer(input, operation),
     }
 }

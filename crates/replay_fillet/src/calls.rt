@@ -151,10 +151,11 @@ fn info_met(case: &Call<f64>) -> bool {
 }
 
 pub fn next_case(input: &mut impl Read, operation: u64) -> bool {
-    let case = Call::next(input);
+    let mut places = Call::NONE;
+    let case = places.read(input);
     match operation {
-        0x608 => contacts_met(&case),
-        0x609 => info_met(&case),
-        _ => answer_met(operation, &case),
+        0x608 => contacts_met(case),
+        0x609 => info_met(case),
+        _ => answer_met(operation, case),
     }
 }

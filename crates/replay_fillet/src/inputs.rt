@@ -56,7 +56,8 @@ pub fn next_fillet(input: &mut impl Read) -> RollingBallFilletSurface {
     let normal0 = next_vector(input);
     let normal1 = next_vector(input);
     let order = next(input);
-    let jets: Lists<f64, 2048> = Lists::next(input);
+    let mut jets = Lists::<f64, 2048>::NONE;
+    jets.read(input);
     RollingBallFilletSurface {
         edge_curve: of_list(order, jets.list(0)).unwrap_or(NO_VECTOR_CURVE),
         surface0: of_list(order, jets.list(2)).unwrap_or(NO_VECTOR_SURFACE),

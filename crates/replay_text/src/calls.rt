@@ -43,26 +43,29 @@ pub struct Lists<T, const N: usize> {
 }
 
 impl<T: Word, const N: usize> Lists<T, N> {
-    // How many lists there are, and these. A twelfth is read after them, and is none of them.
-    pub fn next(input: &mut impl Read) -> Self {
-        Lists::next_within(input, N)
+    // None yet, to be read into: a record that is handed on when it is read is copied on its way, and these are large.
+    pub const NONE: Self = Lists {
+        members: [T::ZERO; N],
+        ends: [0; 12],
+    };
+
+    // Reads how many lists there are, and these, where none is read yet. A twelfth is read after them, and is none of them.
+    pub fn read(&mut self, input: &mut impl Read) {
+        self.read_within(input, N);
     }
 
     // The same, in the first `most` of the places.
-    fn next_within(input: &mut impl Read, most: usize) -> Self {
-        let mut members = [T::of_word(0); N];
-        let mut ends = [0usize; 12];
-        let places = &mut members[..most.min(N)];
+    fn read_within(&mut self, input: &mut impl Read, most: usize) {
+        let places = &mut self.members[..most.min(N)];
         let mut at = 0usize;
         let n: usize = next(input);
-        for end in ends[1..=n.min(11)].iter_mut() {
+        for end in self.ends[1..=n.min(11)].iter_mut() {
             at += next_list(input, &mut places[at..]);
             *end = at;
         }
         if 11 < n {
             next_list(input, &mut places[at..]);
         }
-        Lists { members, ends }
     }
 
     // The list at i; where there is none, the empty list.
@@ -77,12 +80,12 @@ impl<T: Word, const N: usize> Lists<T, N> {
 
     // The member at k of the list at i; 0 where there is none.
     pub fn member(&self, i: usize, k: usize) -> T {
-        self.list(i).get(k).copied().unwrap_or(T::of_word(0))
+        self.list(i).get(k).copied().unwrap_or(T::ZERO)
     }
 
     // The member at k of all that was read, one list after the other; 0 where there is none.
     pub fn member_of_all(&self, k: usize) -> T {
-        self.members.get(k).copied().unwrap_or(T::of_word(0))
+        self.members.get(k).copied().unwrap_or(T::ZERO)
     }
 }
 
@@ -118,14 +121,22 @@ pub struct Call<T> {
 }
 
 impl<T: Fill> Call<T> {
-    pub fn next(input: &mut impl Read) -> Self {
+    // None yet, to be read into.
+    pub const NONE: Self = Call {
+        wanted: Wanted::Answered,
+        sizes: Lists::NONE,
+        given: Lists::NONE,
+        held: Lists::NONE,
+    };
+
+    // Reads the next call of the input, where none is read yet.
+    pub fn read(&mut self, input: &mut impl Read) -> &Self {
         let w: u64 = next(input);
-        Call {
-            wanted: Wanted::from(w),
-            sizes: Lists::next(input),
-            given: Lists::next_within(input, T::MOST),
-            held: Lists::next_within(input, T::MOST),
-        }
+        self.wanted = Wanted::from(w);
+        self.sizes.read(input);
+        self.given.read_within(input, T::MOST);
+        self.held.read_within(input, T::MOST);
+        self
     }
 
     // Whichever list of sizes it stands in.

@@ -17,10 +17,17 @@ fn call(operation: u64, case: &Call<f64>, out: &mut [f64]) -> Option<u8> {
     }
 }
 
+// An operation of the C interface, which is lent one list. By itself, so that a case of another family does not clear the places of a call.
+fn next_answer(input: &mut impl Read, operation: u64) -> bool {
+    Call::NONE
+        .read(input)
+        .answered(|case, out| call(operation, case, out))
+}
+
 fn next_case(input: &mut impl Read, family: u64) -> bool {
     match family {
         1 => lists::next_case(input),
-        _ => Call::next(input).answered(|case, out| call(family, case, out)),
+        _ => next_answer(input, family),
     }
 }
 
