@@ -12,8 +12,9 @@ use refusals::Refusal;
 pub trait Jet: Copy {
     ghost kind: { RecipeKind Self };
 
-    // In the places of a recipe that no jet has come to. A constant: sixteen copies of a jet would stand on the stack twice.
-    const ZERO: Self;
+    // What a recipe's places hold before a jet is put there; it is not read. A kind that has none has copies of a jet there, which stand on the stack
+    // twice.
+    const ZERO: Option<Self> = None;
 
     fn order(&self) -> usize
         ensures { result ≡ kind.order self.now };
@@ -33,10 +34,10 @@ pub trait Jet: Copy {
 impl Jet for CurveDerivatives {
     ghost kind = { curve_steps };
 
-    const ZERO: CurveDerivatives = CurveDerivatives {
+    const ZERO: Option<CurveDerivatives> = Some(CurveDerivatives {
         order: 0,
         entries: [0; 21],
-    };
+    });
 
     ghost small = { Prim.search rules };
 
@@ -65,10 +66,10 @@ impl Jet for CurveDerivatives {
 impl Jet for SurfaceDerivatives {
     ghost kind = { surface_steps };
 
-    const ZERO: SurfaceDerivatives = SurfaceDerivatives {
+    const ZERO: Option<SurfaceDerivatives> = Some(SurfaceDerivatives {
         order: 0,
         entries: [0; 231],
-    };
+    });
 
     ghost small = { Prim.search rules };
 

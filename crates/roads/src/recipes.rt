@@ -14,10 +14,13 @@ fn orders<J: Jet>(jets: &[J; 4]) -> [usize; 4]
 
 // The jets given, at the order of work.
 fn cut<J: Jet>(given: &[J], order: usize) -> [J; 16]
-    requires { length given.now ≤ 4 }
+    requires { (0 < length given.now) × (length given.now ≤ 4) }
     ensures { (i : ℕ) → i < length given.now → get_or result i J.kind.blank ≡ J.kind.cut order (get_or given.now i J.kind.blank) }
 {
-    let mut jet_of = [J::ZERO; 16];
+    let mut jet_of = match J::ZERO {
+        Some(zero) => [zero; 16],
+        None => [given[0]; 16],
+    };
     for (i, jet) in given.iter().enumerate() {
         jet_of[i] = jet.cut(order);
     }
