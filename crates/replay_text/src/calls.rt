@@ -8,7 +8,7 @@ pub trait Fill: Word {
     const FILL: Self;
 
     // Room for the members of a call's lists, those given and those lent.
-    const MOST: usize;
+    const MOST: usize = 2048;
 }
 
 impl Fill for u64 {
@@ -25,14 +25,36 @@ impl Fill for usize {
 
 impl Fill for i64 {
     const FILL: i64 = 1234;
-
-    const MOST: usize = 2048;
 }
 
 impl Fill for f64 {
     const FILL: f64 = 1234.5;
+}
 
-    const MOST: usize = 2048;
+// A number whose zero is a constant, so that places that none is read into are one too.
+pub trait Zero: Word {
+    // What the word 0 holds.
+    const ZERO: Self;
+}
+
+impl Zero for u64 {
+    const ZERO: u64 = 0;
+}
+
+impl Zero for usize {
+    const ZERO: usize = 0;
+}
+
+impl Zero for i64 {
+    const ZERO: i64 = 0;
+}
+
+impl Zero for f64 {
+    const ZERO: f64 = 0.0;
+}
+
+impl Zero for bool {
+    const ZERO: bool = false;
 }
 
 // Up to 11 lists after each other, in N places: the list at i stands from ends[i] to ends[i + 1].
@@ -42,12 +64,24 @@ pub struct Lists<T, const N: usize> {
     ends: [usize; 12],
 }
 
-impl<T: Word, const N: usize> Lists<T, N> {
+impl<T: Zero, const N: usize> Lists<T, N> {
     // None yet, to be read into: a record that is handed on when it is read is copied on its way, and these are large.
     pub const NONE: Self = Lists {
         members: [T::ZERO; N],
         ends: [0; 12],
     };
+}
+
+impl<T: Word, const N: usize> Lists<T, N> {
+    // How many lists there are, and these. (`NONE.read` copies none of it.)
+    pub fn next(input: &mut impl Read) -> Self {
+        let mut lists = Lists {
+            members: [T::of_word(0); N],
+            ends: [0; 12],
+        };
+        lists.read(input);
+        lists
+    }
 
     // Reads how many lists there are, and these, where none is read yet. A twelfth is read after them, and is none of them.
     pub fn read(&mut self, input: &mut impl Read) {
@@ -80,12 +114,12 @@ impl<T: Word, const N: usize> Lists<T, N> {
 
     // The member at k of the list at i; 0 where there is none.
     pub fn member(&self, i: usize, k: usize) -> T {
-        self.list(i).get(k).copied().unwrap_or(T::ZERO)
+        self.list(i).get(k).copied().unwrap_or(T::of_word(0))
     }
 
     // The member at k of all that was read, one list after the other; 0 where there is none.
     pub fn member_of_all(&self, k: usize) -> T {
-        self.members.get(k).copied().unwrap_or(T::ZERO)
+        self.members.get(k).copied().unwrap_or(T::of_word(0))
     }
 }
 
@@ -120,7 +154,7 @@ pub struct Call<T> {
     held: Lists<T, 1024>,
 }
 
-impl<T: Fill> Call<T> {
+impl<T: Fill + Zero> Call<T> {
     // None yet, to be read into.
     pub const NONE: Self = Call {
         wanted: Wanted::Answered,
@@ -128,6 +162,19 @@ impl<T: Fill> Call<T> {
         given: Lists::NONE,
         held: Lists::NONE,
     };
+}
+
+impl<T: Fill> Call<T> {
+    // The next call of the input, with room for 2,048 members of the lists given and 1,024 of those lent. (`NONE.read` copies none of it.)
+    pub fn next(input: &mut impl Read) -> Self {
+        let w: u64 = next(input);
+        Call {
+            wanted: Wanted::from(w),
+            sizes: Lists::next(input),
+            given: Lists::next(input),
+            held: Lists::next(input),
+        }
+    }
 
     // Reads the next call of the input, where none is read yet.
     pub fn read(&mut self, input: &mut impl Read) -> &Self {

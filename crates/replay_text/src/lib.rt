@@ -8,23 +8,18 @@ ghost use Rattle.std.specs.Prelude.{◌≤◌, length};
 mod calls;
 mod groups;
 
-pub use calls::{Call, Fill, Lists};
+pub use calls::{Call, Fill, Lists, Zero};
 pub use groups::replay;
 use std::io::Read;
 
 // A number that stands in a word.
 pub trait Word: Copy {
-    // What the word 0 holds.
-    const ZERO: Self;
-
     fn of_word(w: u64) -> Self;
 
     fn word(self) -> u64;
 }
 
 impl Word for u64 {
-    const ZERO: u64 = 0;
-
     fn of_word(w: u64) -> u64 {
         w
     }
@@ -35,8 +30,6 @@ impl Word for u64 {
 }
 
 impl Word for usize {
-    const ZERO: usize = 0;
-
     fn of_word(w: u64) -> usize {
         w as usize
     }
@@ -48,8 +41,6 @@ impl Word for usize {
 
 // A negative number stands as 2^64 more.
 impl Word for i64 {
-    const ZERO: i64 = 0;
-
     fn of_word(w: u64) -> i64 {
         w.cast_signed()
     }
@@ -60,8 +51,6 @@ impl Word for i64 {
 }
 
 impl Word for f64 {
-    const ZERO: f64 = 0.0;
-
     fn of_word(w: u64) -> f64 {
         ieee::from_bits(w)
     }
@@ -72,8 +61,6 @@ impl Word for f64 {
 }
 
 impl Word for bool {
-    const ZERO: bool = false;
-
     fn of_word(w: u64) -> bool {
         w != 0
     }
@@ -135,7 +122,7 @@ pub fn next_list<T: Word>(input: &mut impl Read, l: &mut [T]) -> usize
 
 // A list of the input, with zeros past its members.
 pub fn next_array<T: Word, const N: usize>(input: &mut impl Read) -> [T; N] {
-    let mut l = [T::ZERO; N];
+    let mut l = [T::of_word(0); N];
     next_list(input, &mut l);
     l
 }
@@ -197,6 +184,6 @@ pub fn refusal_met(input: &mut impl Read, number: u8) -> bool {
 
 // Whether the next answer of the input is a number, or its refusal beside 0.
 pub fn number_met<T: Word, E: Into<u8>>(input: &mut impl Read, answer: Result<T, E>) -> bool {
-    let (number, x) = numbered(answer, T::ZERO);
+    let (number, x) = numbered(answer, T::of_word(0));
     refusal_met(input, number) & met(input, x)
 }
