@@ -2,8 +2,9 @@
 
     python3 tools/proved.py            writes the table of public functions and the count of definitions anew
     python3 tools/proved.py --check    exit code 1 if they are not those of the tree, if a reference in the page leads nowhere, if a public
-                                       function has a `requires` or no `ensures`, if a crate of entries answers without a number, or if an
-                                       archive's functions are not those of its library, clause for clause
+                                       function has a `requires` or no `ensures` or promises something on a condition alone, if a crate of
+                                       entries answers without a number, or if an archive's functions are not those of its library, clause for
+                                       clause
 
 A reference is `FILE` or `FILE: NAME` in backquotes, FILE from the repository's root: the file must be there, and declare the name.
 
@@ -32,7 +33,7 @@ ARITHMETIC = ["refusals", "calculus", "orders", "exact_formulas", "exact_carry",
               "rodrigues", "surface_info", "contacts", "partials"]
 BORDER_PARTS = ["given", "exact_lists", "fillet_lists"]  # what the crates of the border share
 REFUSING_NUMBERS = ["whole", "partitions", "part_counts"]  # entries that arithmetic may stand on: they refuse by what is formed, or are asked for their theorems alone
-NO_CODE = ["float_lists", "figures"]
+NOT_CALLED = ["float_lists", "figures", "callers"]  # theorems, or tests, alone
 
 # What the crates of entries expose beside answers, and why it has no number to give.
 NUMBERLESS = {
@@ -46,6 +47,8 @@ NUMBERLESS = {
     "roads::Jet::cut": "the same jet at another order",
     "derivatives::jets::Jet::order": "a jet's order, as it stands",
     "derivatives::jets::Jet::count": "a count, for `orders::fits`",
+    "derivatives::jets::Jet::read": "a jet, the zero jet where `try_read` refuses",
+    "derivatives::jets::Jet::write": "what `try_write` writes, which says what is refused",
 }
 
 
@@ -102,7 +105,7 @@ def clauses(head, kind):
 
 
 def public(crate):
-    """The public functions of a crate, as (name, file, definitions, has_requires, has_ensures)."""
+    """The public functions of a crate, as (name, file, definitions, has_requires, what it ensures)."""
     source = ROOT / "crates" / crate / "src"
     root = (source / "lib.rt").read_text()
     open_modules = set(re.findall(r"^pub mod (\w+);", root, re.M))
@@ -120,16 +123,48 @@ def public(crate):
             passed = passed_on & {f"{module}::{name}", f"{module}::{owner}"}
             if not (owner in open_types or exported or module == "lib" or module in open_modules or passed):
                 continue
-            ensures = "".join(clauses(head, "ensures"))
+            ensures = clauses(head, "ensures")
             cited = []
-            for word in re.findall(r"[\w'-]+(?:\.[\w'-]+)*", ensures):
+            for word in re.findall(r"[\w'-]+(?:\.[\w'-]+)*", "".join(ensures)):
                 first, _, rest = word.partition(".")
                 if first in names:
                     own, spec = names[first]
                     cited.append((own or rest, spec))
             full = "::".join(filter(None, [crate, module if module in open_modules else None, owner, name]))
             asks = [clause for clause in clauses(head, "requires") if not (crate == HANDED_FUNCTIONS and CALLABLE.fullmatch(clause))]
-            yield full, file, list(dict.fromkeys(cited)), bool(asks), bool(ensures.strip())
+            yield full, file, list(dict.fromkeys(cited)), bool(asks), [said for said in ensures if said.strip()]
+
+
+def outermost(clause, sign):
+    """A clause's parts between the signs that stand in no bracket."""
+    parts, depth = [""], 0
+    for c in clause:
+        depth += {"(": 1, "{": 1, ")": -1, "}": -1}.get(c, 0)
+        if c == sign and depth == 0:
+            parts.append("")
+        else:
+            parts[-1] += c
+    return [part.strip() for part in parts]
+
+
+def unbracketed(clause):
+    """A clause without the brackets that hold all of it."""
+    clause = clause.strip()
+    while clause.startswith("(") and outermost(clause, ")") == [clause[:-1].strip(), ""]:
+        clause = clause[1:-1].strip()
+    return clause
+
+
+def conditional(clause):
+    """Whether a clause, or one of those that it joins, says something only where something else holds. That it says it of any (x : T) is no condition."""
+    clause = unbracketed(clause)
+    joined = outermost(clause, "×")
+    if len(joined) > 1:
+        return any(conditional(part) for part in joined)
+    *before, said = outermost(clause, "→")
+    if any(not re.fullmatch(r"[({][^:(){}]+ : .*[)}]", part, re.S) for part in before):
+        return True
+    return bool(before) and conditional(said)
 
 
 def answers():
@@ -187,7 +222,7 @@ def archived():
 
 def layers():
     """Faults of the two lists of crates: one that stands in none, and arithmetic on top of entries that test what is handed in."""
-    known = ENTRIES + ARITHMETIC + BORDER + ARCHIVES + BORDER_PARTS + NO_CODE
+    known = ENTRIES + ARITHMETIC + BORDER + ARCHIVES + BORDER_PARTS + NOT_CALLED
     for crate in libraries():
         if known.count(crate) != 1:
             yield f"a crate that is neither entries nor arithmetic: {crate}"
@@ -318,6 +353,8 @@ def faults(page):
                 yield f"a public function with a requires: {name}"
             if not ensures:
                 yield f"a public function without an ensures: {name}"
+            if crate != HANDED_FUNCTIONS and any(conditional(said) for said in ensures):
+                yield f"a public function that promises something on a condition alone: {name}"
 
 
 def main():
@@ -333,7 +370,7 @@ def main():
         print("docs/PROVED.md: the table of public functions, or the count of definitions, is not that of the tree; run tools/proved.py")
         sys.exit(1)
     bad = list(faults(page))
-    print("\n".join(bad) if bad else "docs/PROVED.md: every reference leads somewhere, no public function has a requires or lacks an ensures, no entry answers without a number, and the archives say what their libraries say")
+    print("\n".join(bad) if bad else "docs/PROVED.md: every reference leads somewhere, no public function has a requires, lacks an ensures or promises on a condition alone, no entry answers without a number, and the archives say what their libraries say")
     sys.exit(1 if bad else 0)
 
 

@@ -35,7 +35,7 @@ impl Jet for CurveDerivatives {
     }
 
     // A list has one entry for each order.
-    fn read(n: usize, list: &[f64]) -> Result<CurveDerivatives, Refusal> {
+    fn try_read(n: usize, list: &[f64]) -> Result<CurveDerivatives, Refusal> {
         orders::fits(n, list.len(), CurveDerivatives::count(n))?;
         let mut entries = [0.0f64; 21];
         let k = list.len().min(21);
@@ -43,13 +43,26 @@ impl Jet for CurveDerivatives {
         Ok(CurveDerivatives { order: n, entries })
     }
 
-    fn write(&self, out: &mut [f64]) -> Result<(), Refusal>
+    fn try_write(&self, out: &mut [f64]) -> Result<(), Refusal>
         ensures { ◌≡◌ {A = Result ⊤ Refusal × List Float} (result, out.new) (copied_into curves self.now out.old) }
     {
         orders::fits(self.order, out.len(), CurveDerivatives::count(self.order))?;
         let k = out.len().min(21);
         out[..k].copy_from_slice(&self.entries[..k]);
         Ok(())
+    }
+
+    fn read(n: usize, list: &[f64]) -> CurveDerivatives {
+        CurveDerivatives::try_read(n, list).unwrap_or(CurveDerivatives {
+            order: 0,
+            entries: [0.0; 21],
+        })
+    }
+
+    fn write(&self, out: &mut [f64])
+        ensures { out.new ≡ (copied_into curves self.now out.old).1 }
+    {
+        let _ = self.try_write(out);
     }
 }
 

@@ -2,7 +2,7 @@
 ghost use Rattle.std.specs.Prelude.{◌≡◌, List, Float, cond, min, Result, Ok, Err, ⊤};
 ghost use Rattle.refusals.specs.declared.Refusal.{Refusal};
 ghost use Rattle.refusals.specs.declared.Refusal.TheVariants.{InputNotFinite};
-ghost use Rattle.calculus.specs.JetKind.{JetKind, finite_up_to, from_list, into_list, of_list, returned_jet};
+ghost use Rattle.calculus.specs.JetKind.{JetKind, finite_up_to, from_list, into_list, jet_of_list, of_list, returned_jet};
 ghost use Rattle.formulas.specs.Numbers.{finite_list};
 ghost use Rattle.derivatives.specs.Jets.{one_at, less_at, both_at, asked_at, copied_into};
 
@@ -31,11 +31,28 @@ pub trait Jet: Copy {
 
     // The jet of a list, and into one, whose floats are not tested: 1 where the order is above 20, and 2 where the count of floats is not that of the
     // order.
-    fn read(n: usize, list: &[f64]) -> Result<Self, Refusal>
-        ensures { result ≡ of_list kind n list.now };
+    fn try_read(n: usize, list: &[f64]) -> Result<Self, Refusal>
+        ensures { result ≡ of_list kind n list.now }
+    {
+        orders::fits(n, list.len(), Self::count(n))?;
+        Ok(Self::read(n, list))
+    }
 
-    fn write(&self, out: &mut [f64]) -> Result<(), Refusal>
-        ensures { ◌≡◌ {A = Result ⊤ Refusal × List Float} (result, out.new) (copied_into kind self.now out.old) };
+    fn try_write(&self, out: &mut [f64]) -> Result<(), Refusal>
+        ensures { ◌≡◌ {A = Result ⊤ Refusal × List Float} (result, out.new) (copied_into kind self.now out.old) }
+    {
+        let n = self.order();
+        orders::fits(n, out.len(), Self::count(n))?;
+        self.write(out);
+        Ok(())
+    }
+
+    // The same with no number to tell: where that would be 1 or 2, the zero jet of order 0, and nothing is written.
+    fn read(n: usize, list: &[f64]) -> Self
+        ensures { result ≡ jet_of_list kind n list.now };
+
+    fn write(&self, out: &mut [f64])
+        ensures { out.new ≡ (copied_into kind self.now out.old).1 };
 }
 
 // One jet, at its order: 1 where that is above 20, and 5 where the jet is not finite.
@@ -111,7 +128,7 @@ pub fn finite_list(list: &[f64]) -> Result<(), Refusal>
 pub fn of_list<J: Jet>(order: usize, list: &[f64]) -> Result<J, Refusal>
     ensures { result ≡ of_list J.kind order list.now }
 {
-    J::read(order, list)
+    J::try_read(order, list)
 }
 
 // The same, and 5 where a float is not finite.
@@ -129,5 +146,5 @@ pub fn into_list<J: Jet>(a: &J, out: &mut [f64]) -> Result<(), Refusal>
     let n = a.order();
     orders::fits(n, out.len(), J::count(n))?;
     one(a)?;
-    a.write(out)
+    a.try_write(out)
 }

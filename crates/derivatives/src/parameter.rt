@@ -30,18 +30,32 @@ impl Jet for ParameterCurve {
     }
 
     // In a list u and v stand side by side.
-    fn read(n: usize, list: &[f64]) -> Result<ParameterCurve, Refusal> {
+    fn try_read(n: usize, list: &[f64]) -> Result<ParameterCurve, Refusal> {
         orders::fits(n, list.len(), ParameterCurve::count(n))?;
         let (u, v) = places::pairs_read(list, n, 0.0);
         Ok(ParameterCurve { order: n, u, v })
     }
 
-    fn write(&self, out: &mut [f64]) -> Result<(), Refusal>
+    fn try_write(&self, out: &mut [f64]) -> Result<(), Refusal>
         ensures { ◌≡◌ {A = Result ⊤ Refusal × List Float} (result, out.new) (copied_into parameters self.now out.old) }
     {
         orders::fits(self.order, out.len(), ParameterCurve::count(self.order))?;
         places::pairs_write(&self.u, &self.v, self.order, 0.0, out);
         Ok(())
+    }
+
+    fn read(n: usize, list: &[f64]) -> ParameterCurve {
+        ParameterCurve::try_read(n, list).unwrap_or(ParameterCurve {
+            order: 0,
+            u: [0.0; 21],
+            v: [0.0; 21],
+        })
+    }
+
+    fn write(&self, out: &mut [f64])
+        ensures { out.new ≡ (copied_into parameters self.now out.old).1 }
+    {
+        let _ = self.try_write(out);
     }
 }
 

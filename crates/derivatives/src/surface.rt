@@ -35,7 +35,7 @@ impl Jet for SurfaceDerivatives {
     }
 
     // In a list [i][j] stands by i rising, then j.
-    fn read(n: usize, list: &[f64]) -> Result<SurfaceDerivatives, Refusal> {
+    fn try_read(n: usize, list: &[f64]) -> Result<SurfaceDerivatives, Refusal> {
         orders::fits(n, list.len(), SurfaceDerivatives::count(n))?;
         Ok(SurfaceDerivatives {
             order: n,
@@ -43,12 +43,25 @@ impl Jet for SurfaceDerivatives {
         })
     }
 
-    fn write(&self, out: &mut [f64]) -> Result<(), Refusal>
+    fn try_write(&self, out: &mut [f64]) -> Result<(), Refusal>
         ensures { ◌≡◌ {A = Result ⊤ Refusal × List Float} (result, out.new) (copied_into surfaces self.now out.old) }
     {
         orders::fits(self.order, out.len(), SurfaceDerivatives::count(self.order))?;
         places::surface_write(&self.entries, self.order, 0.0, out);
         Ok(())
+    }
+
+    fn read(n: usize, list: &[f64]) -> SurfaceDerivatives {
+        SurfaceDerivatives::try_read(n, list).unwrap_or(SurfaceDerivatives {
+            order: 0,
+            entries: [0.0; 231],
+        })
+    }
+
+    fn write(&self, out: &mut [f64])
+        ensures { out.new ≡ (copied_into surfaces self.now out.old).1 }
+    {
+        let _ = self.try_write(out);
     }
 }
 

@@ -41,7 +41,7 @@ impl Jet for VectorCurveDerivatives {
     }
 
     // A list has x, y and z of each order.
-    fn read(n: usize, list: &[f64]) -> Result<VectorCurveDerivatives, Refusal> {
+    fn try_read(n: usize, list: &[f64]) -> Result<VectorCurveDerivatives, Refusal> {
         orders::fits(n, list.len(), VectorCurveDerivatives::count(n))?;
         Ok(VectorCurveDerivatives {
             order: n,
@@ -49,7 +49,7 @@ impl Jet for VectorCurveDerivatives {
         })
     }
 
-    fn write(&self, out: &mut [f64]) -> Result<(), Refusal>
+    fn try_write(&self, out: &mut [f64]) -> Result<(), Refusal>
         ensures { ◌≡◌ {A = Result ⊤ Refusal × List Float} (result, out.new) (copied_into vector_curves self.now out.old) }
     {
         orders::fits(
@@ -60,6 +60,19 @@ impl Jet for VectorCurveDerivatives {
         let k = out.len().min(63);
         out[..k].copy_from_slice(&self.entries[..k]);
         Ok(())
+    }
+
+    fn read(n: usize, list: &[f64]) -> VectorCurveDerivatives {
+        VectorCurveDerivatives::try_read(n, list).unwrap_or(VectorCurveDerivatives {
+            order: 0,
+            entries: [0.0; 63],
+        })
+    }
+
+    fn write(&self, out: &mut [f64])
+        ensures { out.new ≡ (copied_into vector_curves self.now out.old).1 }
+    {
+        let _ = self.try_write(out);
     }
 }
 

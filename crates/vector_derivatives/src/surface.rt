@@ -43,7 +43,7 @@ impl Jet for VectorSurfaceDerivatives {
     }
 
     // In a list [i][j] stands by i rising, then j, with x, y and z of each.
-    fn read(n: usize, list: &[f64]) -> Result<VectorSurfaceDerivatives, Refusal> {
+    fn try_read(n: usize, list: &[f64]) -> Result<VectorSurfaceDerivatives, Refusal> {
         orders::fits(n, list.len(), VectorSurfaceDerivatives::count(n))?;
         Ok(VectorSurfaceDerivatives {
             order: n,
@@ -51,7 +51,7 @@ impl Jet for VectorSurfaceDerivatives {
         })
     }
 
-    fn write(&self, out: &mut [f64]) -> Result<(), Refusal>
+    fn try_write(&self, out: &mut [f64]) -> Result<(), Refusal>
         ensures { ◌≡◌ {A = Result ⊤ Refusal × List Float} (result, out.new) (copied_into vector_surfaces self.now out.old) }
     {
         orders::fits(
@@ -61,6 +61,19 @@ impl Jet for VectorSurfaceDerivatives {
         )?;
         written(self, out);
         Ok(())
+    }
+
+    fn read(n: usize, list: &[f64]) -> VectorSurfaceDerivatives {
+        VectorSurfaceDerivatives::try_read(n, list).unwrap_or(VectorSurfaceDerivatives {
+            order: 0,
+            entries: [0.0; 693],
+        })
+    }
+
+    fn write(&self, out: &mut [f64])
+        ensures { out.new ≡ (copied_into vector_surfaces self.now out.old).1 }
+    {
+        let _ = self.try_write(out);
     }
 }
 

@@ -2,7 +2,7 @@
 use Rattle.std.proofs.Common.{◌≡◌, List, Float, ℕ, suc, length, ltb, eqb, take, drop, ◌++◌, Ok, ap, sym, ◌∙◌, arith, ltb-false, eqb-true, eq-eqb}
 use Rattle.calculus.proofs.Passed.{fitting}
 use Rattle.derivatives.proofs.Listed.{listed-over}
-use Rattle.derivatives.proofs.curve.CurveDerivativesJet.write.Goals as goal
+use Rattle.derivatives.proofs.curve.CurveDerivativesJet.try_write.Goals as goal
 
 pub returns : goal.returns
 returns c =

@@ -9,7 +9,7 @@ use Rattle.calculus.proofs.LoopBlanks.{pairs-blanks}
 use Rattle.calculus.proofs.LoopPairs.{pairs-length}
 use Rattle.calculus.proofs.LoopWritten.{overwritten-whole}
 use Rattle.ieee_vectors.specs.Vectors.{positive_zero}
-use Rattle.derivatives.proofs.parameter.ParameterCurveJet.write.Goals as goal
+use Rattle.derivatives.proofs.parameter.ParameterCurveJet.try_write.Goals as goal
 
 pub returns : goal.returns
 returns c =

@@ -10,7 +10,7 @@ use Rattle.calculus.proofs.LoopBlanks.{even-blanks, odd-blanks}
 use Rattle.ieee_vectors.specs.Vectors.{positive_zero}
 use Rattle.derivatives.specs.Answer.{parameters}
 use Rattle.derivatives.specs.declared.ParameterCurve.{ParameterCurve}
-use Rattle.derivatives.proofs.parameter.ParameterCurveJet.read.Goals as goal
+use Rattle.derivatives.proofs.parameter.ParameterCurveJet.try_read.Goals as goal
 
 abbrev with : ℕ → List Float → List Float → Result ParameterCurve Refusal
 with n u v = Ok (record { order = n; u = u; v = v })

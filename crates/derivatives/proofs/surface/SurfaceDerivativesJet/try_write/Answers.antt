@@ -10,7 +10,7 @@ use Rattle.calculus.proofs.LoopBlanks.{entries-blanks}
 use Rattle.calculus.proofs.LoopWriting.{rows-length}
 use Rattle.calculus.proofs.LoopWritten.{overwritten-whole}
 use Rattle.ieee_vectors.specs.Vectors.{positive_zero}
-use Rattle.derivatives.proofs.surface.SurfaceDerivativesJet.write.Goals as goal
+use Rattle.derivatives.proofs.surface.SurfaceDerivativesJet.try_write.Goals as goal
 
 pub returns : goal.returns
 returns c =

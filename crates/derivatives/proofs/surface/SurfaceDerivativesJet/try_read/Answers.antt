@@ -12,7 +12,7 @@ use Rattle.calculus.proofs.LoopBlanks.{read-blanks}
 use Rattle.ieee_vectors.specs.Vectors.{positive_zero}
 use Rattle.derivatives.specs.Answer.{surfaces}
 use Rattle.derivatives.specs.declared.SurfaceDerivatives.{SurfaceDerivatives}
-use Rattle.derivatives.proofs.surface.SurfaceDerivativesJet.read.Goals as goal
+use Rattle.derivatives.proofs.surface.SurfaceDerivativesJet.try_read.Goals as goal
 
 abbrev with : ℕ → List Float → Result SurfaceDerivatives Refusal
 with n l = Ok (record { order = n; entries = l })

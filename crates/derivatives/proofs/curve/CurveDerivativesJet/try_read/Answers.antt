@@ -9,7 +9,7 @@ use Rattle.calculus.proofs.Passed.{fitting}
 use Rattle.calculus.proofs.Tested.{plain-is}
 use Rattle.derivatives.specs.Answer.{curves}
 use Rattle.derivatives.specs.declared.CurveDerivatives.{CurveDerivatives}
-use Rattle.derivatives.proofs.curve.CurveDerivativesJet.read.Goals as goal
+use Rattle.derivatives.proofs.curve.CurveDerivativesJet.try_read.Goals as goal
 
 abbrev with : ℕ → List Float → Result CurveDerivatives Refusal
 with n l = Ok (record { order = n; entries = l })

@@ -4,7 +4,7 @@ use Rattle.calculus.proofs.Passed.{fitting}
 use Rattle.formulas.specs.Numbers.{curve_numbers}
 use Rattle.vector_formulas.proofs.Vectors.{flat-listed}
 use Rattle.derivatives.proofs.Listed.{listed-over}
-use Rattle.vector_derivatives.proofs.curve.VectorCurveDerivativesJet.write.Goals as goal
+use Rattle.vector_derivatives.proofs.curve.VectorCurveDerivativesJet.try_write.Goals as goal
 
 pub returns : goal.returns
 returns c =
