@@ -14,7 +14,7 @@ PAGE = ROOT / "docs" / "DESIGN-PASS.md"
 
 
 def crates(root):
-    return sorted(p.name for p in (root / "crates").iterdir() if not p.name.startswith("replay_") and not p.name.endswith("_c"))
+    return sorted(p.name for p in (root / "crates").iterdir() if not p.name.startswith("replay_") and not p.name.endswith("_c") and p.name != "callers")
 
 
 def one_line(text):
